@@ -1,0 +1,22 @@
+// An image: what the persisted copies of the memory hold.
+use answer::Answer;
+
+// The content of a node's line.
+pub struct Content {
+    pub linked: u8,
+    pub index: u32,
+    pub item: u32,
+}
+
+// N, the head index, and the contents of the N nodes. Nodes at n and beyond are not part of it.
+pub struct Image {
+    pub n: u8,
+    pub head: u32,
+    pub nodes: [Content; 64],
+}
+
+// What reading an image gives: on a refusal the image is the blank one.
+pub struct Read {
+    pub answer: Answer,
+    pub image: Image,
+}

@@ -1,0 +1,4 @@
+pub mod Find
+pub mod Tab
+pub mod Text
+pub mod Word

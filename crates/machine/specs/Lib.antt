@@ -1,0 +1,11 @@
+pub mod Record
+pub mod Stage
+pub mod Line
+pub mod Start
+pub mod Range
+pub mod Retire
+pub mod Enqueue
+pub mod Dequeue
+pub mod Event
+pub mod Place
+pub mod Saved

@@ -1,0 +1,69 @@
+-- 18: which records are turned away. Each test has a definition of its own.
+use Prim.Native.Nat.{ℕ, _^_}
+use mathlib.Core.Bool.{Bool, true, false, not}
+use lib.Dec.{eqb, ltb, leb}
+use Rattle.lists.specs.Find.{pick, both, any}
+use Rattle.image.specs.Refusals.{nodesFit}
+use Rattle.machine.specs.Record.{none, node, kept, thread}
+use Rattle.machine.specs.Stage.{own, t, theHead, theNext, uses, stage}
+use Rattle.machine.specs.Start.{threadsFit}
+use Rattle.machine.specs.declared.Machine.{Machine}
+
+-- a node number; a node number or none
+abbrev pub isNode : Machine → ℕ → Bool
+isNode m x = ltb x (m .n)
+
+abbrev pub isLink : Machine → ℕ → Bool
+isLink m x = pick (eqb x none) true (isNode m x)
+
+-- a flag is 0 or 1
+abbrev pub isFlag : ℕ → Bool
+isFlag x = leb x 1
+
+-- "N, T": 2 to 64 nodes, 1 to 8 threads
+abbrev pub sizesFit : Machine → Bool
+sizesFit m = both (nodesFit (m .n)) (threadsFit (m .t))
+
+-- Head and Tail are nodes
+abbrev pub endsFit : Machine → Bool
+endsFit m = both (isNode m (m .head)) (isNode m (m .tail))
+
+-- the free set holds nodes only
+abbrev pub freeFits : Machine → Bool
+freeFits m = ltb (m .free) (2 ^ m .n)
+
+-- a node's link is a node or none, its flags are flags, it waits for threads only
+unfoldable pub nodeFits : Machine → ℕ → Bool
+nodeFits m i =
+    both (isLink m (node m i .next))
+    (both (isFlag (node m i .linked)) (both (isFlag (kept m i .linked)) (ltb (node m i .waits) (2 ^ m .t))))
+
+-- a number that a step reads is a node where the step uses it, and a node or none elsewhere
+abbrev pub readFits : Machine → Bool → ℕ → Bool
+readFits m true x = isNode m x
+readFits m false x = isLink m x
+
+-- "t's next at A12": there is one
+abbrev pub nextFits : Machine → Bool → ℕ → Bool
+nextFits m true x = not (eqb (node m x .next) none)
+nextFits m false x = true
+
+-- a thread's step is a step, and what it has read is in range
+unfoldable pub threadFits : Machine → ℕ → Bool
+threadFits m k =
+    let v = thread m k in
+    let s = stage m k in
+    both (leb (v .step) 19)
+    (both (readFits m (uses s own) (v .node))
+    (both (readFits m (uses s t) (v .tail))
+    (both (readFits m (uses s theHead) (v .head))
+    (both (readFits m (uses s theNext) (v .next))
+    (both (isLink m (v .held)) (nextFits m (eqb (v .step) 12) (v .tail)))))))
+
+-- the whole record
+unfoldable pub inRange : Machine → Bool
+inRange m =
+    both (sizesFit m)
+    (both (endsFit m)
+    (both (freeFits m)
+    (both (not (any (λ i. not (nodeFits m i)) (m .n))) (not (any (λ k. not (threadFits m k)) (m .t))))))

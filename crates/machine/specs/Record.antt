@@ -1,0 +1,110 @@
+-- The machine record: what is read of it, and the record with one thing replaced.
+use Prim.Native.Nat.{ℕ, zero, suc}
+use mathlib.Core.List.{List}
+use lib.ListN.{getD, set, replicate}
+use Rattle.image.specs.declared.Content.{Content}
+use Rattle.image.specs.Layout.{noContent}
+use Rattle.machine.specs.declared.Machine.{Machine}
+use Rattle.machine.specs.declared.Node.{Node}
+use Rattle.machine.specs.declared.Thread.{Thread}
+
+-- the number that stands for no node
+abbrev pub none : ℕ
+none = 255
+
+-- "A7 .. If t's index is 4,294,967,295": the largest index
+abbrev pub top : ℕ
+top = 4294967295
+
+-- ---- reading
+
+-- what stands for an element beyond the table, where a definition looks there
+abbrev pub zeroNode : Node
+zeroNode = record { item = 0; next = 0; linked = 0; index = 0; waits = 0 }
+
+abbrev pub zeroThread : Thread
+zeroThread = record { step = 0; node = 0; tail = 0; head = 0; index = 0; next = 0; item = 0; held = 0 }
+
+abbrev pub node : Machine → ℕ → Node
+node m i = getD (m .nodes) i zeroNode
+
+abbrev pub thread : Machine → ℕ → Thread
+thread m k = getD (m .threads) k zeroThread
+
+abbrev pub kept : Machine → ℕ → Content
+kept m i = getD (m .kept) i noContent
+
+-- what a node's line holds
+abbrev pub contentOf : Node → Content
+contentOf v = record { linked = v .linked; index = v .index; item = v .item }
+
+-- ---- a place of the table that no node or thread has
+
+abbrev pub blankNode : Node
+blankNode = record { item = 0; next = 255; linked = 0; index = 0; waits = 0 }
+
+unfoldable pub blankNodes : List Node
+blankNodes = replicate 64 blankNode
+
+-- a thread without an operation, that holds node x
+abbrev pub idleThread : ℕ → Thread
+idleThread x = record { step = 0; node = 255; tail = 255; head = 255; index = 0; next = 255; item = 0; held = x }
+
+unfoldable pub idleThreads : List Thread
+idleThreads = replicate 8 (idleThread 255)
+
+-- ---- one field of a node, of a thread, of the machine replaced
+
+abbrev pub withItem : Node → ℕ → Node
+withItem v x = record { item = x; next = v .next; linked = v .linked; index = v .index; waits = v .waits }
+
+abbrev pub withNext : Node → ℕ → Node
+withNext v x = record { item = v .item; next = x; linked = v .linked; index = v .index; waits = v .waits }
+
+abbrev pub withLinked : Node → ℕ → Node
+withLinked v x = record { item = v .item; next = v .next; linked = x; index = v .index; waits = v .waits }
+
+abbrev pub withIndex : Node → ℕ → Node
+withIndex v x = record { item = v .item; next = v .next; linked = v .linked; index = x; waits = v .waits }
+
+abbrev pub withWaits : Node → ℕ → Node
+withWaits v x = record { item = v .item; next = v .next; linked = v .linked; index = v .index; waits = x }
+
+abbrev pub atStep : Thread → ℕ → Thread
+atStep v x = record { step = x; node = v .node; tail = v .tail; head = v .head; index = v .index; next = v .next; item = v .item; held = v .held }
+
+abbrev pub ownNode : Thread → ℕ → Thread
+ownNode v x = record { step = v .step; node = x; tail = v .tail; head = v .head; index = v .index; next = v .next; item = v .item; held = v .held }
+
+abbrev pub readTail : Thread → ℕ → Thread
+readTail v x = record { step = v .step; node = v .node; tail = x; head = v .head; index = v .index; next = v .next; item = v .item; held = v .held }
+
+abbrev pub readNext : Thread → ℕ → Thread
+readNext v x = record { step = v .step; node = v .node; tail = v .tail; head = v .head; index = v .index; next = x; item = v .item; held = v .held }
+
+abbrev pub readItem : Thread → ℕ → Thread
+readItem v x = record { step = v .step; node = v .node; tail = v .tail; head = v .head; index = v .index; next = v .next; item = x; held = v .held }
+
+abbrev pub readHead : Thread → ℕ → ℕ → Thread
+readHead v h x = record { step = v .step; node = v .node; tail = v .tail; head = h; index = x; next = v .next; item = v .item; held = v .held }
+
+abbrev pub putTail : Machine → ℕ → Machine
+putTail m x = record { n = m .n; t = m .t; head = m .head; index = m .index; tail = x; free = m .free; nodes = m .nodes; «kept_head» = m .«kept_head»; kept = m .kept; threads = m .threads }
+
+abbrev pub putFree : Machine → ℕ → Machine
+putFree m x = record { n = m .n; t = m .t; head = m .head; index = m .index; tail = m .tail; free = x; nodes = m .nodes; «kept_head» = m .«kept_head»; kept = m .kept; threads = m .threads }
+
+abbrev pub putKeptHead : Machine → ℕ → Machine
+putKeptHead m x = record { n = m .n; t = m .t; head = m .head; index = m .index; tail = m .tail; free = m .free; nodes = m .nodes; «kept_head» = x; kept = m .kept; threads = m .threads }
+
+abbrev pub putHead : Machine → ℕ → ℕ → Machine
+putHead m h x = record { n = m .n; t = m .t; head = h; index = x; tail = m .tail; free = m .free; nodes = m .nodes; «kept_head» = m .«kept_head»; kept = m .kept; threads = m .threads }
+
+abbrev pub putNode : Machine → ℕ → Node → Machine
+putNode m i v = record { n = m .n; t = m .t; head = m .head; index = m .index; tail = m .tail; free = m .free; nodes = set (m .nodes) i v; «kept_head» = m .«kept_head»; kept = m .kept; threads = m .threads }
+
+abbrev pub putKept : Machine → ℕ → Content → Machine
+putKept m i v = record { n = m .n; t = m .t; head = m .head; index = m .index; tail = m .tail; free = m .free; nodes = m .nodes; «kept_head» = m .«kept_head»; kept = set (m .kept) i v; threads = m .threads }
+
+abbrev pub putThread : Machine → ℕ → Thread → Machine
+putThread m i v = record { n = m .n; t = m .t; head = m .head; index = m .index; tail = m .tail; free = m .free; nodes = m .nodes; «kept_head» = m .«kept_head»; kept = m .kept; threads = set (m .threads) i v }

@@ -1,0 +1,68 @@
+// The machine record: plain numbers, by value. docs/DECISIONS.md lists every field with its range.
+use answer::Answer;
+use image::Content;
+
+// A node's cached copy, its link (255: none), and the threads it waits for, as a set.
+pub struct Node {
+    pub item: u32,
+    pub next: u8,
+    pub linked: u8,
+    pub index: u32,
+    pub waits: u8,
+}
+
+// A thread: its next step (0: no operation, 1 to 12: A1 to A12, 13 to 19: D1 to D7) and what it has read.
+// A node number of 255 is none.
+pub struct Thread {
+    pub step: u8,
+    pub node: u8,
+    pub tail: u8,
+    pub head: u8,
+    pub index: u32,
+    pub next: u8,
+    pub item: u32,
+    pub held: u8,
+}
+
+// N and T; Head, a node number with an index; Tail; the free set as a word; cached and persisted copies; the threads.
+// Nodes at n and beyond and threads at t and beyond are not part of it.
+pub struct Machine {
+    pub n: u8,
+    pub t: u8,
+    pub head: u8,
+    pub index: u32,
+    pub tail: u8,
+    pub free: u64,
+    pub nodes: [Node; 64],
+    pub kept_head: u32,
+    pub kept: [Content; 64],
+    pub threads: [Thread; 8],
+}
+
+// An event of a schedule: its six bytes.
+pub struct Event {
+    pub kind: u8,
+    pub number: u8,
+    pub item: u32,
+}
+
+// What a start or an event answers, with the machine after it.
+pub struct Out {
+    pub answer: Answer,
+    pub machine: Machine,
+}
+
+// How many nodes are in each of the six places.
+pub struct Places {
+    pub queue: u8,
+    pub free: u8,
+    pub waiting: u8,
+    pub held: u8,
+    pub enqueue: u8,
+    pub dequeue: u8,
+}
+
+pub struct Counted {
+    pub answer: Answer,
+    pub places: Places,
+}

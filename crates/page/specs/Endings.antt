@@ -1,0 +1,34 @@
+-- The endings, in their order.
+use Prim.Native.Nat.{ℕ, zero, suc, _*_}
+use mathlib.Core.List.{List, [], _∷_, _++_, map}
+use lib.ListN.{length, getD}
+use Rattle.lists.specs.Tab.{front}
+use Rattle.image.specs.Layout.{noContent, noContents, contentAt}
+use Rattle.image.specs.declared.Content.{Content}
+use Rattle.image.specs.declared.Image.{Image}
+
+-- every choice of one content a line: the first line turns slowest, the last fastest, in each the oldest content comes first
+unfoldable pub choices : List (List Content) → List (List Content)
+choices [] = [] ∷ []
+choices (line ∷ rest) = eachOf line (choices rest)
+  where
+    eachOf : List Content → List (List Content) → List (List Content)
+    eachOf [] r = []
+    eachOf (c ∷ l) r = map (λ z. c ∷ z) r ++ eachOf l r
+
+-- how many there are
+unfoldable pub product : List (List Content) → ℕ
+product [] = 1
+product (line ∷ rest) = length line * product rest
+
+-- a choice as an image of n nodes: line 0 is the head index, line i + 1 is node i
+unfoldable pub imageOf : ℕ → List Content → Image
+imageOf n c = record { n = n; head = contentAt c 0 .index; nodes = front (λ i. contentAt c (suc i)) n noContents }
+
+-- the endings, numbered from 0
+unfoldable pub endings : ℕ → List (List Content) → List Image
+endings n table = map (imageOf n) (choices table)
+
+-- ending number k
+unfoldable pub ending : ℕ → List (List Content) → ℕ → Image
+ending n table k = imageOf n (getD (choices table) k [])

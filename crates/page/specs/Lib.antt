@@ -1,0 +1,4 @@
+pub mod Contents
+pub mod Endings
+pub mod Refusals
+pub mod Printed

@@ -1,0 +1,1 @@
+// The page of endings. Its calls come with their proofs; the definitions are in specs/.

@@ -1,0 +1,71 @@
+-- The schedule's layout, and its refusals up to the first event.
+use Prim.Native.Nat.{ℕ, _+_, _*_}
+use mathlib.Core.Bool.{Bool, true, false, not}
+use mathlib.Core.List.{List}
+use lib.ListN.{length, drop}
+use lib.Dec.{ltb}
+use Rattle.lists.specs.Find.{pick}
+use Rattle.lists.specs.Tab.{tab}
+use Rattle.answer.specs.Answers.{check, accepted}
+use Rattle.answer.specs.declared.Answer.{Answer}
+use Rattle.answer.specs.declared.Answer.the-variants.{Length, Mark, Threads, Events}
+use Rattle.image.specs.Bytes.{at1, at2, at4}
+use Rattle.image.specs.Layout.{marked, nodePlace, imageIn}
+use Rattle.image.specs.Refusals.{imageAnswer, blankImage}
+use Rattle.image.specs.declared.Image.{Image}
+use Rattle.machine.specs.Start.{threadsFit}
+use Rattle.machine.specs.declared.Event.{Event}
+use Rattle.schedule.specs.declared.Schedule.{Schedule}
+use Rattle.schedule.specs.declared.Opened.{Opened}
+
+-- mark "UQS", version 1; T; the event count; one image; then the events
+abbrev pub isSchedule : List ℕ → Bool
+isSchedule = marked 85 81 83
+
+abbrev pub threadsIn : List ℕ → ℕ
+threadsIn s = at1 s 5
+
+abbrev pub countIn : List ℕ → ℕ
+countIn s = at2 s 6
+
+abbrev pub imagePart : List ℕ → List ℕ
+imagePart s = drop 8 s
+
+unfoldable pub scheduleIn : List ℕ → Schedule
+scheduleIn s = record { t = threadsIn s; count = countIn s; image = imageIn (imagePart s) }
+
+-- an event's six bytes: kind, number, item
+abbrev pub eventFrom : List ℕ → ℕ → Event
+eventFrom s at = record { kind = at1 s at; number = at1 s (at + 1); item = at4 s (at + 2) }
+
+-- where event i of a schedule with N nodes begins
+abbrev pub eventPlace : ℕ → ℕ → ℕ
+eventPlace n i = 8 + nodePlace n + i * 6
+
+abbrev pub nodesIn : List ℕ → ℕ
+nodesIn s = at1 (imagePart s) 5
+
+abbrev pub eventIn : List ℕ → ℕ → Event
+eventIn s i = eventFrom s (eventPlace (nodesIn s) i)
+
+unfoldable pub eventsIn : List ℕ → List Event
+eventsIn s = tab (eventIn s) (countIn s)
+
+-- 1, 2, 4, 5, then its image, whose length allows for the events: 1, 2, 3, 1, 6, 7, 8
+unfoldable pub scheduleAnswer : List ℕ → Answer
+scheduleAnswer s =
+    check (ltb (length s) 8) Length
+    (check (not (isSchedule s)) Mark
+    (check (not (threadsFit (threadsIn s))) Threads
+    (check (ltb 4096 (countIn s)) Events (imageAnswer (countIn s * 6) (imagePart s)))))
+
+-- what is handed back beside a refusal
+abbrev pub blankSchedule : Schedule
+blankSchedule = record { t = 0; count = 0; image = blankImage }
+
+-- a schedule read up to its events
+unfoldable pub readSchedule : List ℕ → Opened
+readSchedule s = record {
+  answer = scheduleAnswer s;
+  schedule = pick (accepted (scheduleAnswer s)) (scheduleIn s) blankSchedule;
+}
