@@ -1,0 +1,1 @@
+// What demand 3 says, as types: specs/Demand3.antt. No code.
