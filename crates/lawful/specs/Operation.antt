@@ -46,7 +46,7 @@ begun p k c = record { thread = k; call = c; began = p; reply = nothing; ended =
 -- event p answers thread k's operation
 abbrev pub answeredBy : ℕ → ℕ → Reply → Operation → Operation
 answeredBy p k r o = elim (both (eqb (o .thread) k) (not (says (o .reply)))) [
-  true ↦ record { thread = o .thread; call = o .call; began = o .began; reply = r; ended = p }
+  | true ↦ record { thread = o .thread; call = o .call; began = o .began; reply = r; ended = p }
   | false ↦ o
 ]
 

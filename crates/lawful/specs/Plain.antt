@@ -48,7 +48,7 @@ serveAll (o ∷ l) q = onward (serve (o .call) (o .reply) q) (λ r. serveAll l r
 unfoldable pub itemsFrom : Machine → ℕ → ℕ → List ℕ
 itemsFrom m zero x = []
 itemsFrom m (suc c) x = elim (eqb (node m x .next) 255) [
-  true ↦ []
+  | true ↦ []
   | false ↦ node m (node m x .next) .item ∷ itemsFrom m c (node m x .next)
 ]
 

@@ -1,0 +1,70 @@
+-- `Lawful` is not empty talk: four small wrong outcomes that it shuts out.
+use Prim.Native.Nat.{ℕ, zero, suc, _<_}
+use mathlib.Core.Path.{_≡_, refl, sym, ap, subst, _∙_}
+use mathlib.Core.Bool.{Bool, true, false}
+use mathlib.Core.List.{List, [], _∷_, map}
+use mathlib.Core.Logic.{_⊎_, inl, inr}
+use mathlib.Core.Option.{Option, none, some}
+use native.Mathlib.Omega.{arith}
+use lib.ListN.{length}
+use Rattle.lawful.specs.Operation.{Operation, Reply, nothing, done, empty, gave, Call, puts, takes}
+use Rattle.lawful.specs.Plain.{serveAll}
+use Rattle.lawful.specs.Lawful.{Lawful, at, Timely}
+use Rattle.lawful.proofs.Orders.{one, two}
+
+abbrev operation : Call → ℕ → Reply → ℕ → Operation
+operation c b r e = record { thread = 0; call = c; began = b; reply = r; ended = e }
+
+-- an answered item lost: an enqueue of 7 was answered Done, the queue is empty
+abbrev lost : List Operation
+lost = operation (puts 7) 0 done 11 ∷ []
+
+pub not-lost : ¬ Lawful lost [] []
+unfolding serveAll
+not-lost w =
+    let o = one (w .order) (w .within) (w .once) (w .whole 0 (omega arith) refl) in
+    let p : serveAll (map (at lost) (0 ∷ [])) [] ≡ some [] = subst (λ r. serveAll (map (at lost) r) [] ≡ some []) o (w .plays) in
+    let z : _≡_ {A = ℕ} 0 1 = cc in absurd (omega arith)
+
+-- one item handed out twice
+abbrev twice : List Operation
+twice = operation takes 0 (gave 5) 6 ∷ operation takes 7 (gave 5) 13 ∷ []
+
+pub not-twice : ¬ Lawful twice (5 ∷ []) []
+unfolding serveAll
+not-twice w = by (two (w .order) (w .within) (w .once) (w .whole 0 (omega arith) refl) (w .whole 1 (omega arith) refl))
+  where
+    plays : (r : List ℕ) → w .order ≡ r → serveAll (map (at twice) r) (5 ∷ []) ≡ some []
+    plays r e = subst (λ r. serveAll (map (at twice) r) (5 ∷ []) ≡ some []) e (w .plays)
+
+    by : (w .order ≡ 0 ∷ 1 ∷ []) ⊎ (w .order ≡ 1 ∷ 0 ∷ []) → ⊥
+    by (inl e) = let p = plays (0 ∷ 1 ∷ []) e in let z : _≡_ {A = ℕ} 0 1 = cc in omega arith
+    by (inr e) = let p = plays (1 ∷ 0 ∷ []) e in let z : _≡_ {A = ℕ} 0 1 = cc in omega arith
+
+-- two swapped: 1 was in before 2 was begun
+abbrev swapped : List Operation
+swapped = operation (puts 1) 0 done 11 ∷ operation (puts 2) 12 done 23 ∷ []
+
+pub not-swapped : ¬ Lawful swapped [] (2 ∷ 1 ∷ [])
+unfolding serveAll
+not-swapped w = by (two (w .order) (w .within) (w .once) (w .whole 0 (omega arith) refl) (w .whole 1 (omega arith) refl))
+  where
+    by : (w .order ≡ 0 ∷ 1 ∷ []) ⊎ (w .order ≡ 1 ∷ 0 ∷ []) → ⊥
+    by (inl e) =
+        let p : serveAll (map (at swapped) (0 ∷ 1 ∷ [])) [] ≡ some (2 ∷ 1 ∷ []) = subst (λ r. serveAll (map (at swapped) r) [] ≡ some (2 ∷ 1 ∷ [])) e (w .plays) in
+        let z : _≡_ {A = ℕ} 1 2 = cc in omega arith
+    by (inr e) = let t : Timely swapped (1 ∷ 0 ∷ []) = subst (Timely swapped) e (w .timely) in t .0 0 (inl refl) (refl, omega arith)
+
+-- Empty answered while an item that was in before the dequeue began is still there
+abbrev unseen : List Operation
+unseen = operation (puts 7) 0 done 11 ∷ operation takes 12 empty 15 ∷ []
+
+pub not-unseen : ¬ Lawful unseen [] (7 ∷ [])
+unfolding serveAll
+not-unseen w = by (two (w .order) (w .within) (w .once) (w .whole 0 (omega arith) refl) (w .whole 1 (omega arith) refl))
+  where
+    by : (w .order ≡ 0 ∷ 1 ∷ []) ⊎ (w .order ≡ 1 ∷ 0 ∷ []) → ⊥
+    by (inl e) =
+        let p : serveAll (map (at unseen) (0 ∷ 1 ∷ [])) [] ≡ some (7 ∷ []) = subst (λ r. serveAll (map (at unseen) r) [] ≡ some (7 ∷ [])) e (w .plays) in
+        let z : _≡_ {A = ℕ} 0 1 = cc in omega arith
+    by (inr e) = let t : Timely unseen (1 ∷ 0 ∷ []) = subst (Timely unseen) e (w .timely) in t .0 0 (inl refl) (refl, omega arith)
