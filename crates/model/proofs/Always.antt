@@ -1,0 +1,8 @@
+-- What is so after every event.
+pub mod Plain
+pub mod Range
+pub mod Runs
+pub mod Persisted
+pub mod Six
+pub mod Count
+pub mod Numbers

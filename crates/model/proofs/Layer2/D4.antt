@@ -1,0 +1,135 @@
+-- D4 keeps the second layer; so do the stores to index lines in `split`.
+use mathlib.Core.Path.{_≡_, refl, sym, subst, ap, _∙_}
+use mathlib.Core.List.{List}
+use mathlib.Core.Logic.{_≢_}
+use Prim.Native.Nat.{ℕ, zero, suc, _≤_, _<_}
+use native.Mathlib.Omega.{arith}
+use lib.Dec.{T}
+use Rattle.model.specs.Basics.{upd}
+use Rattle.model.specs.Lines.{Line, ofHead, ofNode, updL, push, after}
+use Rattle.model.specs.Conf.{Engine, shared, split, lineIx, lineOf, lineCount, threadIx, headLines, headTouch}
+use Rattle.model.specs.Core.{Th, Core, Node, sameNode, hd, content, lineHas, d4, d5}
+use Rattle.model.specs.Changes.{setMark, setTh, setHead}
+use Rattle.model.specs.Machine.{Hist}
+use Rattle.model.proofs.Basics.{upd-ind, upd-other, upd-same}
+use Rattle.model.proofs.Layer1.Ghost.{Gh, Inv, queue, deqd}
+use Rattle.model.proofs.Layer1.D4.{headG, own-h, x-ix, r-hp, more, x-is, r}
+use Rattle.model.proofs.Layer2.Contents.{Pg, NodeP, Gone}
+use Rattle.model.proofs.Layer2.Heads.{HeadP, movedH, raisedH}
+use Rattle.model.proofs.Layer2.Invariant.{PInv, Facts, FactsOf, lowOf, markOf, facts-map}
+use Rattle.model.proofs.Layer2.Hands.{handsP, handsFacts}
+
+-- Head's index rises
+low-up : (E : Engine) (i i′ : ℕ) (f : ℕ → ℕ) (k : ℕ) → i ≤ i′ → lineIx E i f k ≤ lineIx E i′ f k
+low-up shared i i′ f zero h = h
+low-up shared i i′ f (suc k) h = omega arith
+low-up split i i′ f k h = omega arith
+
+-- no node's line is touched
+node-list : (E : Engine) (con : Line → Node) (hs : Hist) → _≡_ {A = ℕ → List Node} (λ n. after sameNode (headTouch E) con hs (ofNode n)) (λ n. hs (ofNode n))
+unfolding updL
+node-list shared con hs = refl
+node-list split con hs = refl
+
+-- a head line is, where Head's index is a content
+head-list : (E : Engine) (T hp pp len i : ℕ) (idx marks : ℕ → ℕ) (node : ℕ → Node) (hs : Hist) → ((p q : ℕ) → p < q → q < len → idx p < idx q)
+    → suc hp < len → i ≡ idx hp
+    → HeadP (lineCount E T) hp pp idx (lineIx E i marks) (λ k. hs (ofHead k))
+    → HeadP (lineCount E T) (suc hp) pp idx (lineIx E (idx (suc hp)) marks)
+    (λ k. after sameNode (headTouch E) (lineHas E node (idx (suc hp)) marks) hs (ofHead k))
+unfolding updL
+head-list shared T hp pp len i idx marks node hs r lt e h =
+    raisedH 1 (suc hp) pp len idx (lineIx shared i marks) (λ k. hs (ofHead k)) r lt
+    (movedH 1 hp pp len idx (lineIx shared i marks) (λ k. hs (ofHead k)) r (omega arith) h (suc hp) idx (omega arith) (λ p z. refl))
+    0 (idx (suc hp)) (suc hp) (lineIx shared (idx (suc hp)) marks) (omega arith) refl (omega (arith, r hp (suc hp) (omega arith) lt)) (omega arith)
+    refl (λ j ne. other j ne)
+  where
+    other : (j : ℕ) → j ≢ 0 → lineIx shared (idx (suc hp)) marks j ≡ lineIx shared i marks j
+    other zero ne = absurd (ne refl)
+    other (suc j) ne = refl
+head-list split T hp pp len i idx marks node hs r lt e h = movedH T hp pp len idx marks (λ k. hs (ofHead k)) r (omega arith) h (suc hp) idx
+    (omega arith) (λ p z. refl)
+
+module _ (hs : Hist) (m : Core) (g : Gh) (p : Pg) (i : Inv m g) (j : PInv hs m g p) (t h k x : ℕ) (e : m .thr t ≡ d4 h k x) (eh : m .hnode ≡ h) where
+  oh : g .own h ≡ queue (g .hp)
+  oh = own-h m g i t h k x e eh
+
+  gn : (q : ℕ) → q < g .len → g .who q ≡ h → Gone (p .pp) q (deqd t (g .hp))
+  gn q l w = let z : Gone (p .pp) q (queue (g .hp)) = rw (w, oh) at (j .nodes .gone q l) in z
+
+  abbrev m₄ : Core
+  m₄ = setTh (setHead m x (m .node x .index)) t (d5 h x)
+
+  up-ix : m .hidx ≤ m .node x .index
+  up-ix = omega (arith, i .log .head-ix, x-ix m g i t h k x e eh, i .log .rising (g .hp) (suc (g .hp)) (omega arith) (more m g i t h k x e eh))
+
+  pub D4P : PInv (after sameNode (headTouch (m .conf .engine)) (content m₄) hs) m₄ (headG g t h) p
+  D4P = record {
+    head = subst (λ y. HeadP (headLines (m .conf)) (suc (g .hp)) (p .pp) (g .idx) (lineIx (m .conf .engine) y (m .marks))
+        (λ k. after sameNode (headTouch (m .conf .engine)) (lineHas (m .conf .engine) (m .node) y (m .marks)) hs (ofHead k)))
+        (sym (x-ix m g i t h k x e eh))
+        (head-list (m .conf .engine) (m .conf .threads) (g .hp) (p .pp) (g .len) (m .hidx) (g .idx) (m .marks) (m .node) hs (i .log .rising)
+        (more m g i t h k x e eh) (i .log .head-ix) (j .head));
+    nodes = subst (λ f. NodeP (g .len) (p .pp) (g .who) (g .idx) (p .item) (upd (g .own) h (deqd t (g .hp))) (m .node) f (p .safe))
+        (sym (node-list (m .conf .engine) (content m₄) hs))
+        (handsP hs m g p j h (deqd t (g .hp)) (rw oh) (λ c l. tt) gn);
+    facts = λ u. upd-ind (m .thr) t (d5 h x) (λ u s. Facts (m .node) (g .who) (g .idx) (upd (g .own) h (deqd t (g .hp))) (g .base u) (g .len)
+        (p .item) (p .pp) (p .safe) (lowOf m₄ u) (markOf m u) (m .conf .engine) u s) u
+        (λ q o. let w = sym (upd-same (g .own) h (deqd t (g .hp))) ∙ o in let z : g .hp ≡ q = cc in
+        let rr = r m g i t h k x e eh in
+        let dk : markOf m t ≤ k = rw e at (j .facts t) in (
+          omega (arith, rr .at .lo, r-hp m g i t h k x e eh),
+          omega (arith, more m g i t h k x e eh),
+          ap (λ y. g .who (suc y)) (sym z) ∙ x-is m g i t h k x e eh,
+          rw (← z) (omega (
+            arith,
+            dk,
+            rr .at .ix,
+            ap (g .idx) (r-hp m g i t h k x e eh),
+            i .log .rising (g .hp) (suc (g .hp)) (omega arith)
+                (more m g i t h k x e eh),
+          )),
+        ))
+        (λ ne. handsFacts hs m g p j h (deqd t (g .hp)) (rw oh) (λ c l. tt) gn u (lowOf m₄ u)
+        (low-up (m .conf .engine) (m .hidx) (m .node x .index) (m .marks) (lineOf (m .conf .engine) u) up-ix) (λ q f. ne (let z : t ≡ u = cc in sym z)));
+  }
+
+-- ---- a thread stores the index of a place to its line
+
+low-mark : (E : Engine) (i : ℕ) (f : ℕ → ℕ) (t a u : ℕ) → u ≢ t → lineIx E i (upd f t a) (lineOf E u) ≡ lineIx E i f (lineOf E u)
+low-mark shared i f t a u ne = refl
+low-mark split i f t a u ne = upd-other f t a ne
+
+thread-mark : (E : Engine) (f : ℕ → ℕ) (t a u : ℕ) → u ≢ t → threadIx E (upd f t a) u ≡ threadIx E f u
+thread-mark shared f t a u ne = refl
+thread-mark split f t a u ne = upd-other f t a ne
+
+mark-list : (E : Engine) → E ≡ split → (T t a q hp pp len i : ℕ) (idx marks : ℕ → ℕ) (hs : Hist) → ((p q : ℕ) → p < q → q < len → idx p < idx q)
+    → hp < len → t < T → q ≤ hp → a ≡ idx q → threadIx E marks t ≤ a
+    → HeadP (lineCount E T) hp pp idx (lineIx E i marks) (λ k. hs (ofHead k))
+    → HeadP (lineCount E T) hp pp idx (lineIx E i (upd marks t a)) (λ k. updL hs (ofHead t)
+    (push sameNode (hs (ofHead t)) (hd (lineIx E i (upd marks t a) t))) (ofHead k))
+unfolding updL
+mark-list shared s T t a q hp pp len i idx marks hs r lt tT le e up h = let z : _≡_ {A = ℕ} 0 1 = cc in absurd (omega arith)
+mark-list split s T t a q hp pp len i idx marks hs r lt tT le e up h =
+    subst (λ y. HeadP T hp pp idx (upd marks t a) (upd (λ k. hs (ofHead k)) t (push sameNode (hs (ofHead t)) (hd y)))) (sym (upd-same marks t a))
+    (raisedH T hp pp len idx marks (λ k. hs (ofHead k)) r lt h t a q (upd marks t a) le e up tT (upd-same marks t a) (λ j ne. upd-other marks t a ne))
+
+module _ (hs : Hist) (m : Core) (g : Gh) (p : Pg) (i : Inv m g) (j : PInv hs m g p) (t a q : ℕ) (s : Th) (sp : m .conf .engine ≡ split)
+    (tT : t < m .conf .threads)
+    (le : q ≤ g .hp) (e : a ≡ g .idx q) (up : markOf m t ≤ a) where
+  pub markP : FactsOf (setMark m t a) g p t s → PInv (updL hs (ofHead t) (push sameNode (hs (ofHead t)) (content (setMark m t a) (ofHead t))))
+      (setTh (setMark m t a) t s) g p
+  unfolding updL
+  markP f = record {
+    head = mark-list (m .conf .engine) sp (m .conf .threads) t a q (g .hp) (p .pp) (g .len) (m .hidx) (g .idx) (m .marks) hs (i .log .rising)
+        (i .log .hp-in) tT le e up (j .head);
+    nodes = j .nodes;
+    facts = λ u. upd-ind (m .thr) t s (λ u s. FactsOf (setMark m t a) g p u s) u f (λ ne.
+        facts-map (m .node) (m .node) (g .who) (g .who) (g .idx) (g .idx) (g .own) (g .own) (g .base u) (g .len) (g .len) (p .item) (p .item) (p .pp)
+        (p .pp) (p .safe) (p .safe)
+        (lowOf m u) (lowOf (setMark m t a) u) (markOf m u) (markOf (setMark m t a) u) (m .conf .engine) u
+        (λ q h. refl) (λ q h. refl) (λ q h. refl) (λ q h s. s) (omega arith) (omega arith)
+        (omega (arith, low-mark (m .conf .engine) (m .hidx) (m .marks) t a u ne))
+        (omega (arith, thread-mark (m .conf .engine) (m .marks) t a u ne)) (m .thr u) (λ n e. refl) (λ v n x e l. l) (λ h q o e. e) (j .facts u));
+  }

@@ -1,0 +1,236 @@
+-- Stores, persists, write-backs and answers keep the second layer.
+use mathlib.Core.Path.{_≡_, refl, sym, subst, ap, _∙_}
+use mathlib.Core.Bool.{true}
+use mathlib.Core.List.{List, [], _∷_}
+use mathlib.Core.Logic.{_⊎_, inl, inr}
+use mathlib.Core.Option.{some}
+use Prim.Native.Nat.{ℕ, suc, _≤_, _<_}
+use native.Mathlib.Omega.{arith}
+use Rattle.model.specs.Basics.{upd}
+use Rattle.model.specs.Lines.{ofHead, ofNode, updL, push}
+use Rattle.model.specs.Conf.{lineIx, headLines}
+use Rattle.model.specs.Core.{Th, Core, Node, sameNode, hd, idle, a9, a10, a11}
+use Rattle.model.specs.Changes.{setTh, store}
+use Rattle.model.specs.Steps.{leave, remove}
+use Rattle.model.specs.Machine.{Hist, hasNode}
+use Rattle.model.specs.Places.{ownsE}
+use Rattle.model.proofs.Basics.{upd-ind, upd-other, upd-same, upd-at}
+use Rattle.model.proofs.Layer1.Ghost.{Gh, Inv, Place, posOf, queue, waiting, deqd, kept, enqd, spare, off, poss, Live, Lnk, ixs}
+use Rattle.model.proofs.Layer1.Places.{tag}
+use Rattle.model.proofs.Layer1.Memory.{not-live}
+use Rattle.model.proofs.Layer1.Leave.{leaveG, release, rel-inv, rel-pos}
+use Rattle.model.proofs.Layer2.Contents.{Pg, Quiet, Gone, storedP, backed, pp-up, idx-mono, NodeP}
+use Rattle.model.proofs.Layer2.Heads.{Kept, keptH}
+use Rattle.model.proofs.Layer2.Invariant.{PInv, Facts, FactsOf, lowOf, markOf, facts-map}
+use native.Mathlib.Decide.{ℕ-discrete}
+use Rattle.model.proofs.Layer1.D4.{r}
+
+module _ (hs : Hist) (m : Core) (g : Gh) (p : Pg) (i : Inv m g) (j : PInv hs m g p) where
+  -- the facts of another thread, where only contents change
+  keptFacts : (node′ : ℕ → Node) (u : ℕ) → ((n : ℕ) → ownsE (m .thr u) ≡ some n → node′ n ≡ m .node n)
+      → ((v n x : ℕ) → m .thr u ≡ a10 v n x → m .node n .linked ≡ true → node′ n .linked ≡ true)
+      → Facts node′ (g .who) (g .idx) (g .own) (g .base u) (g .len) (p .item) (p .pp) (p .safe) (lowOf m u) (markOf m u) (m .conf .engine) u (m .thr u)
+  keptFacts node′ u fn fl = facts-map (m .node) node′ (g .who) (g .who) (g .idx) (g .idx) (g .own) (g .own) (g .base u) (g .len) (g .len) (p .item)
+      (p .item) (p .pp) (p .pp) (p .safe) (p .safe) (lowOf m u) (lowOf m u) (markOf m u) (markOf m u) (m .conf .engine) u
+      (λ q h. refl) (λ q h. refl) (λ q h. refl) (λ q h s. s) (omega arith) (omega arith) (omega arith) (omega arith) (m .thr u) fn fl (λ h q o e. e)
+      (j .facts u)
+
+  -- a node past its A9 is live
+  linked-live : (u v n x : ℕ) → m .thr u ≡ a10 v n x → (q : ℕ) × (g .who q ≡ n) × Live (g .who) (poss (g .own)) q
+  linked-live u v n x e =
+      let l : Lnk (g .who) (g .base u) (g .len) x n = rw e at (i .threads .refs u) in
+      (suc (l .pos), l .then, i .alive .live u (rw e) (suc (l .pos)) (omega (arith, l .lo)) (l .hi))
+
+  -- a store to a node that an enqueue owns
+  pub storeP : (t n : ℕ) (c : Node) (s : Th) → g .own n ≡ enqd t → (c .linked ≡ true → c .index ≤ g .idx (p .pp)) → FactsOf (store m n c) g p t s
+      → PInv (updL hs (ofNode n) (push sameNode (hs (ofNode n)) (upd (m .node) n c n))) (setTh (store m n c) t s) g p
+  unfolding updL
+  storeP t n c s o q f = subst (λ z. PInv (updL hs (ofNode n) (push sameNode (hs (ofNode n)) z)) (setTh (store m n c) t s) g p)
+      (sym (upd-same (m .node) n c)) record {
+        head = j .head;
+        nodes = storedP (g .len) (p .pp) (g .who) (g .idx) (p .item) (g .own) (m .node) (λ n. hs (ofNode n)) (p .safe) (j .nodes) n c
+            (λ l. inl (q l)) (rw o q) (λ r l e. absurd (not-live m g i t n r o l e))
+            (λ r h e s. inl (let k : Gone (p .pp) r (enqd t) = rw (e, o) at (j .nodes .gone r h) in omega arith));
+        facts = λ u. upd-ind (m .thr) t s (λ u s. FactsOf (store m n c) g p u s) u f
+            (λ ne. keptFacts (upd (m .node) n c) u
+            (λ k e. upd-other (m .node) n c (λ z. ne (let a : g .own k ≡ enqd u = i .place .enq-own u k e in let b : g .own k ≡ enqd t = rw z o in cc)))
+            (λ v k x e l. let w = linked-live u v k x e in
+            ap (λ z. z .linked) (upd-other (m .node) n c (λ z. not-live m g i t n (w .0) o (w .2) (w .1 ∙ z))) ∙ l));
+      }
+
+  -- A9: linked is set on a node that is in the log
+  pub A9P : (t v n x : ℕ) (c : Node) → m .thr t ≡ a9 v n x → c .linked ≡ true → c .index ≡ m .node n .index → c .item ≡ m .node n .item
+      → PInv (updL hs (ofNode n) (push sameNode (hs (ofNode n)) (upd (m .node) n c n))) (setTh (store m n c) t (a10 v n x)) g p
+  unfolding updL
+  A9P t v n x c e cl ci cv = subst (λ z. PInv (updL hs (ofNode n) (push sameNode (hs (ofNode n)) z)) (setTh (store m n c) t (a10 v n x)) g p)
+      (sym (upd-same (m .node) n c)) record {
+        head = j .head;
+        nodes = storedP (g .len) (p .pp) (g .who) (g .idx) (p .item) (g .own) (m .node) (λ n. hs (ofNode n)) (p .safe) (j .nodes) n c
+            (λ z. inr (record { at = suc (l .pos); inside = l .hi; is = l .then; ix = sym (ci ∙ ix); val = sym (cv ∙ val) }))
+            (qt (g .own n) refl)
+            (λ q lq w. cv ∙ ap (λ k. m .node k .item) (sym w) ∙ j .nodes .values q lq)
+            (λ r h w s. sf r (g .own n) lv (rw w at (j .nodes .gone r h)));
+        facts = λ u. upd-ind (m .thr) t (a10 v n x) (λ u s. FactsOf (store m n c) g p u s) u (ap (λ z. z .linked) (upd-same (m .node) n c) ∙ cl)
+            (λ ne. keptFacts (upd (m .node) n c) u
+            (λ k o. upd-other (m .node) n c (λ z. not-live m g i u k (suc (l .pos)) (i .place .enq-own u k o) live (l .then ∙ sym z)))
+            (λ v k x o w. upd-ind (m .node) n c (λ k z. m .node k .linked ≡ true → z .linked ≡ true) k (λ z. cl) (λ ne z. z) w));
+      }
+    where
+      l : Lnk (g .who) (g .base t) (g .len) x n
+      l = rw e at (i .threads .refs t)
+
+      live : Live (g .who) (poss (g .own)) (suc (l .pos))
+      live = i .alive .live t (rw e) (suc (l .pos)) (omega (arith, l .lo)) (l .hi)
+
+      lv : posOf (g .own n) ≡ some (suc (l .pos))
+      lv = rw (l .then) at live
+
+      ix : m .node n .index ≡ g .idx (suc (l .pos))
+      ix = ap (ixs (m .node)) (sym (l .then)) ∙ i .link .indices (suc (l .pos)) live
+
+      val : m .node n .item ≡ p .item (suc (l .pos))
+      val = ap (λ k. m .node k .item) (sym (l .then)) ∙ j .nodes .values (suc (l .pos)) live
+
+      past : suc (l .pos) < p .pp → c .linked ≡ true → c .index ≤ g .idx (p .pp)
+      past h z = let mono = idx-mono (g .idx) (g .len) (i .log .rising) (suc (l .pos)) (p .pp) (omega arith)
+          (omega (arith, j .head .pp-hp, i .log .hp-in)) in omega (arith, ci, ix)
+
+      gn : Gone (p .pp) (suc (l .pos)) (g .own n)
+      gn = rw (l .then) at (j .nodes .gone (suc (l .pos)) (l .hi))
+
+      qt : (o : Place) → g .own n ≡ o → Quiet (g .idx (p .pp)) c o
+      qt (queue q) o = tt
+      qt (waiting q) o = past (let k : Gone (p .pp) (suc (l .pos)) (waiting q) = rw o at gn in k)
+      qt (deqd u q) o = tt
+      qt (kept u q) o = past (let k : Gone (p .pp) (suc (l .pos)) (kept u q) = rw o at gn in k)
+      qt (enqd u) o = past (let k : Gone (p .pp) (suc (l .pos)) (enqd u) = rw o at gn in k)
+      qt spare o = past (let k : Gone (p .pp) (suc (l .pos)) spare = rw o at gn in k)
+      qt off o = past (let k : Gone (p .pp) (suc (l .pos)) off = rw o at gn in k)
+
+      sf : (r : ℕ) (o : Place) → posOf o ≡ some (suc (l .pos)) → Gone (p .pp) r o → (r ≤ p .pp) ⊎ ((c .linked ≡ true) × (c .index ≡ g .idx r))
+      sf r (queue q) lo (inl z) = inr (cl, let qs : q ≡ suc (l .pos) = cc in ci ∙ ix ∙ ap (g .idx) (sym qs ∙ sym z))
+      sf r (queue q) lo (inr z) = inl (omega arith)
+      sf r (waiting q) lo z = inl (omega arith)
+      sf r (deqd u q) lo (inl z) = inr (cl, let qs : q ≡ suc (l .pos) = cc in ci ∙ ix ∙ ap (g .idx) (sym qs ∙ sym z))
+      sf r (deqd u q) lo (inr z) = inl (omega arith)
+      sf r (kept u q) lo z = inl (omega arith)
+      sf r (enqd u) lo z = inl (omega arith)
+      sf r spare lo z = inl (omega arith)
+      sf r off lo z = inl (omega arith)
+
+  -- a head line is persisted
+  module _ (k : ℕ) (kh : k < headLines (m .conf)) where
+    abbrev pub keptP : Kept (headLines (m .conf)) (g .hp) (p .pp) (g .len) (g .idx) (lineIx (m .conf .engine) (m .hidx) (m .marks))
+        (λ k. hs (ofHead k)) (i .log .rising) (i .log .hp-in) (j .head) k
+    keptP = keptH (headLines (m .conf)) (g .hp) (p .pp) (g .len) (g .idx) (lineIx (m .conf .engine) (m .hidx) (m .marks)) (λ k. hs (ofHead k))
+        (i .log .rising) (i .log .hp-in) (j .head) k kh
+
+    abbrev pub toHead : Pg
+    toHead = record { item = p .item; pp = keptP .pp′; safe = p .safe }
+
+    pub headFacts : (u : ℕ) → FactsOf m g toHead u (m .thr u)
+    headFacts u = facts-map (m .node) (m .node) (g .who) (g .who) (g .idx) (g .idx) (g .own) (g .own) (g .base u) (g .len) (g .len) (p .item)
+        (p .item) (p .pp) (keptP .pp′) (p .safe) (p .safe) (lowOf m u) (lowOf m u) (markOf m u) (markOf m u) (m .conf .engine) u
+        (λ q h. refl) (λ q h. refl) (λ q h. refl) (λ q h s. s) (omega arith) (keptP .up) (omega arith) (omega arith) (m .thr u) (λ n e. refl)
+        (λ v n x e l. l) (λ h q o e. e) (j .facts u)
+
+    pub headP : PInv (updL hs (ofHead k) (hd (lineIx (m .conf .engine) (m .hidx) (m .marks) k) ∷ [])) m g toHead
+    unfolding updL
+    headP = record {
+      head = keptP .head;
+      nodes = pp-up (g .len) (p .pp) (keptP .pp′) (g .who) (g .idx) (p .item) (g .own) (m .node) (λ n. hs (ofNode n)) (p .safe) (j .nodes)
+          (keptP .top) (keptP .up);
+      facts = headFacts;
+    }
+
+  -- a node's line is persisted
+  pub backP : (n : ℕ) → PInv (updL hs (ofNode n) (m .node n ∷ [])) m g p
+  unfolding updL
+  backP n = record {
+    head = j .head;
+    nodes = backed (g .len) (p .pp) (g .who) (g .idx) (p .item) (g .own) (m .node) (λ n. hs (ofNode n)) (p .safe) (j .nodes) n;
+    facts = j .facts;
+  }
+
+  -- a thread leaves
+  pub leaveP : (t : ℕ) → PInv hs (leave m t) (leaveG g (λ n. remove t (m .wait n))) p
+  leaveP t = record {
+    head = j .head;
+    nodes = record {
+      cached = j .nodes .cached;
+      linked = j .nodes .linked;
+      quiet = λ n c h. rq c (g .own n) (w n) (j .nodes .quiet n c h);
+      gone = λ r h. rg r (g .own (g .who r)) (w (g .who r)) (j .nodes .gone r h);
+      values = λ q l. j .nodes .values q (rel-pos (g .own (g .who q)) (w (g .who q)) q l);
+      safely = j .nodes .safely;
+    };
+    facts = λ u. upd-ind (m .thr) t idle (λ u s. FactsOf (leave m t) (leaveG g w) p u s) u tt
+        (λ ne. facts-map (m .node) (m .node) (g .who) (g .who) (g .idx) (g .idx) (g .own) (λ n. release (g .own n) (w n)) (g .base u) (g .len)
+        (g .len) (p .item) (p .item) (p .pp) (p .pp) (p .safe) (p .safe) (lowOf m u) (lowOf m u) (markOf m u) (markOf m u) (m .conf .engine) u
+        (λ q h. refl) (λ q h. refl) (λ q h. refl) (λ q h s. s) (omega arith) (omega arith) (omega arith) (omega arith) (m .thr u) (λ n e. refl) (λ v n x e l. l)
+        (λ h q o e. rel-inv (g .own h) (w h) (λ f. omega (arith, ap tag f)) e) (j .facts u));
+  }
+    where
+      w : ℕ → List ℕ
+      w n = remove t (m .wait n)
+
+      rq : (c : Node) (o : Place) (w : List ℕ) → Quiet (g .idx (p .pp)) c o → Quiet (g .idx (p .pp)) c (release o w)
+      rq c (queue q) w k = k
+      rq c (waiting q) [] k = k
+      rq c (waiting q) (u ∷ w) k = k
+      rq c (deqd t q) w k = k
+      rq c (kept t q) w k = k
+      rq c (enqd t) w k = k
+      rq c spare w k = k
+      rq c off w k = k
+
+      rg : (r : ℕ) (o : Place) (w : List ℕ) → Gone (p .pp) r o → Gone (p .pp) r (release o w)
+      rg r (queue q) w k = k
+      rg r (waiting q) [] k = k
+      rg r (waiting q) (u ∷ w) k = k
+      rg r (deqd t q) w k = k
+      rg r (kept t q) w k = k
+      rg r (enqd t) w k = k
+      rg r spare w k = k
+      rg r off w k = k
+
+  -- A10: the line is persisted, and the place is safe
+  pub A10P : (t v n x : ℕ) → m .thr t ≡ a10 v n x → (l : Lnk (g .who) (g .base t) (g .len) x n)
+      → PInv (updL hs (ofNode n) (m .node n ∷ [])) (setTh m t (a11 v n x)) g
+      (record { item = p .item; pp = p .pp; safe = upd (p .safe) (suc (l .pos)) true })
+  unfolding updL
+  A10P t v n x e l = record {
+    head = j .head;
+    nodes = record {
+      cached = b .cached;
+      linked = b .linked;
+      quiet = b .quiet;
+      gone = b .gone;
+      values = b .values;
+      safely = λ q h s. sf q h s (ℕ-discrete q (suc (l .pos)));
+    };
+    facts = λ u. upd-ind (m .thr) t (a11 v n x) (λ u s. Facts (m .node) (g .who) (g .idx) (g .own) (g .base u) (g .len) (p .item) (p .pp)
+        (upd (p .safe) (suc (l .pos)) true) (lowOf m u) (markOf m u) (m .conf .engine) u s) u
+        record { pos = suc (l .pos); inside = l .hi; lo = omega (arith, l .lo); is = l .then; sure = upd-same (p .safe) (suc (l .pos)) true }
+        (λ ne. facts-map (m .node) (m .node) (g .who) (g .who) (g .idx) (g .idx) (g .own) (g .own) (g .base u) (g .len) (g .len) (p .item) (p .item)
+        (p .pp) (p .pp) (p .safe) (upd (p .safe) (suc (l .pos)) true) (lowOf m u) (lowOf m u) (markOf m u) (markOf m u) (m .conf .engine) u
+        (λ q h. refl) (λ q h. refl) (λ q h. refl) (λ q h s. upd-ind (p .safe) (suc (l .pos)) true (λ q z. p .safe q ≡ true → z ≡ true) q (λ w. refl)
+        (λ ne w. w) s) (omega arith) (omega arith) (omega arith) (omega arith) (m .thr u) (λ n e. refl) (λ v n x e l. l) (λ h q o w. w) (j .facts u));
+  }
+    where
+      b : NodeP (g .len) (p .pp) (g .who) (g .idx) (p .item) (g .own) (m .node) (upd (λ k. hs (ofNode k)) n (m .node n ∷ [])) (p .safe)
+      b = backed (g .len) (p .pp) (g .who) (g .idx) (p .item) (g .own) (m .node) (λ n. hs (ofNode n)) (p .safe) (j .nodes) n
+
+      ix : m .node n .index ≡ g .idx (suc (l .pos))
+      ix = ap (ixs (m .node)) (sym (l .then)) ∙ i .link .indices (suc (l .pos)) (i .alive .live t (rw e) (suc (l .pos)) (omega (arith, l .lo)) (l .hi))
+
+      one : (c : Node) → (c ≡ m .node n) ⊎ ⊥ → (c .linked ≡ true) × (c .index ≡ g .idx (suc (l .pos)))
+      one c (inl f) = (ap (λ z. z .linked) f ∙ (rw e at (j .facts t)), ap (λ z. z .index) f ∙ ix)
+      one c (inr z) = absurd z
+
+      sf : (q : ℕ) → q < g .len → upd (p .safe) (suc (l .pos)) true q ≡ true → Dec (q ≡ suc (l .pos))
+          → (q ≤ p .pp) ⊎ ((c : Node) → hasNode c (upd (λ k. hs (ofNode k)) n (m .node n ∷ []) (g .who q))
+          → (c .linked ≡ true) × (c .index ≡ g .idx q))
+      sf q h s (yes f) = inr (λ c k. subst (λ y. (c .linked ≡ true) × (c .index ≡ g .idx y)) (sym f)
+          (one c (subst (λ z. hasNode c z) (upd-at (λ k. hs (ofNode k)) n (m .node n ∷ []) (ap (g .who) f ∙ l .then)) k)))
+      sf q h s (no f) = b .safely q h (sym (upd-other (p .safe) (suc (l .pos)) true f) ∙ s)

@@ -1,0 +1,64 @@
+-- The second engine and the other choice of the free node, computed on small runs.
+use mathlib.Core.Path.{_≡_, refl}
+use mathlib.Core.List.{List, [], _∷_}
+use Prim.Native.Nat.{ℕ, zero, suc}
+use Rattle.model.specs.Basics.{upd}
+use Rattle.model.specs.Lines.{updL, push, headOr, act}
+use Rattle.model.specs.Conf.{Engine, Chooser, shared, split}
+use Rattle.model.specs.Core.{a2}
+use Rattle.model.specs.Steps.{enq, deq, move, remove, others}
+use Rattle.model.specs.Choice.{lowest, lowestFirst, rotation, roundTable}
+use Rattle.model.specs.Recovery.{headOf, largest, insert, queueOf, itemsOf, linkUp, lastOf, start′}
+use Rattle.model.specs.Machine.{M, Event, ev, starts, run}
+use Rattle.model.specs.Page.{zeroImage, headImage, page, printed, endings, choice, spread, linesOf, rowFrom, each}
+
+unfoldable moves : ℕ → ℕ → List Event → List Event
+moves zero t l = l
+moves (suc k) t l = ev (act (move t)) ∷ moves k t l
+
+-- n nodes, t threads, the all-zero image
+table : Engine → Chooser → List Event → ℕ → ℕ → M
+table e c l n t = run (starts (zeroImage e c n t)) l
+
+-- ---- `split`: D4 stores to no line, so nothing of a dequeue shows before the thread's own store
+
+pageOf : List Event → ℕ → ℕ → List (ℕ × List ℕ)
+pageOf l n t = page (table split lowestFirst l n t)
+
+-- an enqueue of 7, after A9
+putting : List Event
+unfolding moves
+putting = ev (act (enq 0 7)) ∷ moves 9 0 []
+
+-- an enqueue of 7, and k steps of a dequeue: D4 is the third, the store the fifth, the persist the sixth
+taking : ℕ → List Event
+unfolding moves
+taking k = ev (act (enq 0 7)) ∷ moves 11 0 (ev (act (deq 0)) ∷ moves k 0 [])
+
+-- two threads: thread 1's dequeue has stored and persisted, thread 0's has not; the head index is the larger one
+both : List Event
+unfolding moves
+both = ev (act (enq 0 7)) ∷ moves 11 0 (ev (act (enq 0 8)) ∷ moves 11 0 (ev (act (deq 0)) ∷ moves 3 0 (ev (act (deq 1)) ∷ moves 6 1 [])))
+
+split-pages : pageOf putting 2 1 ∷ pageOf (taking 3) 2 1 ∷ pageOf (taking 5) 2 1 ∷ pageOf (taking 6) 2 1 ∷ pageOf both 4 2 ∷ []
+    ≡ ((0, []) ∷ (0, []) ∷ (0, []) ∷ (0, 7 ∷ []) ∷ [])
+    ∷ ((0, 7 ∷ []) ∷ [])
+    ∷ ((0, 7 ∷ []) ∷ (1, []) ∷ [])
+    ∷ ((1, []) ∷ [])
+    ∷ ((2, []) ∷ [])
+    ∷ []
+unfolding pageOf putting taking both table moves run start′ zeroImage headImage upd updL push headOr remove others lowest lowestFirst headOf largest
+    insert queueOf itemsOf linkUp lastOf page printed endings choice spread linesOf rowFrom each
+split-pages = refl
+
+-- ---- in rotation node 3 is handed out where the lowest free one is node 0
+
+again : List Event
+unfolding moves
+again = ev (act (enq 0 5)) ∷ moves 11 0 (ev (act (deq 0)) ∷ moves 6 0
+    (ev (act (enq 0 6)) ∷ moves 11 0 (ev (act (deq 0)) ∷ moves 6 0 (ev (act (enq 0 7)) ∷ moves 1 0 []))))
+
+handed-out : table shared lowestFirst again 4 1 .core .thr 0 ∷ table shared rotation again 4 1 .core .thr 0 ∷ [] ≡ a2 7 0 ∷ a2 7 3 ∷ []
+unfolding table again moves run start′ zeroImage headImage upd updL push headOr remove others lowest lowestFirst rotation roundTable headOf largest
+    insert queueOf linkUp lastOf
+handed-out = refl

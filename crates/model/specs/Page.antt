@@ -1,0 +1,54 @@
+-- The page of endings: one content for each line, in document 01's order, and what is printed of it.
+use mathlib.Core.List.{List, [], _∷_, _++_, map}
+use Prim.Native.Nat.{ℕ, zero, suc, _+_}
+use lib.ListN.{getD}
+use Rattle.model.specs.Lines.{Line, ofHead, ofNode}
+use Rattle.model.specs.Conf.{Conf, Engine, Chooser, headLines}
+use Rattle.model.specs.Core.{Node, zeroNode}
+use Rattle.model.specs.Recovery.{Image, headOf, itemsOf}
+use Rattle.model.specs.Machine.{M}
+
+-- from the end of the list to its front
+unfoldable pub each : {A B : Type 0} → List A → (A → B → B) → B → B
+each [] f b = b
+each (a ∷ l) f b = f a (each l f b)
+
+-- k lines of a row, from i on
+unfoldable pub rowFrom : (ℕ → Line) → ℕ → ℕ → List Line
+rowFrom row zero i = []
+rowFrom row (suc k) i = row i ∷ rowFrom row k (suc i)
+
+-- line 0 first: the head lines, then the nodes
+unfoldable pub linesOf : Conf → List Line
+linesOf c = rowFrom ofHead (headLines c) 0 ++ rowFrom ofNode (c .nodes) 0
+
+-- one content for each line, the first turning slowest
+unfoldable pub spread : List Line → (Line → List Node) → List (List Node)
+spread [] h = [] ∷ []
+spread (i ∷ r) h = each (h i) (λ c z. map (λ l. c ∷ l) (spread r h) ++ z) []
+
+-- a choice as an image
+unfoldable pub choice : Conf → List Node → Image
+choice c l = record { conf = c; heads = λ k. getD l k zeroNode .index; at = λ n. getD l (headLines c + n) zeroNode }
+
+-- the endings in the order of their numbers
+unfoldable pub endings : M → List Image
+endings m = map (choice (m .core .conf)) (spread (linesOf (m .core .conf)) (m .hist))
+
+-- a line of the printed page: head index and items
+unfoldable pub printed : Image → ℕ × List ℕ
+printed e = (headOf e, itemsOf e)
+
+unfoldable pub page : M → List (ℕ × List ℕ)
+page m = map printed (endings m)
+
+-- n zero nodes, t threads, 32-bit indices, head index i
+unfoldable pub headImage : Engine → Chooser → ℕ → ℕ → ℕ → Image
+headImage e k n t i = record {
+  conf = record { nodes = n; threads = t; top = 4294967295; engine = e; chooser = k };
+  heads = λ k. i;
+  at = λ k. zeroNode;
+}
+
+unfoldable pub zeroImage : Engine → Chooser → ℕ → ℕ → Image
+zeroImage e k n t = headImage e k n t 0
