@@ -1,0 +1,79 @@
+/* Dequeue, step by step: one function a step, D1 to D7. */
+#include "second.h"
+
+static void step_d1(Machine *m, Thread *self)
+{
+    self->head_read = m->head;
+    self->head_read_index = m->head_index;
+    self->step = D2;
+}
+
+static void step_d2(Machine *m, Thread *self)
+{
+    self->next_read = m->nodes[self->head_read].next;
+    reach(self->next_read == NONE ? AT_D2_NONE : AT_D2_SOME);
+    self->step = self->next_read == NONE ? D3 : D4;
+}
+
+static void step_d3(Machine *m, u32 k, Reply *reply)
+{
+    if (wrong_machine != EMPTY_NO_PERSIST)
+        persist(m, 0, reply);
+    answer(m, k, EMPTY, 0, reply);
+}
+
+static void step_d4(Machine *m, Thread *self)
+{
+    if (m->head == self->head_read && m->head_index == self->head_read_index) {
+        reach(AT_D4_MOVES);
+        m->head = self->next_read;
+        m->head_index = m->nodes[self->next_read].cached.index;
+        self->step = D5;
+    } else {
+        reach(AT_D4_FAILS);
+        self->step = D1;
+    }
+}
+
+static void step_d5(Machine *m, Thread *self)
+{
+    self->item = m->nodes[self->next_read].cached.item;
+    self->step = D6;
+}
+
+static void step_d6(Machine *m, Thread *self, Reply *reply)
+{
+    if (wrong_machine != D6_NO_PERSIST)
+        persist(m, 0, reply);
+    self->step = D7;
+}
+
+static void step_d7(Machine *m, u32 k, Reply *reply)
+{
+    Thread *self = &m->threads[k];
+    u32 retired = self->held;
+    u32 held = self->head_read;
+    if (wrong_machine == RETIRE_SAME_DEQUEUE) {
+        retired = self->head_read;
+        held = NONE;
+    }
+    reach(retired == NONE ? AT_D7_HELD_NONE : AT_D7_HELD_ONE);
+    if (retired != NONE)
+        retire(m, k, retired);
+    self->held = held;
+    answer(m, k, AN_ITEM, self->item, reply);
+}
+
+void step_of_dequeue(Machine *m, u32 k, Reply *reply)
+{
+    Thread *self = &m->threads[k];
+    switch (self->step) {
+    case D1: step_d1(m, self); break;
+    case D2: step_d2(m, self); break;
+    case D3: step_d3(m, k, reply); break;
+    case D4: step_d4(m, self); break;
+    case D5: step_d5(m, self); break;
+    case D6: step_d6(m, self, reply); break;
+    case D7: step_d7(m, k, reply); break;
+    }
+}

@@ -1,0 +1,143 @@
+/* The contents of each line since it was last written, and the endings they make. */
+#include "second.h"
+
+Bench the_bench;
+
+int same_content(Content a, Content b)
+{
+    return a.linked == b.linked && a.index == b.index && a.item == b.item;
+}
+
+/* Equal contents count once, at the first appearance. */
+static void note(History *line, Content content)
+{
+    u32 from = 0;
+    if (wrong_machine == EQUAL_TWICE && line->count > 0)
+        from = line->count - 1; /* looks at the last one only */
+    for (u32 i = from; i < line->count; i++)
+        if (same_content(line->list[i], content)) {
+            if (i + 1 < line->count)
+                reach(AT_EQUAL_CONTENT);
+            return;
+        }
+    line->list[line->count++] = content;
+}
+
+static void note_line(Bench *bench, u32 line)
+{
+    History *history = &bench->lines[line];
+    Content now = cached_content(&bench->machine, line);
+    if (history->count > 0 && same_content(history->list[history->count - 1], now))
+        return; /* nothing was stored here */
+    note(history, now);
+}
+
+/* Forgets what came before: the persisted content is the oldest one from now on. */
+static void begin_line(Bench *bench, u32 line)
+{
+    bench->lines[line].count = 0;
+    note(&bench->lines[line], persisted_content(&bench->machine, line));
+}
+
+static void begin_all_lines(Bench *bench)
+{
+    for (u32 line = 0; line <= bench->machine.n; line++)
+        begin_line(bench, line);
+}
+
+static void note_all_lines(Bench *bench)
+{
+    for (u32 line = 0; line <= bench->machine.n; line++)
+        note_line(bench, line);
+}
+
+void bench_start(Bench *bench, const Schedule *schedule)
+{
+    start(&bench->machine, schedule->t, &schedule->image);
+    begin_all_lines(bench);
+    note_all_lines(bench);
+}
+
+/* One event of a schedule. 18 cannot come here with the right machine; wrong ones can run into it. */
+Verdict bench_event(Bench *bench, const Event *event, u32 number, Reply *reply)
+{
+    Verdict v = perform(&bench->machine, event, reply);
+    if (v.number != TAKEN)
+        return verdict(v.number, number);
+    if (reply->started)
+        begin_all_lines(bench);
+    if (reply->written != NO_LINE)
+        begin_line(bench, reply->written);
+    note_all_lines(bench);
+    return verdict(TAKEN, 0);
+}
+
+/* The first refused event ends the run. */
+Verdict run_schedule(Bench *bench, const Schedule *schedule)
+{
+    bench_start(bench, schedule);
+    for (u32 i = 0; i < schedule->event_count; i++) {
+        Reply reply;
+        Event event = event_at(schedule, i);
+        Verdict v = bench_event(bench, &event, i, &reply);
+        if (v.number != TAKEN)
+            return v;
+    }
+    return verdict(TAKEN, 0);
+}
+
+/* 14, then 15. */
+Verdict count_endings(const Bench *bench, u64 *count)
+{
+    *count = 1;
+    for (u32 line = 0; line <= bench->machine.n; line++) {
+        if (bench->lines[line].count > MAX_CONTENTS)
+            return verdict(TOO_MANY_CONTENTS, line);
+        if (bench->lines[line].count == MAX_CONTENTS)
+            reach(AT_SIXTEEN);
+    }
+    for (u32 line = 0; line <= bench->machine.n; line++) {
+        *count *= bench->lines[line].count;
+        if (*count > MAX_ENDINGS)
+            return verdict(TOO_MANY_ENDINGS, 0);
+    }
+    return verdict(TAKEN, 0);
+}
+
+/* From bytes to the count, or the first refusal. */
+Verdict endings_of(const u8 *bytes, u64 length, Schedule *schedule, Bench *bench, u64 *count)
+{
+    Verdict v = read_schedule(bytes, length, schedule);
+    if (v.number == TAKEN)
+        v = run_schedule(bench, schedule);
+    if (v.number == TAKEN)
+        v = count_endings(bench, count);
+    return v;
+}
+
+/* Line 0 turns slowest and line N fastest. */
+void ending_image(const Bench *bench, u64 k, Image *image)
+{
+    image->n = bench->machine.n;
+    for (u32 line = bench->machine.n; line >= 1; line--) {
+        const History *history = &bench->lines[line];
+        image->nodes[line - 1] = history->list[k % history->count];
+        k /= history->count;
+    }
+    image->head_index = bench->lines[0].list[k].index;
+}
+
+/* Ending k as an image in a lent buffer: the run, 14, 15, then 16, then 17. */
+Verdict write_ending(const u8 *bytes, u64 length, u64 k, u8 *buffer, u64 room)
+{
+    Schedule schedule;
+    Image image;
+    u64 count;
+    Verdict v = endings_of(bytes, length, &schedule, &the_bench, &count);
+    if (v.number != TAKEN)
+        return v;
+    if (k >= count)
+        return verdict(NO_SUCH_ENDING, 0);
+    ending_image(&the_bench, k, &image);
+    return write_image(&image, buffer, room);
+}

@@ -1,0 +1,135 @@
+/* Enqueue, step by step: one function a step, A1 to A12. */
+#include "second.h"
+
+static u32 lowest_free(const Machine *m)
+{
+    for (u32 i = 0; i < m->n; i++)
+        if (m->free & bit(i))
+            return i;
+    return NONE;
+}
+
+static void step_a1(Machine *m, u32 k, Reply *reply)
+{
+    Thread *self = &m->threads[k];
+    u32 node = lowest_free(m);
+    if (node == NONE) {
+        answer(m, k, FULL, 0, reply);
+        return;
+    }
+    m->free &= ~bit(node);
+    self->own = node;
+    if (m->nodes[node].cached.index != 0)
+        reach(AT_A1_REUSED);
+    if (m->nodes[node].cached.linked == 1)
+        reach(AT_STALE_LINKED);
+    self->step = following(A1);
+}
+
+static void step_a2(Machine *m, Thread *self)
+{
+    m->nodes[self->own].cached.item = self->item;
+    self->step = following(A2);
+}
+
+static void step_a3(Machine *m, Thread *self)
+{
+    m->nodes[self->own].next = NONE;
+    self->step = following(A3);
+}
+
+static void step_a4(Machine *m, Thread *self)
+{
+    if (wrong_machine != A4_LEFT_OUT)
+        m->nodes[self->own].cached.linked = 0;
+    self->step = following(A4);
+}
+
+static void step_a5(Machine *m, Thread *self)
+{
+    self->t = m->tail;
+    self->step = following(A5);
+}
+
+static void step_a6(Machine *m, Thread *self)
+{
+    int none = m->nodes[self->t].next == NONE;
+    reach(none ? AT_A6_NONE : AT_A6_SOME);
+    self->step = none ? following(A6) : A12;
+}
+
+static void step_a7(Machine *m, u32 k, Reply *reply)
+{
+    Thread *self = &m->threads[k];
+    u32 index = m->nodes[self->t].cached.index;
+    if (index == LARGEST) {
+        m->free |= bit(self->own);
+        answer(m, k, WORN_OUT, 0, reply);
+        return;
+    }
+    if (index + 1 == LARGEST)
+        reach(AT_A7_INDEX_TO_LARGEST);
+    m->nodes[self->own].cached.index = index + 1;
+    self->step = following(A7);
+}
+
+static void step_a8(Machine *m, Thread *self)
+{
+    if (m->nodes[self->t].next == NONE) {
+        reach(AT_A8_LINKS);
+        m->nodes[self->t].next = self->own;
+        self->step = following(A8);
+    } else {
+        reach(AT_A8_FAILS);
+        self->step = A12;
+    }
+}
+
+static void step_a9(Machine *m, Thread *self)
+{
+    m->nodes[self->own].cached.linked = 1;
+    self->step = following(A9);
+}
+
+static void step_a10(Machine *m, Thread *self, Reply *reply)
+{
+    if (wrong_machine != A10_NO_PERSIST)
+        persist(m, self->own + 1, reply);
+    self->step = following(A10);
+}
+
+static void step_a11(Machine *m, u32 k, Reply *reply)
+{
+    Thread *self = &m->threads[k];
+    reach(m->tail == self->t ? AT_A11_MOVES : AT_A11_LEAVES);
+    if (m->tail == self->t)
+        m->tail = self->own;
+    answer(m, k, DONE, 0, reply);
+}
+
+static void step_a12(Machine *m, Thread *self)
+{
+    reach(m->tail == self->t ? AT_A12_MOVES : AT_A12_LEAVES);
+    if (m->tail == self->t)
+        m->tail = m->nodes[self->t].next;
+    self->step = A5;
+}
+
+void step_of_enqueue(Machine *m, u32 k, Reply *reply)
+{
+    Thread *self = &m->threads[k];
+    switch (self->step) {
+    case A1: step_a1(m, k, reply); break;
+    case A2: step_a2(m, self); break;
+    case A3: step_a3(m, self); break;
+    case A4: step_a4(m, self); break;
+    case A5: step_a5(m, self); break;
+    case A6: step_a6(m, self); break;
+    case A7: step_a7(m, k, reply); break;
+    case A8: step_a8(m, self); break;
+    case A9: step_a9(m, self); break;
+    case A10: step_a10(m, self, reply); break;
+    case A11: step_a11(m, k, reply); break;
+    case A12: step_a12(m, self); break;
+    }
+}

@@ -1,0 +1,155 @@
+/* The machine: one event at a time, and what the steps share. */
+#include "second.h"
+
+u32 wrong_machine = RIGHT;
+
+u64 bit(u32 i)
+{
+    return (u64)1 << i;
+}
+
+Content cached_content(const Machine *m, u32 line)
+{
+    Content head = {0, m->head_index, 0};
+    return line == 0 ? head : m->nodes[line - 1].cached;
+}
+
+Content persisted_content(const Machine *m, u32 line)
+{
+    Content head = {0, m->persisted_head_index, 0};
+    return line == 0 ? head : m->nodes[line - 1].persisted;
+}
+
+/* A line is written back whole. */
+void persist(Machine *m, u32 line, Reply *reply)
+{
+    if (line == 0)
+        m->persisted_head_index = m->head_index;
+    else
+        m->nodes[line - 1].persisted = m->nodes[line - 1].cached;
+    reply->written = line;
+}
+
+/* A retired node waits for every other thread that has an operation at this moment. */
+void retire(Machine *m, u32 k, u32 node)
+{
+    u32 others = 0;
+    for (u32 j = 0; j < m->t; j++)
+        if (j != k && m->threads[j].step != IDLE)
+            others |= (u32)bit(j);
+    if (wrong_machine == WAITS_FOR_NOBODY)
+        others = 0;
+    m->nodes[node].waits = others;
+    if (others == 0)
+        m->free |= bit(node);
+    reach(others == 0 ? AT_RETIRED_FREE : AT_RETIRED_WAITS);
+}
+
+/* Thread k answers: nobody waits for it any longer, and a node that waited for it alone is free. */
+void answer(Machine *m, u32 k, u32 number, u32 value, Reply *reply)
+{
+    blank_registers(&m->threads[k]);
+    for (u32 i = 0; i < m->n; i++) {
+        if (!(m->nodes[i].waits & bit(k)))
+            continue;
+        m->nodes[i].waits &= ~(u32)bit(k);
+        if (m->nodes[i].waits == 0)
+            m->free |= bit(i);
+        reach(m->nodes[i].waits == 0 ? AT_ANSWER_FREES : AT_ANSWER_KEEPS_WAITING);
+    }
+    reply->number = number;
+    reply->value = value;
+    reach(AT_REPLY + number);
+}
+
+/* The step that comes next where the paper names no other. */
+u32 following(u32 step)
+{
+    if (wrong_machine == INDEX_FIRST)
+        return step == A3 ? A5 : step == A7 ? A4 : step == A4 ? A8 : step + 1;
+    return step + 1;
+}
+
+/* 9, 10, 13, then 11 or 12; for a crash 7 and 8 after 13. The place is the event's, which the caller knows. */
+Verdict test_event(const Machine *m, const Event *e)
+{
+    if (e->kind < BEGIN_ENQUEUE || e->kind > CRASH)
+        return verdict(UNKNOWN_KIND, 0);
+    if (e->kind == BEGIN_ENQUEUE || e->kind == BEGIN_DEQUEUE || e->kind == STEP)
+        if (e->number >= m->t)
+            return verdict(NUMBER_TOO_LARGE, 0);
+    if (e->kind == WRITE_BACK && e->number > m->n)
+        return verdict(NUMBER_TOO_LARGE, 0);
+    if (e->kind != BEGIN_ENQUEUE && e->item != 0)
+        return verdict(FIELD_NOT_ZERO, 0);
+    if (e->kind == CRASH && e->number != 0)
+        return verdict(FIELD_NOT_ZERO, 0);
+    if (e->kind == BEGIN_ENQUEUE || e->kind == BEGIN_DEQUEUE)
+        if (m->threads[e->number].step != IDLE)
+            return verdict(BEGIN_ON_BUSY, 0);
+    if (e->kind == STEP && m->threads[e->number].step == IDLE)
+        return verdict(STEP_ON_IDLE, 0);
+    if (e->kind == CRASH) {
+        Image image;
+        persisted_image(m, &image);
+        return test_recovered(&image);
+    }
+    return verdict(TAKEN, 0);
+}
+
+static void begin(Machine *m, const Event *e)
+{
+    for (u32 j = 0; j < m->t; j++)
+        if (e->kind == BEGIN_ENQUEUE && m->threads[j].step != IDLE && m->threads[j].step <= A12 && m->threads[j].item == e->item)
+            reach(AT_EQUAL_IN_FLIGHT);
+    Thread *thread = &m->threads[e->number];
+    blank_registers(thread);
+    thread->item = e->item;
+    thread->step = e->kind == BEGIN_ENQUEUE ? A1 : D1;
+    reach(e->kind == BEGIN_ENQUEUE ? AT_BEGIN_ENQUEUE : AT_BEGIN_DEQUEUE);
+}
+
+static void step(Machine *m, u32 k, Reply *reply)
+{
+    reach(AT_STEP + m->threads[k].step);
+    if (m->threads[k].step <= A12)
+        step_of_enqueue(m, k, reply);
+    else
+        step_of_dequeue(m, k, reply);
+}
+
+static void write_back(Machine *m, u32 line, Reply *reply)
+{
+    reach(line == 0 ? AT_WRITE_BACK_HEAD : AT_WRITE_BACK_NODE);
+    persist(m, line, reply);
+}
+
+/* One event on a record: 18 before all else, then the event's own tests. A refusal leaves the record as it was. */
+Verdict perform(Machine *m, const Event *e, Reply *reply)
+{
+    Reply nothing = {NOTHING, 0, NO_LINE, 0};
+    *reply = nothing;
+    if (!in_range(m))
+        return verdict(OUT_OF_RANGE, 0);
+    Verdict v = test_event(m, e);
+    if (v.number != TAKEN)
+        return v;
+    switch (e->kind) {
+    case BEGIN_ENQUEUE:
+    case BEGIN_DEQUEUE:
+        begin(m, e);
+        break;
+    case STEP:
+        step(m, e->number, reply);
+        break;
+    case WRITE_BACK:
+        write_back(m, e->number, reply);
+        break;
+    case CRASH:
+        reach(AT_CRASH);
+        crash(m);
+        reply->started = 1;
+        break;
+    }
+    return verdict(TAKEN, 0);
+}

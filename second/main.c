@@ -1,0 +1,284 @@
+/* The modes of the program, by the first argument. Every mode reads standard input. */
+#include "second.h"
+
+static u64 number_from(const char *text)
+{
+    u64 number = 0;
+    if (!*text)
+        stop("a number is expected");
+    for (; *text; text++) {
+        if (*text < '0' || *text > '9')
+            stop("a number is expected");
+        number = number * 10 + (u64)(*text - '0');
+    }
+    return number;
+}
+
+static int mode_page(int count, char **words)
+{
+    (void)count, (void)words;
+    print_page(input, read_all());
+    return 0;
+}
+
+static int mode_many(int count, char **words)
+{
+    u64 length;
+    if (count == 2 && same_text(words[0], "plant"))
+        planted = number_from(words[1]);
+    for (u64 number = 1; read_next(&length); number++) {
+        plant_now = planted == number;
+        print_page(input, length);
+    }
+    return 0;
+}
+
+static int mode_ending(int count, char **words)
+{
+    static u8 buffer[65536];
+    if (count != 2 || number_from(words[1]) > sizeof buffer)
+        stop("use: ending K ROOM, ROOM at most 65536");
+    u64 k = number_from(words[0]), room = number_from(words[1]);
+    for (u64 i = 0; i < room; i++)
+        buffer[i] = 0xaa; /* so that the bytes that stay can be seen */
+    Verdict v = write_ending(input, read_all(), k, buffer, room);
+    put_number(v.number);
+    put_text(" ");
+    put_number(v.place);
+    put_text("\n");
+    put_hex(buffer, room);
+    put_text("\n");
+    return 0;
+}
+
+static int mode_endings_many(int count, char **words)
+{
+    (void)count, (void)words;
+    u64 length;
+    while (read_next(&length))
+        print_endings(input, length);
+    return 0;
+}
+
+static int mode_traces(int count, char **words)
+{
+    (void)count, (void)words;
+    u64 length;
+    while (read_next(&length))
+        print_trace(input, length);
+    return 0;
+}
+
+static int mode_images(int count, char **words)
+{
+    (void)count, (void)words;
+    u64 length;
+    while (read_next(&length))
+        print_image(input, length);
+    return 0;
+}
+
+static int mode_record(int count, char **words)
+{
+    (void)count, (void)words;
+    u8 item[RECORD_BYTES + EVENT_BYTES];
+    while (read_exactly(item, sizeof item))
+        print_record_item(item);
+    return 0;
+}
+
+static int mode_generate(int count, char **words)
+{
+    if (count != 3)
+        stop("use: generate SEED COUNT SHAPE");
+    u64 seed = number_from(words[0]), wanted = number_from(words[1]);
+    for (u64 i = 0; i < wanted; i++) {
+        u8 head[4], item[RECORD_BYTES + EVENT_BYTES];
+        if (same_text(words[2], "contents")) {
+            generate_contents_item(seed, i, item);
+            put_bytes(item, CONTENTS_BYTES);
+            continue;
+        }
+        if (same_text(words[2], "records")) {
+            generate_record_item(seed, i, item);
+            put_bytes(item, sizeof item);
+            continue;
+        }
+        u64 length = generate_input(seed, i, words[2], input);
+        put4(head, (u32)length);
+        put_bytes(head, 4);
+        put_bytes(input, length);
+    }
+    return 0;
+}
+
+/* Pages and endings of a stream, unprinted: only what they reached is printed. */
+static int mode_counts(int count, char **words)
+{
+    (void)count, (void)words;
+    static u8 nowhere[16];
+    u64 length, inputs = 0;
+    while (read_next(&length)) {
+        Schedule s;
+        capture_output(nowhere, sizeof nowhere);
+        if (print_page(input, length) == TAKEN)
+            print_endings(input, length);
+        if (end_capture() == 0)
+            stop("an output was empty");
+        if (read_schedule(input, length, &s).number == TAKEN)
+            count_schedule(&s);
+        inputs++;
+    }
+    int missing = print_counts();
+    put_number(inputs);
+    put_text(" inputs, ");
+    put_number((u64)missing);
+    put_text(" points never reached\n");
+    return missing > 0 || inputs == 0;
+}
+
+/* Holds every input of a stream against a judge; a contradiction is printed with the input's number. */
+static int hold_stream(Finding (*against)(const u8 *, u64))
+{
+    u64 length, inputs = 0, agreed = 0, contradicted = 0, skipped = 0, by_lines = 0, work = 0;
+    while (read_next(&length)) {
+        plant_now = planted == inputs + 1;
+        Finding f = against(input, length);
+        work += f.work;
+        agreed += f.result == AGREES;
+        skipped += f.result == TOO_LARGE;
+        by_lines += f.result == AGREES && same_text(f.why, "by lines");
+        contradicted += f.result == CONTRADICTS;
+        if (f.result == CONTRADICTS) {
+            put_text("input ");
+            put_number(inputs);
+            put_text(" ending ");
+            put_number(f.ending);
+            put_text(" ");
+            put_text(f.why);
+            put_text("\n");
+        }
+        inputs++;
+    }
+    put_number(inputs);
+    put_text(" inputs, ");
+    put_number(agreed);
+    put_text(" agree, ");
+    put_number(contradicted);
+    put_text(" contradict, ");
+    put_number(skipped);
+    put_text(" left out, ");
+    put_number(by_lines);
+    put_text(" by lines, work ");
+    put_number(work);
+    put_text("\n");
+    return contradicted > 0 || agreed + contradicted == 0;
+}
+
+static int mode_hold(int count, char **words, Finding (*against)(const u8 *, u64))
+{
+    if (count == 2 && same_text(words[0], "plant"))
+        planted = number_from(words[1]);
+    seed_random(1, 1);
+    return hold_stream(against);
+}
+
+static int mode_plain(int count, char **words)
+{
+    return mode_hold(count, words, plain_way);
+}
+
+static int mode_judge(int count, char **words)
+{
+    return mode_hold(count, words, judge);
+}
+
+static int mode_places(int count, char **words)
+{
+    return mode_hold(count, words, places);
+}
+
+static int mode_trace(int count, char **words)
+{
+    (void)count, (void)words;
+    print_trace(input, read_all());
+    return 0;
+}
+
+static int mode_contents(int count, char **words)
+{
+    u8 item[CONTENTS_BYTES];
+    (void)count, (void)words;
+    while (read_exactly(item, sizeof item))
+        print_contents_item(item);
+    return 0;
+}
+
+/* Puts one input behind its length, so that it is a stream of one. */
+static int mode_frame(int count, char **words)
+{
+    u8 head[4];
+    u64 length = read_all();
+    (void)count, (void)words;
+    if (length > INPUT_KEPT)
+        stop("too long");
+    put4(head, (u32)length);
+    put_bytes(head, 4);
+    put_bytes(input, length);
+    return 0;
+}
+
+static int mode_search(int count, char **words)
+{
+    if (count != 3)
+        stop("use: search NAME SEED TRIES");
+    return search(machine_of_name(words[0]), number_from(words[1]), number_from(words[2]));
+}
+
+static int mode_sequences(int count, char **words)
+{
+    (void)count, (void)words;
+    return check_sequences() > 0;
+}
+
+static int mode_sequence(int count, char **words)
+{
+    return count == 1 ? print_sequence(words[0]) : 2;
+}
+
+static int mode_wrong(int count, char **words);
+
+static const struct {
+    const char *name;
+    int (*run)(int count, char **words);
+} modes[] = {
+    {"page", mode_page}, {"many", mode_many}, {"ending", mode_ending}, {"endings-many", mode_endings_many},
+    {"trace", mode_trace}, {"traces", mode_traces}, {"images", mode_images}, {"contents", mode_contents},
+    {"record", mode_record}, {"generate", mode_generate}, {"counts", mode_counts}, {"plain", mode_plain},
+    {"judge", mode_judge}, {"places", mode_places}, {"wrong", mode_wrong}, {"search", mode_search},
+    {"frame", mode_frame}, {"sequence", mode_sequence}, {"sequences", mode_sequences},
+};
+
+static int run_mode(int count, char **words)
+{
+    for (u32 i = 0; count > 0 && i < sizeof modes / sizeof modes[0]; i++)
+        if (same_text(words[0], modes[i].name))
+            return modes[i].run(count - 1, words + 1);
+    stop("the modes are listed in second/README.md");
+    return 2;
+}
+
+static int mode_wrong(int count, char **words)
+{
+    if (count < 2)
+        stop("use: wrong NAME MODE ...");
+    wrong_machine = machine_of_name(words[0]);
+    return run_mode(count - 1, words + 1);
+}
+
+int main(int count, char **words)
+{
+    int status = run_mode(count - 1, words + 1);
+    flush_output();
+    return status;
+}

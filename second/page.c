@@ -1,0 +1,206 @@
+/* What is printed: pages, endings, traces, records, images. */
+#include "second.h"
+
+u64 planted;
+int plant_now;
+
+void print_refusal(Verdict v)
+{
+    put_text("refused ");
+    put_number(v.number);
+    put_text(" at ");
+    put_number(v.place);
+    put_text("\n");
+    reach(AT_NUMBER + v.number);
+}
+
+static void print_first_line(const Schedule *s, u64 count)
+{
+    put_text("UQS 1 threads ");
+    put_number(s->t);
+    put_text(" nodes ");
+    put_number(s->image.n);
+    put_text(" events ");
+    put_number(s->event_count);
+    put_text(" endings ");
+    put_number(count);
+    put_text("\n");
+}
+
+static void print_ending(const Image *image, u64 k)
+{
+    u32 order[MAX_NODES];
+    u32 count = recovered_in_order(image, order);
+    put_number(k);
+    put_text(" ");
+    put_number(image->head_index);
+    for (u32 i = 0; i < count; i++) {
+        put_text(" ");
+        put_number(image->nodes[order[i]].item);
+    }
+    put_text(count == 0 ? " -\n" : "\n");
+}
+
+/* Gives the number of the verdict. */
+u32 print_page(const u8 *bytes, u64 length)
+{
+    Schedule schedule;
+    Image image;
+    u64 count;
+    Verdict v = endings_of(bytes, length, &schedule, &the_bench, &count);
+    if (plant_now)
+        v.place++;
+    if (v.number != TAKEN) {
+        print_refusal(v);
+        return v.number;
+    }
+    reach(AT_NUMBER + TAKEN);
+    print_first_line(&schedule, plant_now ? count + 1 : count);
+    for (u64 k = 0; k < count; k++) {
+        ending_image(&the_bench, k, &image);
+        print_ending(&image, k);
+    }
+    return TAKEN;
+}
+
+static u64 add_to_sum(u64 sum, const u8 *bytes, u64 length)
+{
+    for (u64 i = 0; i < length; i++)
+        sum = (sum ^ bytes[i]) * 1099511628211u; /* FNV-1a, 64 bits */
+    return sum;
+}
+
+static void print_ending_bytes(u32 n, u64 count)
+{
+    enum { SHOWN = 32 };
+    u8 buffer[MAX_IMAGE];
+    u64 sum = 14695981039346656037u;
+    for (u64 k = 0; k < count; k++) {
+        Image image;
+        ending_image(&the_bench, k, &image);
+        Verdict v = write_image(&image, buffer, image_length(n));
+        if (v.number != TAKEN) {
+            print_refusal(v); /* 7 or 8: only a wrong machine leaves such an ending */
+            continue;
+        }
+        if (count <= SHOWN) {
+            put_hex(buffer, image_length(n));
+            put_text("\n");
+        }
+        sum = add_to_sum(sum, buffer, image_length(n));
+    }
+    u8 total[8];
+    put4(total, (u32)sum);
+    put4(total + 4, (u32)(sum >> 32));
+    put_text("sum ");
+    put_hex(total, 8);
+    put_text("\n");
+}
+
+void print_endings(const u8 *bytes, u64 length)
+{
+    Schedule schedule;
+    u8 buffer[MAX_IMAGE];
+    u64 count;
+    Verdict v = endings_of(bytes, length, &schedule, &the_bench, &count);
+    if (v.number != TAKEN) {
+        print_refusal(v);
+        return;
+    }
+    u64 whole = image_length(schedule.image.n);
+    put_text("endings ");
+    put_number(count);
+    put_text("\n");
+    print_ending_bytes(schedule.image.n, count);
+    print_refusal(write_ending(bytes, length, count, buffer, 0));
+    print_refusal(write_ending(bytes, length, count - 1, buffer, whole - 1));
+}
+
+static void print_moment(const Machine *m, const Reply *reply)
+{
+    u8 record[RECORD_BYTES];
+    record_to_bytes(m, record);
+    put_number(reply->number);
+    put_text(" ");
+    put_number(reply->value);
+    put_text(" ");
+    put_hex(record, RECORD_BYTES);
+    put_text("\n");
+}
+
+void print_trace(const u8 *bytes, u64 length)
+{
+    Schedule schedule;
+    Reply reply = {NOTHING, 0, NO_LINE, 0};
+    Verdict v = read_schedule(bytes, length, &schedule);
+    if (v.number != TAKEN) {
+        print_refusal(v);
+        return;
+    }
+    bench_start(&the_bench, &schedule);
+    print_moment(&the_bench.machine, &reply);
+    for (u32 i = 0; i < schedule.event_count; i++) {
+        Event event = event_at(&schedule, i);
+        v = bench_event(&the_bench, &event, i, &reply);
+        if (v.number != TAKEN) {
+            print_refusal(v);
+            return;
+        }
+        print_moment(&the_bench.machine, &reply);
+    }
+}
+
+void print_record_item(const u8 *item)
+{
+    Machine machine;
+    Reply reply;
+    const u8 *at = item + RECORD_BYTES;
+    Event event = {at[0], at[1], get4(at + 2)};
+    record_from_bytes(item, &machine);
+    Verdict v = perform(&machine, &event, &reply);
+    put_number(v.number);
+    put_text(" ");
+    put_number(v.place);
+    put_text(" ");
+    print_moment(&machine, &reply);
+}
+
+/* An image alone: its verdict and, when taken, the record that a start with one thread makes of it. */
+void print_image(const u8 *bytes, u64 length)
+{
+    Image image;
+    Machine machine;
+    Reply reply = {NOTHING, 0, NO_LINE, 0};
+    Verdict v = read_image(bytes, length, &image);
+    if (v.number != TAKEN) {
+        print_refusal(v);
+        return;
+    }
+    start(&machine, 1, &image);
+    print_moment(&machine, &reply);
+}
+
+/* Contents to be written as an image: n, head index, 64 nodes of 9 bytes, then the room of the lent buffer. */
+void print_contents_item(const u8 *item)
+{
+    static u8 buffer[65536];
+    Image image;
+    u64 room = get2(item + CONTENTS_BYTES - 2);
+    image.n = item[0];
+    image.head_index = get4(item + 1);
+    for (u32 i = 0; i < MAX_NODES; i++) {
+        const u8 *at = item + 5 + IMAGE_NODE * i;
+        image.nodes[i].linked = at[0];
+        image.nodes[i].index = get4(at + 1);
+        image.nodes[i].item = get4(at + 5);
+    }
+    for (u64 i = 0; i < room; i++)
+        buffer[i] = 0xaa; /* so that the bytes that stay can be seen */
+    Verdict v = write_image(&image, buffer, room);
+    put_number(v.number);
+    put_text(" ");
+    put_number(v.place);
+    put_text(" ");
+    put_hex(buffer, room);
+    put_text("\n");
+}

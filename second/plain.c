@@ -1,0 +1,196 @@
+/* The plain way: write-backs are really put into the schedule, the run is really made, and the images left are compared
+   with the page. It knows nothing of contents and histories; it uses the machine by its events alone. */
+#include "second.h"
+
+enum { MOST_RUNS = 40000, SAMPLES = 150 };
+
+static Machine at_last_start;
+static u32 first_event;  /* the event after the last start */
+static u32 moment_count; /* none, just after the last start, and after each later event */
+static Image left[MAX_ENDINGS];
+
+static int run_events(Machine *m, const Schedule *s, u32 from, u32 to)
+{
+    for (u32 i = from; i < to; i++) {
+        Reply reply;
+        Event e = event_at(s, i);
+        if (perform(m, &e, &reply).number != TAKEN)
+            return 0;
+    }
+    return 1;
+}
+
+static void find_last_start(const Schedule *s)
+{
+    first_event = 0;
+    for (u32 i = 0; i < s->event_count; i++)
+        if (event_at(s, i).kind == CRASH)
+            first_event = i + 1;
+    moment_count = 2 + s->event_count - first_event;
+    start(&at_last_start, s->t, &s->image);
+    run_events(&at_last_start, s, 0, first_event);
+}
+
+static void write_back_due(Machine *m, const u32 *moments, u32 moment)
+{
+    for (u32 line = 0; line <= m->n; line++) {
+        Reply reply;
+        Event e = {WRITE_BACK, line, 0};
+        if (moments[line] == moment)
+            perform(m, &e, &reply);
+    }
+}
+
+/* The image left when line l is written back at moments[l]: 0 never, 1 just after the last start, 2 + i after its event i. */
+static void run_with(const Schedule *s, const u32 *moments, Image *image)
+{
+    Machine m = at_last_start;
+    write_back_due(&m, moments, 1);
+    for (u32 i = first_event; i < s->event_count; i++) {
+        run_events(&m, s, i, i + 1);
+        write_back_due(&m, moments, 2 + i - first_event);
+    }
+    persisted_image(&m, image);
+}
+
+static int same_image(const Image *a, const Image *b)
+{
+    if (a->n != b->n || a->head_index != b->head_index)
+        return 0;
+    for (u32 i = 0; i < a->n; i++)
+        if (!same_content(a->nodes[i], b->nodes[i]))
+            return 0;
+    return 1;
+}
+
+static u64 combinations(u32 n)
+{
+    u64 runs = 1;
+    for (u32 line = 0; line <= n && runs <= MOST_RUNS; line++)
+        runs *= moment_count;
+    return runs;
+}
+
+/* Line N fastest, line 0 slowest; gives 0 after the last combination. */
+static int next_combination(u32 *moments, u32 n)
+{
+    for (u32 line = n + 1; line-- > 0;) {
+        if (++moments[line] < moment_count)
+            return 1;
+        moments[line] = 0;
+    }
+    return 0;
+}
+
+static Finding finding(u32 result, u64 ending, const char *why, u64 work)
+{
+    Finding f = {result, ending, why, work};
+    return f;
+}
+
+/* The images left, each once, in the order in which they first turn up; then held against the page's endings in order. */
+static Finding every_combination(const Schedule *s, u64 count)
+{
+    u32 moments[MAX_LINES] = {0};
+    u64 runs = 0, found = 0, known;
+    Image image;
+    do {
+        run_with(s, moments, &image);
+        runs++;
+        for (known = 0; known < found && !same_image(&left[known], &image);)
+            known++;
+        if (known == found && found < MAX_ENDINGS)
+            left[found++] = image;
+    } while (next_combination(moments, s->image.n));
+    if (found != count)
+        return finding(CONTRADICTS, found, "the plain way leaves another number of images", runs);
+    for (u64 k = 0; k < count; k++) {
+        ending_image(&the_bench, k, &image);
+        if (!same_image(&image, &left[k]))
+            return finding(CONTRADICTS, k, "the plain way leaves another image", runs);
+    }
+    return finding(AGREES, 0, "", runs);
+}
+
+/* The images left when this line alone is written back, at every moment, each once, in the order they first turn up. */
+static u64 images_of_line(const Schedule *s, u32 line)
+{
+    u32 moments[MAX_LINES] = {0};
+    u64 found = 0, known;
+    for (; moments[line] < moment_count; moments[line]++) {
+        Image image;
+        run_with(s, moments, &image);
+        for (known = 0; known < found && !same_image(&left[known], &image);)
+            known++;
+        if (known == found)
+            left[found++] = image;
+    }
+    return found;
+}
+
+/* Too many combinations: one line at a time, from the fastest to the slowest. While the other lines keep their oldest
+   content, this line's contents stand on the page at equal distances, and the number of endings is the product... */
+static Finding line_by_line(const Schedule *s, u64 count)
+{
+    u64 distance = 1, runs = 0;
+    for (u32 line = s->image.n + 1; line-- > 0;) {
+        u64 found = images_of_line(s, line);
+        runs += moment_count;
+        if (found * distance > count)
+            return finding(CONTRADICTS, found, "the plain way leaves another number of images", runs);
+        for (u64 j = 0; j < found; j++) {
+            Image ending;
+            ending_image(&the_bench, j * distance, &ending);
+            if (!same_image(&ending, &left[j]))
+                return finding(CONTRADICTS, j * distance, "the plain way leaves another image", runs);
+        }
+        distance *= found;
+    }
+    return finding(distance == count ? AGREES : CONTRADICTS, distance, "the plain way leaves another number of images", runs);
+}
+
+static int on_the_page(const Image *image, u64 count)
+{
+    Image ending;
+    for (u64 k = 0; k < count; k++) {
+        ending_image(&the_bench, k, &ending);
+        if (same_image(&ending, image))
+            return 1;
+    }
+    return 0;
+}
+
+/* ... and random combinations, whose images must stand on the page. */
+static Finding sampled(const Schedule *s, u64 count, Finding f)
+{
+    for (u32 i = 0; i < SAMPLES; i++) {
+        u32 moments[MAX_LINES];
+        Image image;
+        for (u32 line = 0; line <= s->image.n; line++)
+            moments[line] = below(moment_count);
+        run_with(s, moments, &image);
+        f.work++;
+        if (!on_the_page(&image, count))
+            return finding(CONTRADICTS, 0, "the plain way leaves an image that is not on the page", f.work);
+    }
+    f.why = "by lines"; /* told apart from every combination in the report */
+    return f;
+}
+
+Finding plain_way(const u8 *bytes, u64 length)
+{
+    Schedule s;
+    u64 count;
+    Verdict v = endings_of(bytes, length, &s, &the_bench, &count);
+    if (v.number != TAKEN)
+        return finding(TOO_LARGE, 0, "no page", 0);
+    if (plant_now)
+        the_bench.lines[s.image.n].list[0].item ^= 1;
+    find_last_start(&s);
+    if (combinations(s.image.n) <= MOST_RUNS)
+        return every_combination(&s, count);
+    if (count > 2000)
+        return finding(TOO_LARGE, 0, "too many endings", 0);
+    Finding f = line_by_line(&s, count);
+    return f.result == AGREES ? sampled(&s, count, f) : f;
+}

@@ -1,0 +1,108 @@
+/* Machine records with an event each: from runs, random within the ranges, and out of them. */
+#include "second.h"
+
+static u32 some_node(const Machine *m, u32 none_percent)
+{
+    return chance(none_percent) ? NONE : below(m->n);
+}
+
+static u32 some_index(void)
+{
+    return chance(10) ? LARGEST - below(2) : below(6);
+}
+
+static Content some_content(void)
+{
+    Content c = {below(2), some_index(), chance(50) ? below(4) : (u32)random_bits()};
+    return c;
+}
+
+static void random_thread(const Machine *m, Thread *thread)
+{
+    thread->step = chance(20) ? IDLE : below(STEPS);
+    thread->own = some_node(m, 2);
+    thread->t = some_node(m, 2);
+    thread->head_read = chance(50) ? m->head : some_node(m, 2);
+    thread->head_read_index = chance(50) ? m->head_index : some_index();
+    thread->next_read = some_node(m, 2);
+    thread->item = (u32)random_bits();
+    thread->held = some_node(m, 30);
+}
+
+/* Fields drawn within their ranges (now and then no node where one is used): mostly records that no run leads to. */
+static void random_record(Machine *m)
+{
+    m->n = chance(70) ? 2 + below(4) : 2 + below(63);
+    m->t = 1 + below(8);
+    m->head = below(m->n);
+    m->head_index = some_index();
+    m->tail = below(m->n);
+    m->free = chance(20) ? 0 : random_bits() & (m->n == 64 ? ~(u64)0 : bit(m->n) - 1);
+    m->persisted_head_index = some_index();
+    for (u32 i = 0; i < MAX_NODES; i++) {
+        Node *node = &m->nodes[i];
+        node->cached = some_content();
+        node->persisted = some_content();
+        node->next = some_node(m, 30);
+        node->waits = chance(50) ? 0 : (u32)(random_bits() & (bit(m->t) - 1));
+    }
+    for (u32 k = 0; k < MAX_THREADS; k++)
+        random_thread(m, &m->threads[k]);
+}
+
+/* The record some run has reached. */
+static void record_of_run(Machine *m)
+{
+    static u8 bytes[MAX_SCHEDULE];
+    Schedule s;
+    u64 length = generate_valid(bytes, chance(50));
+    if (read_schedule(bytes, length, &s).number != TAKEN)
+        stop("the generator made a schedule that is refused");
+    run_schedule(&the_bench, &s);
+    *m = the_bench.machine;
+}
+
+static void some_record_event(const Machine *m, u8 *at)
+{
+    u32 k = below(m->t);
+    Event e = {STEP, k, 0};
+    u32 which = below(10);
+    if (which == 0)
+        e.kind = BEGIN_ENQUEUE, e.item = (u32)random_bits();
+    else if (which == 1)
+        e.kind = BEGIN_DEQUEUE;
+    else if (which == 2)
+        e.kind = WRITE_BACK, e.number = below(m->n + 2);
+    else if (which == 3)
+        e.kind = CRASH, e.number = chance(90) ? 0 : 1;
+    else if (which == 4)
+        e.kind = below(7), e.number = below(10), e.item = below(2);
+    event_to_bytes(&e, at);
+}
+
+/* Makes stepping threads likely: most steps would otherwise meet an idle thread. */
+static void aim_at_step(const Machine *m, u8 *at)
+{
+    for (u32 k = 0; k < m->t; k++)
+        if (at[0] == STEP && m->threads[k].step != IDLE && chance(60))
+            at[1] = (u8)k;
+}
+
+void generate_record_item(u64 seed, u64 number, u8 *item)
+{
+    Machine m;
+    seed_random(seed, number);
+    u32 kind = below(10);
+    if (kind < 4)
+        record_of_run(&m);
+    else
+        random_record(&m);
+    record_to_bytes(&m, item);
+    some_record_event(&m, item + RECORD_BYTES);
+    aim_at_step(&m, item + RECORD_BYTES);
+    if (kind == 3 || kind == 9) /* one byte spoilt, most often out of range */
+        item[chance(50) ? below(20) : chance(50) ? RECORD_BYTES - 1 - below(112) : below(RECORD_BYTES)] = (u8)random_bits();
+    if (kind == 8 && chance(20)) /* every byte string is some record */
+        for (u32 i = 2; i < RECORD_BYTES; i++)
+            item[i] = (u8)random_bits();
+}

@@ -1,0 +1,300 @@
+/* The second program: UnlinkedQ's crash bench once more, written from the scope paper and source document 001 alone.
+   No header of the system is included; the few C functions used are declared where they are used. */
+#ifndef SECOND_H
+#define SECOND_H
+
+typedef unsigned char u8;
+typedef unsigned int u32;
+typedef unsigned long long u64;
+
+enum {
+    MIN_NODES = 2,
+    MAX_NODES = 64,
+    MAX_LINES = MAX_NODES + 1,
+    MAX_THREADS = 8,
+    MAX_EVENTS = 4096,
+    MAX_CONTENTS = 16,
+    MAX_ENDINGS = 65536,
+    SCHEDULE_HEAD = 8,
+    IMAGE_HEAD = 10,
+    IMAGE_NODE = 9,
+    EVENT_BYTES = 6,
+    MAX_IMAGE = IMAGE_HEAD + IMAGE_NODE * MAX_NODES,
+    MAX_SCHEDULE = SCHEDULE_HEAD + MAX_IMAGE + EVENT_BYTES * MAX_EVENTS,
+    RECORD_BYTES = 1412,
+    CONTENTS_BYTES = 5 + IMAGE_NODE * MAX_NODES + 2,
+    NONE = 255,    /* no node */
+    NO_LINE = 255, /* no line */
+    NEVER = 0x7fffffff
+};
+static const u32 LARGEST = 4294967295u;
+
+/* Numbers given back, as the paper numbers them. */
+enum {
+    TAKEN = 0,
+    WRONG_LENGTH = 1,
+    WRONG_MARK = 2,
+    WRONG_N = 3,
+    WRONG_T = 4,
+    TOO_MANY_EVENTS = 5,
+    WRONG_LINKED = 6,
+    TWINS = 7,
+    NO_DUMMY = 8,
+    UNKNOWN_KIND = 9,
+    NUMBER_TOO_LARGE = 10,
+    BEGIN_ON_BUSY = 11,
+    STEP_ON_IDLE = 12,
+    FIELD_NOT_ZERO = 13,
+    TOO_MANY_CONTENTS = 14,
+    TOO_MANY_ENDINGS = 15,
+    NO_SUCH_ENDING = 16,
+    BUFFER_TOO_SHORT = 17,
+    OUT_OF_RANGE = 18,
+    NUMBERS = 19
+};
+
+typedef struct Verdict {
+    u32 number;
+    u32 place;
+} Verdict;
+
+/* What a line holds. Line 0 uses the index alone; the other two fields stay 0 there. */
+typedef struct Content {
+    u32 linked;
+    u32 index;
+    u32 item;
+} Content;
+
+typedef struct Image {
+    u32 n;
+    u32 head_index;
+    Content nodes[MAX_NODES];
+} Image;
+
+/* Kinds of an event. */
+enum { BEGIN_ENQUEUE = 1, BEGIN_DEQUEUE = 2, STEP = 3, WRITE_BACK = 4, CRASH = 5 };
+
+typedef struct Event {
+    u32 kind;
+    u32 number;
+    u32 item;
+} Event;
+
+typedef struct Schedule {
+    u32 t;
+    u32 event_count;
+    Image image;
+    const u8 *events;
+} Schedule;
+
+/* The step a thread is about to perform. */
+enum {
+    IDLE = 0,
+    A1 = 1, A2, A3, A4, A5, A6, A7, A8, A9, A10, A11, A12,
+    D1 = 13, D2, D3, D4, D5, D6, D7,
+    STEPS = 20
+};
+
+typedef struct Node {
+    Content cached;
+    u32 next;
+    u32 waits; /* bit k: waits for thread k */
+    Content persisted;
+} Node;
+
+typedef struct Thread {
+    u32 step;
+    u32 own;             /* node of this enqueue */
+    u32 t;               /* Tail as read at A5 */
+    u32 head_read;       /* Head's node as read at D1 */
+    u32 head_read_index; /* Head's index as read at D1 */
+    u32 next_read;       /* next as read at D2 */
+    u32 item;            /* to be enqueued, or read at D5 */
+    u32 held;            /* old dummy of the previous successful dequeue */
+} Thread;
+
+typedef struct Machine {
+    u32 n;
+    u32 t;
+    u32 head;
+    u32 head_index;
+    u32 tail;
+    u64 free; /* bit i: node i is free */
+    u32 persisted_head_index;
+    Node nodes[MAX_NODES];
+    Thread threads[MAX_THREADS];
+} Machine;
+
+enum { NOTHING = 0, DONE = 1, FULL = 2, WORN_OUT = 3, AN_ITEM = 4, EMPTY = 5, REPLIES = 6 };
+
+typedef struct Reply {
+    u32 number;
+    u32 value;
+    u32 written; /* the line whose persisted copy this event wrote, or NO_LINE */
+    u32 started; /* 1 when the event was a crash, so a new start */
+} Reply;
+
+/* A line's contents since its last write-back, persist or start, oldest first, each once. */
+typedef struct History {
+    u32 count;
+    Content list[MAX_EVENTS + 2];
+} History;
+
+typedef struct Bench {
+    Machine machine;
+    History lines[MAX_LINES];
+} Bench;
+
+/* The wrong machines; each is one `if` at one place of the sources. */
+enum {
+    RIGHT = 0,
+    INDEX_FIRST,
+    RETIRE_SAME_DEQUEUE,
+    EMPTY_NO_PERSIST,
+    CONSECUTIVE,
+    EQUAL_TWICE,
+    WAITS_FOR_NOBODY,
+    A10_NO_PERSIST,
+    D6_NO_PERSIST,
+    A4_LEFT_OUT,
+    MACHINES
+};
+extern u32 wrong_machine;
+
+/* io.c */
+extern u8 input[];
+enum { INPUT_KEPT = 1 << 20 };
+u64 read_all(void);
+int read_next(u64 *length);
+int read_exactly(u8 *to, u64 length);
+void put_bytes(const u8 *bytes, u64 length);
+void put_text(const char *text);
+void put_number(u64 number);
+void put_hex(const u8 *bytes, u64 length);
+void flush_output(void);
+void capture_output(u8 *to, u64 room);
+u64 end_capture(void);
+void stop(const char *why);
+u32 get2(const u8 *from);
+u32 get4(const u8 *from);
+void put2(u8 *to, u32 value);
+void put4(u8 *to, u32 value);
+int same_text(const char *a, const char *b);
+
+/* image.c */
+Verdict verdict(u32 number, u32 place);
+Verdict read_image_head(const u8 *bytes, u64 length, Image *image);
+Verdict read_image_nodes(const u8 *bytes, Image *image);
+Verdict read_image(const u8 *bytes, u64 length, Image *image);
+Verdict test_recovered(const Image *image);
+Verdict write_image(const Image *image, u8 *buffer, u64 room);
+int is_recovered(const Image *image, u32 node);
+u32 recovered_in_order(const Image *image, u32 *order);
+u64 image_length(u32 n);
+
+/* recovery.c */
+void start(Machine *m, u32 t, const Image *image);
+void persisted_image(const Machine *m, Image *image);
+void crash(Machine *m);
+void blank_registers(Thread *thread);
+
+/* enqueue.c, dequeue.c */
+void step_of_enqueue(Machine *m, u32 k, Reply *reply);
+void step_of_dequeue(Machine *m, u32 k, Reply *reply);
+
+/* machine.c */
+u64 bit(u32 i);
+void persist(Machine *m, u32 line, Reply *reply);
+void answer(Machine *m, u32 k, u32 number, u32 value, Reply *reply);
+void retire(Machine *m, u32 k, u32 node);
+u32 following(u32 step);
+Verdict test_event(const Machine *m, const Event *event);
+Verdict perform(Machine *m, const Event *event, Reply *reply);
+Content cached_content(const Machine *m, u32 line);
+Content persisted_content(const Machine *m, u32 line);
+
+/* record.c */
+int in_range(const Machine *m);
+void record_to_bytes(const Machine *m, u8 *bytes);
+void record_from_bytes(const u8 *bytes, Machine *m);
+
+/* schedule.c */
+Verdict read_schedule(const u8 *bytes, u64 length, Schedule *schedule);
+Event event_at(const Schedule *schedule, u32 number);
+void event_to_bytes(const Event *event, u8 *bytes);
+u64 schedule_to_bytes(const Schedule *schedule, u8 *bytes);
+
+/* endings.c */
+int same_content(Content a, Content b);
+void bench_start(Bench *bench, const Schedule *schedule);
+Verdict bench_event(Bench *bench, const Event *event, u32 number, Reply *reply);
+Verdict run_schedule(Bench *bench, const Schedule *schedule);
+Verdict count_endings(const Bench *bench, u64 *count);
+Verdict endings_of(const u8 *bytes, u64 length, Schedule *schedule, Bench *bench, u64 *count);
+void ending_image(const Bench *bench, u64 k, Image *image);
+Verdict write_ending(const u8 *bytes, u64 length, u64 k, u8 *buffer, u64 room);
+extern Bench the_bench;
+
+/* page.c */
+extern u64 planted;   /* 0, or the number of the input (from 1) whose result is to be falsified */
+extern int plant_now; /* the input at hand is that one */
+void print_refusal(Verdict v);
+u32 print_page(const u8 *bytes, u64 length);
+void print_endings(const u8 *bytes, u64 length);
+void print_trace(const u8 *bytes, u64 length);
+void print_record_item(const u8 *item);
+void print_image(const u8 *bytes, u64 length);
+void print_contents_item(const u8 *item);
+
+/* counts.c: how often each step, branch, answer and refusal was reached */
+enum {
+    AT_STEP = 0, /* + step number 1..19 */
+    AT_REPLY = 20, /* + reply number 0..5 */
+    AT_NUMBER = 26, /* + number given back 0..17 */
+    AT_A6_NONE = 44, AT_A6_SOME, AT_A8_LINKS, AT_A8_FAILS, AT_A11_MOVES, AT_A11_LEAVES, AT_A12_MOVES, AT_A12_LEAVES,
+    AT_D2_NONE, AT_D2_SOME, AT_D4_MOVES, AT_D4_FAILS, AT_D7_HELD_ONE, AT_D7_HELD_NONE,
+    AT_RETIRED_FREE, AT_RETIRED_WAITS, AT_ANSWER_FREES, AT_ANSWER_KEEPS_WAITING, AT_A1_REUSED,
+    AT_A7_INDEX_TO_LARGEST, AT_WRITE_BACK_HEAD, AT_WRITE_BACK_NODE, AT_BEGIN_ENQUEUE, AT_BEGIN_DEQUEUE, AT_CRASH,
+    AT_DUMMY_INDEX_CHANGES, AT_GAP, AT_STALE_LINKED, AT_EQUAL_CONTENT, AT_SIXTEEN, AT_MANY_CRASHES, AT_LONGEST,
+    AT_NODES_2, AT_NODES_64, AT_THREADS_1, AT_THREADS_8, AT_ITEM_0, AT_ITEM_LARGEST, AT_EQUAL_IN_FLIGHT,
+    POINTS
+};
+extern u64 reached[];
+void reach(u32 point);
+int print_counts(void);
+void count_schedule(const Schedule *schedule);
+
+/* plain.c, judge.c, places.c */
+enum { AGREES = 0, CONTRADICTS = 1, TOO_LARGE = 2 };
+typedef struct Finding {
+    u32 result;
+    u64 ending;
+    const char *why;
+    u64 work;
+} Finding;
+Finding plain_way(const u8 *bytes, u64 length);
+Finding judge(const u8 *bytes, u64 length);
+const char *misplaced(const Machine *m);
+Finding places(const u8 *bytes, u64 length);
+
+/* random.c, generate.c, damage.c, search.c, sequences.c */
+void seed_random(u64 seed, u64 number);
+u64 random_bits(void);
+u32 below(u32 limit);
+int chance(u32 percent);
+u64 generate_valid(u8 *bytes, int small);
+u64 generate_input(u64 seed, u64 number, const char *shape, u8 *bytes);
+u64 generate_damaged(u64 number, u8 *bytes);
+u64 generate_refused(u64 number, u8 *bytes);
+u64 generate_length(u64 seed, u64 number, u8 *bytes);
+u64 generate_changed_byte(u64 seed, u64 number, u8 *bytes);
+u64 generate_longer(u8 *bytes);
+void generate_record_item(u64 seed, u64 number, u8 *item);
+void generate_contents_item(u64 seed, u64 number, u8 *item);
+u64 generate_image(u64 number, u8 *bytes);
+u32 machine_of_name(const char *name);
+int search(u32 machine, u64 seed, u64 tries);
+int check_sequences(void);
+int print_sequence(const char *name);
+
+#endif
