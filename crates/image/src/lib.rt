@@ -1,6 +1,18 @@
 // An image: what the persisted copies of the memory hold.
 use answer::Answer;
 
+pub mod blank;
+pub mod recovered;
+
+pub use blank::blank_image;
+pub use blank::no_contents;
+pub use recovered::dummy_of;
+pub use recovered::first_twin;
+pub use recovered::first_unclear;
+pub use recovered::is_recovered;
+pub use recovered::sound_of;
+pub use recovered::startable_of;
+
 // The content of a node's line.
 pub struct Content {
     pub linked: u8,

@@ -2,6 +2,8 @@ pub mod Record
 pub mod Stage
 pub mod Line
 pub mod Start
+pub mod Laid
+pub mod Rising
 pub mod Range
 pub mod Retire
 pub mod Enqueue

@@ -2,6 +2,10 @@
 use answer::Answer;
 use image::Content;
 
+pub mod blank;
+pub mod queue;
+pub mod start;
+
 // A node's cached copy, its link (255: none), and the threads it waits for, as a set.
 pub struct Node {
     pub item: u32,
@@ -37,6 +41,22 @@ pub struct Machine {
     pub kept_head: u32,
     pub kept: [Content; 64],
     pub threads: [Thread; 8],
+}
+
+impl Machine {
+    pub const NODES: usize = 64;
+
+    pub const THREADS: usize = 8;
+
+    // Head's line, and a line for each node.
+    pub const LINES: usize = Machine::NODES + 1;
+
+    // At most so many contents of a line, endings, and events of a schedule.
+    pub const CONTENTS: usize = 16;
+
+    pub const ENDINGS: usize = 65536;
+
+    pub const EVENTS: usize = 4096;
 }
 
 // An event of a schedule: its six bytes.

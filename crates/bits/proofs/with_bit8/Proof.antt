@@ -1,0 +1,31 @@
+use Rattle.bits.proofs.WordLaws as laws
+use Rattle.lists.specs.Word.{with}
+use mathlib.Core.Path.{sym, _∙_}
+use borrow.Author.Needs.{needs}
+use Rattle.bits.proofs.with_bit8.Statement.{statement}
+use Rattle.bits.proofs.with_bit8.Tie as tie
+use Rattle.bits.proofs.is_in8.Reads as is-in8-reads
+
+is-in8-requires : tie.Need-is-in8-requires
+is-in8-requires c κs = search needs
+
+returns : tie.Need-returns
+unfolding with
+returns c = rw (sym (c .before .is-in8 .ensures) ∙ c .if1 .taken)
+
+cast-result : tie.Need-cast-result
+cast-result c = search needs
+
+shl-result : tie.Need-shl-result
+shl-result c = search needs
+
+add-result : tie.Need-add-result
+add-result c = let a = c .before .before .args in record { fits = rw (laws.one-shifted 8 (a .i) (c .before .before .pre)) (laws.add-lt 8 (a .w) (a .i) (c .before .before .pre) (c .before .before .fits .w .fits) (sym (c .before .is-in8 .ensures) ∙ c .if1 .left)) }
+
+returns-2 : tie.Need-returns-2
+unfolding with
+returns-2 c = let a = c .before .before .args in rw (laws.one-shifted 8 (a .i) (c .before .before .pre), sym (c .before .is-in8 .ensures) ∙ c .if1 .left)
+
+pub with-bit8-spec : {M : Type 1} → statement M
+with-bit8-spec =
+    tie.close (tie.spec is-in8-requires returns cast-result shl-result add-result returns-2)

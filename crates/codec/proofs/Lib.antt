@@ -1,0 +1,7 @@
+pub mod Accepted
+pub mod Laws
+pub mod Numbers
+pub mod ReadWrite
+pub mod Same
+pub mod Unique
+pub mod WriteRead

@@ -1,0 +1,55 @@
+use borrow.Author.Needs.{needs}
+use Rattle.codec.proofs.events.event_at.Statement.{statement}
+use Rattle.codec.proofs.events.event_at.Tie as tie
+use Rattle.codec.proofs.events.event_at.Reads as reads
+use Rattle.codec.proofs.events.event_at.Lts as lts
+use Rattle.codec.proofs.bytes.word_at.Reads as word-at-reads
+
+mul-at : tie.Need-mul-at
+mul-at c = search needs
+
+add-at : tie.Need-add-at
+add-at c = search needs
+
+add-at-2 : tie.Need-add-at-2
+add-at-2 c = search needs
+
+mul-at-2 : tie.Need-mul-at-2
+mul-at-2 c = search needs
+
+add-at-3 : tie.Need-add-at-3
+add-at-3 c = search needs
+
+add-word-at : tie.Need-add-word-at
+add-word-at c = search needs
+
+word-at-requires : tie.Need-word-at-requires
+word-at-requires c κs = search needs
+
+shared-slice-read-t11 : tie.Need-shared-slice-read-t11
+shared-slice-read-t11 c = search needs
+
+add-t9 : tie.Need-add-t9
+add-t9 c = search needs
+
+shared-slice-read-t13 : tie.Need-shared-slice-read-t13
+shared-slice-read-t13 c = search needs
+
+returns : tie.Need-returns
+returns c = rw (c .before .before .word-at .ensures)
+
+pub event-at-spec : {M : Type 1} → statement M
+event-at-spec =
+    tie.close
+    (tie.spec
+    mul-at
+    add-at
+    add-at-2
+    mul-at-2
+    add-at-3
+    add-word-at
+    word-at-requires
+    shared-slice-read-t11
+    add-t9
+    shared-slice-read-t13
+    returns)

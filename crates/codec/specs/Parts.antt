@@ -1,0 +1,35 @@
+-- What the calls of this crate hand out, where images and schedules do not say it already.
+use Prim.Native.Nat.{ℕ}
+use mathlib.Core.List.{List}
+use lib.Dec.{ltb}
+use Rattle.lists.specs.Find.{pick, both}
+use Rattle.answer.specs.Answers.{accepted}
+use Rattle.answer.specs.declared.Answer.{Answer}
+use Rattle.image.specs.Layout.{imageIn}
+use Rattle.image.specs.Refusals.{imageAnswer, blankImage}
+use Rattle.image.specs.declared.Read.{Read}
+use Rattle.machine.specs.declared.Event.{Event}
+use Rattle.schedule.specs.Layout.{countIn, eventIn, scheduleAnswer, blankSchedule}
+use Rattle.schedule.specs.declared.Opened.{Opened}
+
+-- an image with `more` bytes behind it, as `readImage` reads one alone
+unfoldable pub readPart : ℕ → List ℕ → Read
+readPart more s = record {
+  answer = imageAnswer more s;
+  image = pick (accepted (imageAnswer more s)) (imageIn s) blankImage;
+}
+
+-- a refusal with what is handed back beside it
+abbrev pub refusedRead : Answer → Read
+refusedRead a = record { answer = a; image = blankImage }
+
+abbrev pub refusedOpened : Answer → Opened
+refusedOpened a = record { answer = a; schedule = blankSchedule }
+
+-- what is handed out where there is no such event
+abbrev pub noEvent : Event
+noEvent = record { kind = 0; number = 0; item = 0 }
+
+-- event i of a schedule that is taken up to its events; the zero event of one that is not, or that has no event i
+unfoldable pub eventOf : List ℕ → ℕ → Event
+eventOf s i = pick (both (accepted (scheduleAnswer s)) (ltb i (countIn s))) (eventIn s i) noEvent

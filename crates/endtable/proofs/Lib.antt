@@ -1,0 +1,14 @@
+pub mod Digits
+pub mod RowLaws
+pub mod TouchLaws
+pub mod Openings
+pub mod Joins
+pub mod Moments
+pub mod Frame
+pub mod Steps
+pub mod TableLaws
+pub mod Blocks
+pub mod Choices
+pub mod Chosen
+pub mod Limits
+pub mod Distinct

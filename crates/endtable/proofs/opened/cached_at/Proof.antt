@@ -1,0 +1,40 @@
+use Rattle.endtable.proofs.Openings as laws
+use mathlib.Core.Path.{_≡_, sym, ap, _∙_}
+use borrow.Author.Needs.{needs}
+use Rattle.endtable.proofs.opened.cached_at.Statement.{statement}
+use Rattle.endtable.proofs.opened.cached_at.Tie as tie
+
+head-content-requires : tie.Need-head-content-requires
+head-content-requires c κs = search needs
+
+returns : tie.Need-returns
+returns c = rw (c .before .if1 .taken) (c .head-content .ensures)
+
+sub-v : tie.Need-sub-v
+sub-v c = search needs
+
+mul-v : tie.Need-mul-v
+mul-v c = search needs
+
+element-copy-out-v : tie.Need-element-copy-out-v
+element-copy-out-v c = search needs
+
+content-of-requires : tie.Need-content-of-requires
+content-of-requires c κs = search needs
+
+returns-2 : tie.Need-returns-2
+returns-2 c =
+    let a = c .before .before .before .args in
+    c .content-of .ensures ∙ laws.cached-node (a .t1) (a .l) (c .before .before .if1 .left)
+
+pub cached-at-spec : {M : Type 1} → statement M
+cached-at-spec =
+    tie.close
+    (tie.spec
+    head-content-requires
+    returns
+    sub-v
+    mul-v
+    element-copy-out-v
+    content-of-requires
+    returns-2)

@@ -1,0 +1,106 @@
+use native.Mathlib.Numerals.{add-one}
+use Rattle.endtable.specs.Opened.{openedTable}
+use Rattle.endtable.proofs.Openings as laws
+use Prim.Native.Nat.{_+_, _-_, _≤_}
+use mathlib.Core.Path.{_≡_, refl, sym, _∙_}
+use native.Mathlib.Omega.{arith}
+use borrow.Author.Needs.{needs}
+use Rattle.endtable.proofs.opened.opened_table.Statement.{statement}
+use Rattle.endtable.proofs.opened.opened_table.Tie as tie
+
+abbrev Inv-loop : tie.InvT-loop
+Inv-loop m t₀ n i₀ t i = (i ≤ n) × (t ≡ openedTable m (i + 1))
+
+abbrev μ-loop : tie.MeasureT-loop
+μ-loop m t₀ n i₀ t i = n - i
+
+blank-table-requires : tie.Need-blank-table-requires Inv-loop μ-loop
+blank-table-requires c κs = tt
+
+head-content-requires : tie.Need-head-content-requires Inv-loop μ-loop
+head-content-requires c κs = tt
+
+head-content-requires-2 : tie.Need-head-content-requires-2 Inv-loop μ-loop
+head-content-requires-2 c κs = tt
+
+opened-row-requires : tie.Need-opened-row-requires Inv-loop μ-loop
+opened-row-requires c κs = tt
+
+array-set-from-t : tie.Need-array-set-from-t Inv-loop μ-loop
+array-set-from-t c = omega arith
+
+cast-n : tie.Need-cast-n Inv-loop μ-loop
+cast-n c = search needs
+
+loop-holds : tie.Need-loop-holds Inv-loop μ-loop
+loop-holds c =
+    let b = c .before in
+    (omega arith, rw (c .opened-row .ensures, b .head-content2 .ensures, b .before .head-content .ensures, b .before .before .blank-table .ensures) (laws.table-first (b .before .before .before .args .t1)))
+
+mul-p : tie.Need-mul-p Inv-loop μ-loop
+mul-p c = omega arith
+
+element-copy-out-p : tie.Need-element-copy-out-p Inv-loop μ-loop
+element-copy-out-p c = omega arith
+
+mul-v : tie.Need-mul-v Inv-loop μ-loop
+mul-v c = omega arith
+
+element-copy-out-v : tie.Need-element-copy-out-v Inv-loop μ-loop
+element-copy-out-v c = omega arith
+
+content-of-requires : tie.Need-content-of-requires Inv-loop μ-loop
+content-of-requires c κs = tt
+
+opened-row-requires-2 : tie.Need-opened-row-requires-2 Inv-loop μ-loop
+opened-row-requires-2 c κs = tt
+
+add-i : tie.Need-add-i Inv-loop μ-loop
+add-i c = omega arith
+
+mul-t : tie.Need-mul-t Inv-loop μ-loop
+mul-t c = omega arith
+
+array-set-from-t-2 : tie.Need-array-set-from-t-2 Inv-loop μ-loop
+array-set-from-t-2 c = omega arith
+
+loop-less : tie.Need-loop-less Inv-loop μ-loop
+loop-less c = omega arith
+
+loop-again : tie.Need-loop-again Inv-loop μ-loop
+loop-again c =
+    let b = c .before .before .before .before .before in
+    let a = b .before .before .before .before .before .args in
+    (omega arith, rw (c .opened-row2 .ensures, c .before .content-of .ensures, b .loop .inv .1) (laws.table-next (a .t1) (b .loop .i) (omega arith)))
+
+returns : tie.Need-returns Inv-loop μ-loop
+returns c =
+    let p = c .before .loop in
+    let e : p .i ≡ c .before .before .before .before .before .before .args .t1 .n = omega arith in
+    rw (p .inv .1, add-one, e)
+
+pub opened-table-spec : {M : Type 1} → statement M
+opened-table-spec =
+    tie.close
+    (tie.spec
+    Inv-loop
+    μ-loop
+    blank-table-requires
+    head-content-requires
+    head-content-requires-2
+    opened-row-requires
+    array-set-from-t
+    cast-n
+    loop-holds
+    mul-p
+    element-copy-out-p
+    mul-v
+    element-copy-out-v
+    content-of-requires
+    opened-row-requires-2
+    add-i
+    mul-t
+    array-set-from-t-2
+    loop-less
+    loop-again
+    returns)

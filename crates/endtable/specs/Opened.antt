@@ -1,0 +1,38 @@
+-- The table after a start: for each line the persisted content, and the cached one behind it.
+use Prim.Native.Nat.{ℕ}
+use mathlib.Core.Bool.{Bool, true, false}
+use mathlib.Core.List.{List, [], _∷_}
+use lib.ListN.{replicate, set}
+use Rattle.lists.specs.Find.{pick}
+use Rattle.lists.specs.Tab.{front}
+use Rattle.image.specs.Layout.{noContent}
+use Rattle.image.specs.declared.Content.{Content}
+use Rattle.machine.specs.Line.{cachedAt, persistedAt}
+use Rattle.machine.specs.declared.Machine.{Machine}
+use Rattle.page.specs.Contents.{sameContent}
+
+unfoldable pub blankTable : List (List Content)
+blankTable = replicate 65 (replicate 16 noContent)
+
+unfoldable pub blankCounts : List ℕ
+blankCounts = replicate 65 0
+
+unfoldable pub openedRow : Content → Content → List Content
+openedRow p c = p ∷ c ∷ replicate 14 noContent
+
+-- two contents, or one where they are equal
+unfoldable pub openedCount : Content → Content → ℕ
+openedCount p c = pick (sameContent p c) 1 2
+
+abbrev pub lineOpened : Machine → ℕ → List Content
+lineOpened m l = openedRow (persistedAt m l) (cachedAt m l)
+
+abbrev pub lineCounted : Machine → ℕ → ℕ
+lineCounted m l = openedCount (persistedAt m l) (cachedAt m l)
+
+-- the first k lines opened
+unfoldable pub openedTable : Machine → ℕ → List (List Content)
+openedTable m k = front (lineOpened m) k blankTable
+
+unfoldable pub openedCounts : Machine → ℕ → List ℕ
+openedCounts m k = front (lineCounted m) k blankCounts

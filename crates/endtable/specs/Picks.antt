@@ -1,0 +1,69 @@
+-- An ending's number as a choice for each line, and the image picked by it. Counts are those of the lines, line 0 first.
+use Prim.Native.Nat.{ℕ, zero, suc, _*_, _/_, _%_, _<_, _≤_}
+use mathlib.Core.Bool.{Bool, true, false}
+use mathlib.Core.List.{List, [], _∷_, _++_}
+use lib.ListN.{getD, drop, replicate}
+use lib.Dec.{ltb}
+use Rattle.lists.specs.Find.{pick, least}
+use Rattle.lists.specs.Tab.{front}
+use Rattle.answer.specs.Answers.{check}
+use Rattle.answer.specs.declared.Answer.{Answer}
+use Rattle.answer.specs.declared.Answer.the-variants.{Taken, Contents, Endings}
+use Rattle.image.specs.Layout.{contentAt, noContents}
+use Rattle.image.specs.declared.Content.{Content}
+use Rattle.image.specs.declared.Image.{Image}
+use Rattle.machine.specs.Line.{lineCount, nodeLine}
+use Rattle.endtable.specs.Opened.{blankCounts}
+
+-- ---- how many
+
+abbrev pub isCrowded : List ℕ → ℕ → Bool
+isCrowded cs l = ltb 16 (getD cs l 0)
+
+-- the first of n lines that has more than 16 contents; n where none has
+unfoldable pub crowdedAt : List ℕ → ℕ → ℕ
+crowdedAt cs n = least (isCrowded cs) n 0
+
+-- how many endings the first n lines have
+unfoldable pub prod : List ℕ → ℕ → ℕ
+prod cs zero = 1
+prod cs (suc n) = prod cs n * getD cs n 0
+
+-- 65,537 stands for every number above 65,536
+unfoldable pub capped : ℕ → ℕ
+capped x = pick (ltb 65536 x) 65537 x
+
+-- 14, 15
+unfoldable pub countsAnswer : List ℕ → ℕ → Answer
+countsAnswer cs n = check (ltb (crowdedAt cs n) n) (Contents (crowdedAt cs n)) (check (ltb 65536 (prod cs n)) Endings Taken)
+
+-- ---- which
+
+-- each of the first n lines has a content; and at most sixteen
+abbrev pub Counted : List ℕ → ℕ → Type 0
+Counted cs n = (l : ℕ) → l < n → 0 < getD cs l 0
+
+abbrev pub Filled : List ℕ → ℕ → Type 0
+Filled ps n = (l : ℕ) → l < n → getD ps l 0 < 16
+
+abbrev pub Ready : List ℕ → ℕ → Type 0
+Ready cs n = Counted cs n × ((l : ℕ) → l < n → getD cs l 0 ≤ 16)
+
+-- the choices of the first n lines in ending k: the last of them turns fastest
+unfoldable pub digits : List ℕ → ℕ → ℕ → List ℕ
+digits cs zero k = []
+digits cs (suc n) k = digits cs n (k / getD cs n 0) ++ (k % getD cs n 0 ∷ [])
+
+-- the entry of line l that the picks name
+unfoldable pub pickedAt : List (List Content) → List ℕ → ℕ → Content
+pickedAt t ps l = contentAt (getD t l []) (getD ps l 0)
+
+abbrev pub pickedNode : List (List Content) → List ℕ → ℕ → Content
+pickedNode t ps i = pickedAt t ps (nodeLine i)
+
+-- one entry a line, as an image of n nodes
+unfoldable pub pickedImage : List (List Content) → List ℕ → ℕ → Image
+pickedImage t ps n = record { n = n; head = pickedAt t ps 0 .index; nodes = front (pickedNode t ps) n noContents }
+
+unfoldable pub endingFrom : List (List Content) → List ℕ → ℕ → ℕ → Image
+endingFrom t cs n k = pickedImage t (digits cs (lineCount n) k ++ drop (lineCount n) blankCounts) n

@@ -1,0 +1,34 @@
+-- What the code's table stands for: the lists of contents, as far as they fit.
+use Prim.Native.Nat.{ℕ, _<_, min}
+use mathlib.Core.Bool.{Bool}
+use mathlib.Core.Path.{_≡_}
+use mathlib.Core.List.{List, []}
+use lib.ListN.{length, getD, set}
+use lib.Dec.{ltb}
+use Rattle.lists.specs.Find.{pick}
+use Rattle.image.specs.Layout.{contentAt}
+use Rattle.image.specs.declared.Content.{Content}
+use Rattle.endtable.specs.Rows.{rowAfter, countAfter}
+use Rattle.endtable.specs.declared.touch.Touch.{Touch}
+
+-- a row and its count stand for the list l: its first sixteen contents, and how many they are, 17 where there are more
+pub record Held (row : List Content) (n : ℕ) (l : List Content) : Type 0 where
+  pub wide : length row ≡ 16
+  pub counted : n ≡ min 17 (length l)
+  pub same : (j : ℕ) → j < 16 → j < length l → contentAt row j ≡ contentAt l j
+
+-- the table and the counts stand for the lists of the lines, line 0 first
+pub record Tables (t : List (List Content)) (cs : List ℕ) (lists : List (List Content)) : Type 0 where
+  pub tall : length t ≡ 65
+  pub long : length cs ≡ 65
+  pub held : (l : ℕ) → l < length lists → Held (getD t l []) (getD cs l 0) (getD lists l [])
+
+-- ---- the table and the counts after an event that touched w and left that line with the cached content c
+
+unfoldable pub tableAfter : List (List Content) → List ℕ → Touch → Content → List (List Content)
+tableAfter t cs w c =
+    pick (ltb (w .line) 65) (set t (w .line) (rowAfter (getD t (w .line) []) (getD cs (w .line) 0) c (w .persisted))) t
+
+unfoldable pub countsAfter : List (List Content) → List ℕ → Touch → Content → List ℕ
+countsAfter t cs w c =
+    pick (ltb (w .line) 65) (set cs (w .line) (countAfter (getD t (w .line) []) (getD cs (w .line) 0) c (w .persisted))) cs

@@ -1,0 +1,11 @@
+use mathlib.Core.Path.{refl}
+use Rattle.image.specs.Layout.{noContents}
+use Rattle.image.proofs.blank.no_contents.Statement.{statement}
+use Rattle.image.proofs.blank.no_contents.Tie as tie
+
+returns : tie.Need-returns
+unfolding noContents
+returns c = refl
+
+pub no-contents-spec : {M : Type 1} → statement M
+no-contents-spec = tie.close (tie.spec returns)

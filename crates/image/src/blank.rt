@@ -1,0 +1,30 @@
+// What stands where an image holds nothing.
+use super::Content;
+use super::Image;
+ghost use mathlib.Core.Path.{_≡_};
+ghost use Rattle.image.specs.Layout.{noContents};
+ghost use Rattle.image.specs.Refusals.{blankImage};
+
+// A table of contents that are all zero. Behind a contract, so that no goal has the 64 elements written out.
+pub fn no_contents() -> [Content; 64]
+    ensures { λ r. ⌜ r ≡ noContents ⌝ }
+{
+    let none = Content {
+        linked: 0,
+        index: 0,
+        item: 0,
+    };
+    [none; 64]
+}
+
+// What is handed back beside a refusal.
+pub fn blank_image() -> Image
+    ensures { λ r. ⌜ r ≡ blankImage ⌝ }
+{
+    let nodes = no_contents();
+    Image {
+        n: 0,
+        head: 0,
+        nodes,
+    }
+}

@@ -1,0 +1,121 @@
+// The tests on an image by value: unclear linked bytes (6), twins (7), the dummy (8).
+use super::Content;
+use super::Image;
+use answer::Answer;
+ghost use mathlib.Core.Path.{_≡_};
+ghost use Prim.Native.Nat.{_≤_};
+ghost use lib.Dec.{eqb};
+ghost use Rattle.lists.specs.Find.{both};
+ghost use Rattle.answer.specs.declared.Answer.the-variants.{Taken};
+ghost use Rattle.image.specs.Recovered.{recovered, firstUnclear, firstTwin, dummyOf};
+ghost use Rattle.image.specs.Refusals.{startable, sound};
+
+// A node is recovered when its linked flag is 1 and its index is above the head index.
+pub fn is_recovered(c: Content, h: u32) -> bool
+    ensures { λ r. ⌜ r ≡ recovered h c ⌝ }
+{
+    if c.linked == 1 {
+        return h < c.index;
+    }
+    false
+}
+
+// Both are recovered, with one index.
+fn are_twins(a: Content, b: Content, h: u32) -> bool
+    ensures { λ r. ⌜ r ≡ both (recovered h a) (both (recovered h b) (eqb (a .index) (b .index))) ⌝ }
+{
+    if is_recovered(a, h) {
+        if is_recovered(b, h) {
+            return a.index == b.index;
+        }
+        return false;
+    }
+    false
+}
+
+// The first node whose linked byte is above 1, and N where none is.
+pub fn first_unclear(g: Image) -> usize
+    requires { ⌜ g .n ≤ 64 ⌝ }
+    ensures { λ r. ⌜ r ≡ firstUnclear g ⌝ }
+{
+    let n = g.n as usize;
+    let mut i = 0;
+    while i < n {
+        let v = g.nodes[i];
+        if v.linked > 1 {
+            return i;
+        }
+        i += 1;
+    }
+    i
+}
+
+// The smallest node number that has a lower-numbered twin, and N where none has.
+pub fn first_twin(g: Image) -> usize
+    requires { ⌜ g .n ≤ 64 ⌝ }
+    ensures { λ r. ⌜ r ≡ firstTwin g ⌝ }
+{
+    let n = g.n as usize;
+    let h = g.head;
+    let mut i = 0;
+    'pairs: while i < n {
+        let mut j = 0;
+        while j < i {
+            let a = g.nodes[i];
+            let b = g.nodes[j];
+            if are_twins(a, b, h) {
+                break 'pairs;
+            }
+            j += 1;
+        }
+        i += 1;
+    }
+    i
+}
+
+// The lowest-numbered node that is not recovered, and N where every node is.
+pub fn dummy_of(g: Image) -> usize
+    requires { ⌜ g .n ≤ 64 ⌝ }
+    ensures { λ r. ⌜ r ≡ dummyOf g ⌝ }
+{
+    let n = g.n as usize;
+    let h = g.head;
+    let mut i = 0;
+    while i < n {
+        let v = g.nodes[i];
+        if !is_recovered(v, h) {
+            return i;
+        }
+        i += 1;
+    }
+    i
+}
+
+// 7, then 8: what a start asks of an image.
+pub fn startable_of(g: Image) -> Answer
+    requires { ⌜ g .n ≤ 64 ⌝ }
+    ensures { λ r. ⌜ r ≡ startable g Taken ⌝ }
+{
+    let n = g.n as usize;
+    let i = first_twin(g);
+    if i < n {
+        return Answer::Twin(i as u32);
+    }
+    if dummy_of(g) == n {
+        return Answer::NoDummy;
+    }
+    Answer::Taken
+}
+
+// 6, 7, 8.
+pub fn sound_of(g: Image) -> Answer
+    requires { ⌜ g .n ≤ 64 ⌝ }
+    ensures { λ r. ⌜ r ≡ sound g Taken ⌝ }
+{
+    let n = g.n as usize;
+    let i = first_unclear(g);
+    if i < n {
+        return Answer::Linked(i as u32);
+    }
+    startable_of(g)
+}

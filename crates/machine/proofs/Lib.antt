@@ -1,0 +1,4 @@
+pub mod RisenLaws
+pub mod QueueLaws
+pub mod WordLaws
+pub mod TableLaws

@@ -1,0 +1,59 @@
+// Places of the tables that no node or thread has, and the machine handed back beside a refused start.
+// Each table stands behind a contract, so that no goal has its elements written out.
+use super::Machine;
+use super::Node;
+use super::Thread;
+use image::no_contents;
+ghost use mathlib.Core.Path.{_≡_};
+ghost use Rattle.machine.specs.Record.{blankNodes, idleThreads};
+ghost use Rattle.machine.specs.Start.{blankMachine};
+
+pub fn blank_nodes() -> [Node; 64]
+    ensures { λ r. ⌜ r ≡ blankNodes ⌝ }
+{
+    let node = Node {
+        item: 0,
+        next: 255,
+        linked: 0,
+        index: 0,
+        waits: 0,
+    };
+    [node; Machine::NODES]
+}
+
+// Threads without an operation that hold no node.
+pub fn idle_threads() -> [Thread; 8]
+    ensures { λ r. ⌜ r ≡ idleThreads ⌝ }
+{
+    let thread = Thread {
+        step: 0,
+        node: 255,
+        tail: 255,
+        head: 255,
+        index: 0,
+        next: 255,
+        item: 0,
+        held: 255,
+    };
+    [thread; Machine::THREADS]
+}
+
+pub fn blank_machine() -> Machine
+    ensures { λ r. ⌜ r ≡ blankMachine ⌝ }
+{
+    let nodes = blank_nodes();
+    let kept = no_contents();
+    let threads = idle_threads();
+    Machine {
+        n: 0,
+        t: 0,
+        head: 0,
+        index: 0,
+        tail: 0,
+        free: 0,
+        nodes,
+        kept_head: 0,
+        kept,
+        threads,
+    }
+}

@@ -1,0 +1,137 @@
+// Recovery, and a start from an image and T.
+use super::Machine;
+use super::Node;
+use super::Out;
+use super::blank::blank_machine;
+use super::blank::blank_nodes;
+use super::blank::idle_threads;
+use super::queue::Queue;
+use super::queue::last_of;
+use super::queue::link_of;
+use super::queue::queue_of;
+use answer::Answer;
+use image::Content;
+use image::Image;
+use image::dummy_of;
+use image::is_recovered;
+use image::no_contents;
+use image::sound_of;
+ghost use mathlib.Core.Path.{_≡_};
+ghost use Prim.Native.Nat.{suc, _≤_, _<_};
+ghost use Rattle.answer.specs.Answers.{told};
+ghost use Rattle.machine.specs.Start.{queueOf, startNode, startOf, startFrom};
+ghost use Rattle.machine.specs.Laid.{laid, startNodes, startKept, startFree};
+
+// Node i after a start whose dummy is d: the cached copy is read anew, the dummy's cached index becomes the head index.
+fn node_of(g: Image, d: u8, q: Queue, i: usize) -> Node
+    requires { ⌜ (g .n ≤ 64) × (i < 64) × (q ≡ laid (queueOf g)) ⌝ }
+    ensures { λ r. ⌜ r ≡ startNode g d (queueOf g) i ⌝ }
+{
+    let v = g.nodes[i];
+    let next = link_of(d, q, i);
+    if i == d as usize {
+        return Node {
+            item: v.item,
+            next,
+            linked: v.linked,
+            index: g.head,
+            waits: 0,
+        };
+    }
+    Node {
+        item: v.item,
+        next,
+        linked: v.linked,
+        index: v.index,
+        waits: 0,
+    }
+}
+
+fn nodes_of(g: Image, d: u8, q: Queue) -> [Node; 64]
+    requires { ⌜ (g .n ≤ 64) × (q ≡ laid (queueOf g)) ⌝ }
+    ensures { λ r. ⌜ r ≡ startNodes g d (queueOf g) (g .n) ⌝ }
+{
+    let n = g.n as usize;
+    let mut nodes = blank_nodes();
+    let mut i = 0;
+    while i < n {
+        let v = node_of(g, d, q, i);
+        nodes[i] = v;
+        i += 1;
+    }
+    nodes
+}
+
+// The persisted copies stay.
+fn kept_of(g: Image) -> [Content; 64]
+    requires { ⌜ g .n ≤ 64 ⌝ }
+    ensures { λ r. ⌜ r ≡ startKept g (g .n) ⌝ }
+{
+    let n = g.n as usize;
+    let mut kept = no_contents();
+    let mut i = 0;
+    while i < n {
+        let v = g.nodes[i];
+        kept[i] = v;
+        i += 1;
+    }
+    kept
+}
+
+// The free set with node i in it, where it is neither the dummy nor recovered.
+fn with_spare(g: Image, d: u8, w: u64, i: usize) -> u64
+    requires { ⌜ (i < 64) × (w ≡ startFree g d i) ⌝ }
+    ensures { λ r. ⌜ r ≡ startFree g d (suc i) ⌝ }
+{
+    if i == d as usize {
+        return w;
+    }
+    let v = g.nodes[i];
+    if is_recovered(v, g.head) {
+        return w;
+    }
+    let k = i as u32;
+    w + (1u64 << k)
+}
+
+// All nodes but the dummy and the recovered ones are free.
+fn free_of(g: Image, d: u8) -> u64
+    requires { ⌜ g .n ≤ 64 ⌝ }
+    ensures { λ r. ⌜ r ≡ startFree g d (g .n) ⌝ }
+{
+    let n = g.n as usize;
+    let mut w = 0;
+    let mut i = 0;
+    while i < n {
+        let r = with_spare(g, d, w, i);
+        w = r;
+        i += 1;
+    }
+    w
+}
+
+// The start of an image that is sound, with T threads.
+pub fn start(g: Image, t: u8) -> Machine
+    requires { ⌜ g .n ≤ 64 ⌝ }
+    ensures { λ r. ⌜ r ≡ startOf g t ⌝ }
+{
+    let d = dummy_of(g) as u8;
+    let q = queue_of(g);
+    let tail = last_of(d, q);
+    let free = free_of(g, d);
+    let nodes = nodes_of(g, d, q);
+    let kept = kept_of(g);
+    let threads = idle_threads();
+    Machine {
+        n: g.n,
+        t,
+        head: d,
+        index: g.head,
+        tail,
+        free,
+        nodes,
+        kept_head: g.head,
+        kept,
+        threads,
+    }
+}

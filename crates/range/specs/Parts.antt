@@ -1,0 +1,100 @@
+-- The parts of the test for 18 and of the six counts, as the code takes them: over numbers and elements, and up to a place.
+use Prim.Native.Nat.{ℕ, _+_, _^_}
+use mathlib.Core.Bool.{Bool, true, false, not}
+use lib.Dec.{eqb, ltb, leb}
+use Rattle.lists.specs.Find.{pick, both, any, count}
+use Rattle.image.specs.declared.Content.{Content}
+use Rattle.image.specs.Refusals.{nodesFit}
+use Rattle.machine.specs.Record.{none, thread}
+use Rattle.machine.specs.Stage.{own, t, theHead, theNext, uses, stage, stageOf, enqueueOwns, dequeueOwns}
+use Rattle.machine.specs.Start.{threadsFit}
+use Rattle.machine.specs.Range.{isFlag, nodeFits, threadFits}
+use Rattle.machine.specs.Place.{inQueue, isWaiting, isHeld, inEnqueue, inDequeue}
+use Rattle.machine.specs.declared.Machine.{Machine}
+use Rattle.machine.specs.declared.Node.{Node}
+use Rattle.machine.specs.declared.Places.{Places}
+use Rattle.range.specs.declared.Hands.{Hands}
+use Rattle.range.specs.declared.Used.{Used}
+
+-- ---- 18
+
+-- N and T
+abbrev pub sizesIn : ℕ → ℕ → Bool
+sizesIn n k = both (nodesFit n) (threadsFit k)
+
+-- of n nodes: a node number or none; what a step reads, a node where the step uses it
+abbrev pub linkIn : ℕ → ℕ → Bool
+linkIn n x = pick (eqb x none) true (ltb x n)
+
+abbrev pub readIn : ℕ → Bool → ℕ → Bool
+readIn n u x = pick u (ltb x n) (linkIn n x)
+
+-- a node of n, its persisted copy, and k threads that it may wait for
+unfoldable pub nodeIn : ℕ → ℕ → Node → Content → Bool
+nodeIn n k v p =
+    both (linkIn n (v .next)) (both (isFlag (v .linked)) (both (isFlag (p .linked)) (ltb (v .waits) (2 ^ k))))
+
+-- what a step number says: which of the four numbers the step uses, and which node its operation owns
+abbrev pub usedBy : ℕ → Used
+usedBy s = record {
+  own = uses (stageOf s) own;
+  tail = uses (stageOf s) t;
+  head = uses (stageOf s) theHead;
+  next = uses (stageOf s) theNext;
+  enqueue = enqueueOwns (stageOf s);
+  dequeue = dequeueOwns (stageOf s);
+}
+
+unfoldable pub badNode : Machine → ℕ → Bool
+badNode m i = not (nodeFits m i)
+
+unfoldable pub badThread : Machine → ℕ → Bool
+badThread m k = not (threadFits m k)
+
+-- ---- the six places
+
+-- thread k holds node i, owns it by an enqueue, owns it by a dequeue
+unfoldable pub holds : Machine → ℕ → ℕ → Bool
+holds m i k = eqb (thread m k .held) i
+
+unfoldable pub enqueues : Machine → ℕ → ℕ → Bool
+enqueues m i k = both (enqueueOwns (stage m k)) (eqb (thread m k .node) i)
+
+unfoldable pub dequeues : Machine → ℕ → ℕ → Bool
+dequeues m i k = both (dequeueOwns (stage m k)) (eqb (thread m k .head) i)
+
+-- whether some thread below c does
+abbrev pub handsTo : Machine → ℕ → ℕ → Hands
+handsTo m i c = record { held = any (holds m i) c; enqueue = any (enqueues m i) c; dequeue = any (dequeues m i) c }
+
+abbrev pub handsAlso : Machine → ℕ → ℕ → Hands → Hands
+handsAlso m i k h = record {
+  held = pick (holds m i k) true (h .held);
+  enqueue = pick (enqueues m i k) true (h .enqueue);
+  dequeue = pick (dequeues m i k) true (h .dequeue);
+}
+
+abbrev pub handsOf : Machine → ℕ → Hands
+handsOf m i = record { held = isHeld m i; enqueue = inEnqueue m i; dequeue = inDequeue m i }
+
+-- the counts over the nodes below c, with the free total f
+abbrev pub placesTo : Machine → ℕ → ℕ → Places
+placesTo m f c = record {
+  queue = count (inQueue m) c;
+  free = f;
+  waiting = count (isWaiting m) c;
+  held = count (isHeld m) c;
+  enqueue = count (inEnqueue m) c;
+  dequeue = count (inDequeue m) c;
+}
+
+-- node i besides
+abbrev pub placesAlso : Machine → ℕ → Places → Places
+placesAlso m i p = record {
+  queue = pick (inQueue m i) 1 0 + p .queue;
+  free = p .free;
+  waiting = pick (isWaiting m i) 1 0 + p .waiting;
+  held = pick (isHeld m i) 1 0 + p .held;
+  enqueue = pick (inEnqueue m i) 1 0 + p .enqueue;
+  dequeue = pick (inDequeue m i) 1 0 + p .dequeue;
+}

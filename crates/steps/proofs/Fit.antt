@@ -1,0 +1,347 @@
+-- What 18's test says of a record, as inequalities, and back.
+use Prim.Native.Nat.{ℕ, zero, suc, _^_, _≤_, _<_}
+use mathlib.Core.Path.{_≡_, refl, sym, ap, _∙_}
+use mathlib.Core.Bool.{Bool, true, false, not}
+use mathlib.Core.Logic.{_≢_, _⊎_, inl, inr}
+use mathlib.Core.List.{List}
+use native.Mathlib.Omega.{arith}
+use native.Mathlib.Nat.{eq-or-lt-of-le, le-of-suc-le-suc}
+use lib.ListN.{getD}
+use lib.Dec.{eqb, ltb, leb}
+use borrow.Author.Tests.{ltb-true, leb-true, eqb-true, eqb-false, not-true, not-false, lt-ltb, le-leb, eq-eqb}
+use Rattle.lists.specs.Find.{pick, both, any}
+use Rattle.lists.proofs.FindLaws.{any-hit}
+use Rattle.image.specs.Refusals.{nodesFit}
+use Rattle.image.specs.declared.Content.{Content}
+use Rattle.machine.specs.Record.{none, node, kept, thread}
+use Rattle.machine.specs.Stage.{own, t, theHead, theNext, uses, stage}
+use Rattle.machine.specs.Start.{threadsFit}
+use Rattle.machine.specs.Range.{isNode, isLink, isFlag, sizesFit, endsFit, freeFits, nodeFits, readFits, nextFits, threadFits, inRange}
+use Rattle.machine.specs.declared.Machine.{Machine}
+use Rattle.machine.specs.declared.Node.{Node}
+use Rattle.machine.specs.declared.Thread.{Thread}
+use Rattle.steps.specs.Ready.{Ready}
+use Rattle.steps.specs.Numbers.{threadNumbers, numbersFit}
+
+-- ---- tests taken apart and put together
+
+pub both-parts : (a b : Bool) → both a b ≡ true → (a ≡ true) × (b ≡ true)
+both-parts true b h = (refl, h)
+both-parts false b h = let z : _≡_ {A = ℕ} 0 1 = cc in absurd (omega arith)
+
+pub both-true : (a b : Bool) → a ≡ true → b ≡ true → both a b ≡ true
+both-true true b h k = k
+both-true false b h k = h
+
+-- no number below n fails the test
+pub all-of : (f : ℕ → Bool) (n : ℕ) → not (any (λ i. not (f i)) n) ≡ true → (i : ℕ) → i < n → f i ≡ true
+all-of f n h i l = by (f i) refl
+  where
+    by : (b : Bool) → f i ≡ b → f i ≡ true
+    by true e = e
+    by false e =
+        let a : any (λ i. not (f i)) n ≡ true = any-hit (λ i. not (f i)) n i l (ap not e) in
+        let b : any (λ i. not (f i)) n ≡ false = not-true (any (λ i. not (f i)) n) h in
+        let z : _≡_ {A = ℕ} 0 1 = cc in absurd (omega arith)
+
+none-any : (f : ℕ → Bool) (n : ℕ) → ((i : ℕ) → i < n → f i ≡ true) → any (λ i. not (f i)) n ≡ false
+unfolding any
+none-any f zero h = refl
+none-any f (suc n) h = rw (h n (omega arith)) (none-any f n (λ i l. h i (omega arith)))
+
+pub of-all : (f : ℕ → Bool) (n : ℕ) → ((i : ℕ) → i < n → f i ≡ true) → not (any (λ i. not (f i)) n) ≡ true
+of-all f n h = ap not (none-any f n h)
+
+-- ---- a node number or none
+
+abbrev pub Link : ℕ → ℕ → Type 0
+Link n x = x ≢ none → x < n
+
+pub link-of : (n x : ℕ) → pick (eqb x none) true (ltb x n) ≡ true → Link n x
+link-of n x = by (eqb x none) refl
+  where
+    by : (b : Bool) → eqb x none ≡ b → pick b true (ltb x n) ≡ true → Link n x
+    by true e h d = absurd (d (eqb-true x none e))
+    by false e h d = ltb-true x n h
+
+pub of-link : (n x : ℕ) → Link n x → pick (eqb x none) true (ltb x n) ≡ true
+of-link n x h = by (eqb x none) refl
+  where
+    by : (b : Bool) → eqb x none ≡ b → pick b true (ltb x n) ≡ true
+    by true e = refl
+    by false e = lt-ltb x n (h (eqb-false x none e))
+
+pub link : {n x : ℕ} → x < n → Link n x
+link h d = h
+
+read-link : (m : Machine) (b : Bool) (x : ℕ) → readFits m b x ≡ true → Link (m .n) x
+read-link m true x e = link (ltb-true x (m .n) e)
+read-link m false x e = link-of (m .n) x e
+
+read-node : (m : Machine) (b : Bool) (x : ℕ) → readFits m b x ≡ true → b ≡ true → x < m .n
+read-node m true x e u = ltb-true x (m .n) e
+read-node m false x e u = let z : _≡_ {A = ℕ} 0 1 = cc in absurd (omega arith)
+
+next-some : (m : Machine) (b : Bool) (x : ℕ) → nextFits m b x ≡ true → b ≡ true → node m x .next ≢ none
+next-some m true x e u = eqb-false (node m x .next) none (not-true (eqb (node m x .next) none) e)
+next-some m false x e u = let z : _≡_ {A = ℕ} 0 1 = cc in absurd (omega arith)
+
+-- ---- the whole record
+
+-- a node with its persisted copy
+pub record NodeFit (n t : ℕ) (v : Node) (c : Content) : Type 0 where
+  pub next-link : Link n (v .next)
+  pub flag : v .linked ≤ 1
+  pub kept-flag : c .linked ≤ 1
+  pub waits-in : v .waits < 2 ^ t
+
+pub record ThreadFit (n : ℕ) (v : Thread) : Type 0 where
+  pub step-in : v .step ≤ 19
+  pub node-link : Link n (v .node)
+  pub tail-link : Link n (v .tail)
+  pub head-link : Link n (v .head)
+  pub next-link : Link n (v .next)
+  pub held-link : Link n (v .held)
+
+pub record SizeFit (n t head tail free : ℕ) : Type 0 where
+  pub n-lo : 2 ≤ n
+  pub n-hi : n ≤ 64
+  pub t-lo : 1 ≤ t
+  pub t-hi : t ≤ 8
+  pub head-in : head < n
+  pub tail-in : tail < n
+  pub free-in : free < 2 ^ n
+
+pub record Fit (m : Machine) : Type 0 where
+  pub sizes : SizeFit (m .n) (m .t) (m .head) (m .tail) (m .free)
+  pub nodes : (i : ℕ) → i < m .n → NodeFit (m .n) (m .t) (node m i) (kept m i)
+  pub threads : (k : ℕ) → k < m .t → ThreadFit (m .n) (thread m k)
+
+-- what thread k's next step uses
+pub record Used (m : Machine) (k : ℕ) : Type 0 where
+  pub own-in : uses (stage m k) own ≡ true → thread m k .node < m .n
+  pub t-in : uses (stage m k) t ≡ true → thread m k .tail < m .n
+  pub head-in : uses (stage m k) theHead ≡ true → thread m k .head < m .n
+  pub next-in : uses (stage m k) theNext ≡ true → thread m k .next < m .n
+  pub t-next : thread m k .step ≡ 12 → node m (thread m k .tail) .next ≢ none
+
+-- ---- from a test to its facts
+
+pub parts5 : (a b c d e : Bool) → both a (both b (both c (both d e))) ≡ true → (a ≡ true) × (b ≡ true) × (c ≡ true) × (d ≡ true) × (e ≡ true)
+parts5 a b c d e h =
+    let p = both-parts a (both b (both c (both d e))) h in
+    let q = both-parts b (both c (both d e)) (p .1) in
+    let r = both-parts c (both d e) (q .1) in
+    let s = both-parts d e (r .1) in
+    (p .0, q .0, r .0, s .0, s .1)
+
+sizes-of : (m : Machine) → sizesFit m ≡ true → endsFit m ≡ true → freeFits m ≡ true → SizeFit (m .n) (m .t) (m .head) (m .tail) (m .free)
+sizes-of m a b c =
+    let s = both-parts (nodesFit (m .n)) (threadsFit (m .t)) a in
+    let n = both-parts (leb 2 (m .n)) (leb (m .n) 64) (s .0) in
+    let t = both-parts (leb 1 (m .t)) (leb (m .t) 8) (s .1) in
+    let e = both-parts (isNode m (m .head)) (isNode m (m .tail)) b in
+    record {
+      n-lo = leb-true 2 (m .n) (n .0);
+      n-hi = leb-true (m .n) 64 (n .1);
+      t-lo = leb-true 1 (m .t) (t .0);
+      t-hi = leb-true (m .t) 8 (t .1);
+      head-in = ltb-true (m .head) (m .n) (e .0);
+      tail-in = ltb-true (m .tail) (m .n) (e .1);
+      free-in = ltb-true (m .free) (2 ^ m .n) c;
+    }
+
+node-of : (m : Machine) (i : ℕ) → nodeFits m i ≡ true → NodeFit (m .n) (m .t) (node m i) (kept m i)
+unfolding nodeFits
+node-of m i h =
+    let x = isLink m (node m i .next) in
+    let f = isFlag (node m i .linked) in
+    let g = isFlag (kept m i .linked) in
+    let w = ltb (node m i .waits) (2 ^ m .t) in
+    let p = both-parts x (both f (both g w)) h in
+    let q = both-parts f (both g w) (p .1) in
+    let r = both-parts g w (q .1) in
+    record {
+      next-link = link-of (m .n) (node m i .next) (p .0);
+      flag = leb-true (node m i .linked) 1 (q .0);
+      kept-flag = leb-true (kept m i .linked) 1 (r .0);
+      waits-in = ltb-true (node m i .waits) (2 ^ m .t) (r .1);
+    }
+
+of-node : (m : Machine) (i : ℕ) → NodeFit (m .n) (m .t) (node m i) (kept m i) → nodeFits m i ≡ true
+unfolding nodeFits
+of-node m i p =
+    let f = isFlag (node m i .linked) in
+    let g = isFlag (kept m i .linked) in
+    let w = ltb (node m i .waits) (2 ^ m .t) in
+    both-true (isLink m (node m i .next)) (both f (both g w)) (of-link (m .n) (node m i .next) (p .next-link))
+    (both-true f (both g w) (le-leb (node m i .linked) 1 (p .flag))
+    (both-true g w (le-leb (kept m i .linked) 1 (p .kept-flag)) (lt-ltb (node m i .waits) (2 ^ m .t) (p .waits-in))))
+
+-- of a thread, with the tests that 18 adds
+record Tests (m : Machine) (k : ℕ) : Type 0 where
+  step-in : leb (thread m k .step) 19 ≡ true
+  own-read : readFits m (uses (stage m k) own) (thread m k .node) ≡ true
+  t-read : readFits m (uses (stage m k) t) (thread m k .tail) ≡ true
+  head-read : readFits m (uses (stage m k) theHead) (thread m k .head) ≡ true
+  next-read : readFits m (uses (stage m k) theNext) (thread m k .next) ≡ true
+  held-read : isLink m (thread m k .held) ≡ true
+  t-next : nextFits m (eqb (thread m k .step) 12) (thread m k .tail) ≡ true
+
+tests-of : (m : Machine) (k : ℕ) → threadFits m k ≡ true → Tests m k
+unfolding threadFits
+tests-of m k h =
+    let v = thread m k in
+    let s = stage m k in
+    let a = readFits m (uses s own) (v .node) in
+    let b = readFits m (uses s t) (v .tail) in
+    let c = readFits m (uses s theHead) (v .head) in
+    let d = readFits m (uses s theNext) (v .next) in
+    let e = isLink m (v .held) in
+    let f = nextFits m (eqb (v .step) 12) (v .tail) in
+    let p0 = both-parts (leb (v .step) 19) (both a (both b (both c (both d (both e f))))) h in
+    let p1 = both-parts a (both b (both c (both d (both e f)))) (p0 .1) in
+    let p2 = both-parts b (both c (both d (both e f))) (p1 .1) in
+    let p3 = both-parts c (both d (both e f)) (p2 .1) in
+    let p4 = both-parts d (both e f) (p3 .1) in
+    let p5 = both-parts e f (p4 .1) in
+    record {
+      step-in = p0 .0;
+      own-read = p1 .0;
+      t-read = p2 .0;
+      head-read = p3 .0;
+      next-read = p4 .0;
+      held-read = p5 .0;
+      t-next = p5 .1;
+    }
+
+thread-tests : (m : Machine) (k : ℕ) → Tests m k → ThreadFit (m .n) (thread m k)
+thread-tests m k h = record {
+  step-in = leb-true (thread m k .step) 19 (h .step-in);
+  node-link = read-link m (uses (stage m k) own) (thread m k .node) (h .own-read);
+  tail-link = read-link m (uses (stage m k) t) (thread m k .tail) (h .t-read);
+  head-link = read-link m (uses (stage m k) theHead) (thread m k .head) (h .head-read);
+  next-link = read-link m (uses (stage m k) theNext) (thread m k .next) (h .next-read);
+  held-link = link-of (m .n) (thread m k .held) (h .held-read);
+}
+
+used-tests : (m : Machine) (k : ℕ) → Tests m k → Used m k
+used-tests m k h = record {
+  own-in = read-node m (uses (stage m k) own) (thread m k .node) (h .own-read);
+  t-in = read-node m (uses (stage m k) t) (thread m k .tail) (h .t-read);
+  head-in = read-node m (uses (stage m k) theHead) (thread m k .head) (h .head-read);
+  next-in = read-node m (uses (stage m k) theNext) (thread m k .next) (h .next-read);
+  t-next = λ e. next-some m (eqb (thread m k .step) 12) (thread m k .tail) (h .t-next) (eq-eqb (thread m k .step) 12 e);
+}
+
+thread-of : (m : Machine) (k : ℕ) → threadNumbers m k ≡ true → ThreadFit (m .n) (thread m k)
+unfolding threadNumbers
+thread-of m k h =
+    let v = thread m k in
+    let a = isLink m (v .node) in
+    let b = isLink m (v .tail) in
+    let c = isLink m (v .head) in
+    let d = isLink m (v .next) in
+    let e = isLink m (v .held) in
+    let p0 = both-parts (leb (v .step) 19) (both a (both b (both c (both d e)))) h in
+    let p = parts5 a b c d e (p0 .1) in
+    record {
+      step-in = leb-true (v .step) 19 (p0 .0);
+      node-link = link-of (m .n) (v .node) (p .0);
+      tail-link = link-of (m .n) (v .tail) (p .1);
+      head-link = link-of (m .n) (v .head) (p .2);
+      next-link = link-of (m .n) (v .next) (p .3);
+      held-link = link-of (m .n) (v .held) (p .4);
+    }
+
+of-thread : (m : Machine) (k : ℕ) → ThreadFit (m .n) (thread m k) → threadNumbers m k ≡ true
+unfolding threadNumbers
+of-thread m k p =
+    let v = thread m k in
+    let n = m .n in
+    let a = isLink m (v .node) in
+    let b = isLink m (v .tail) in
+    let c = isLink m (v .head) in
+    let d = isLink m (v .next) in
+    let e = isLink m (v .held) in
+    both-true (leb (v .step) 19) (both a (both b (both c (both d e)))) (le-leb (v .step) 19 (p .step-in))
+    (both-true a (both b (both c (both d e))) (of-link n (v .node) (p .node-link))
+    (both-true b (both c (both d e)) (of-link n (v .tail) (p .tail-link))
+    (both-true c (both d e) (of-link n (v .head) (p .head-link))
+    (both-true d e (of-link n (v .next) (p .next-link)) (of-link n (v .held) (p .held-link))))))
+
+-- ---- the laws
+
+-- the tests of a whole record
+record Whole (m : Machine) (f : Machine → ℕ → Bool) : Type 0 where
+  sizes : sizesFit m ≡ true
+  ends : endsFit m ≡ true
+  free : freeFits m ≡ true
+  nodes : (i : ℕ) → i < m .n → nodeFits m i ≡ true
+  threads : (k : ℕ) → k < m .t → f m k ≡ true
+
+range-of : (m : Machine) → inRange m ≡ true → Whole m threadFits
+unfolding inRange
+range-of m h =
+    let ns = not (any (λ i. not (nodeFits m i)) (m .n)) in
+    let ts = not (any (λ k. not (threadFits m k)) (m .t)) in
+    let p = parts5 (sizesFit m) (endsFit m) (freeFits m) ns ts h in
+    record { sizes = p .0; ends = p .1; free = p .2; nodes = all-of (nodeFits m) (m .n) (p .3); threads = all-of (threadFits m) (m .t) (p .4) }
+
+numbers-of : (m : Machine) → numbersFit m ≡ true → Whole m threadNumbers
+unfolding numbersFit
+numbers-of m h =
+    let ns = not (any (λ i. not (nodeFits m i)) (m .n)) in
+    let ts = not (any (λ k. not (threadNumbers m k)) (m .t)) in
+    let p = parts5 (sizesFit m) (endsFit m) (freeFits m) ns ts h in
+    record { sizes = p .0; ends = p .1; free = p .2; nodes = all-of (nodeFits m) (m .n) (p .3); threads = all-of (threadNumbers m) (m .t) (p .4) }
+
+-- the facts of a record that passes 18's test, and of one whose numbers fit
+pub fit-range : (m : Machine) → inRange m ≡ true → Fit m
+fit-range m h =
+    let w = range-of m h in
+    record { sizes = sizes-of m (w .sizes) (w .ends) (w .free); nodes = λ i l. node-of m i (w .nodes i l); threads = λ k l. thread-tests m k (tests-of m k (w .threads k l)) }
+
+pub fit-numbers : (m : Machine) → numbersFit m ≡ true → Fit m
+fit-numbers m h =
+    let w = numbers-of m h in
+    record { sizes = sizes-of m (w .sizes) (w .ends) (w .free); nodes = λ i l. node-of m i (w .nodes i l); threads = λ k l. thread-of m k (w .threads k l) }
+
+pub used-range : (m : Machine) (k : ℕ) → inRange m ≡ true → k < m .t → Used m k
+used-range m k h l = used-tests m k (tests-of m k (range-of m h .threads k l))
+
+-- and back
+pub numbers-fit : (m : Machine) → Fit m → numbersFit m ≡ true
+unfolding numbersFit
+numbers-fit m f =
+    let s = f .sizes in
+    let ns = not (any (λ i. not (nodeFits m i)) (m .n)) in
+    let ts = not (any (λ k. not (threadNumbers m k)) (m .t)) in
+    let n2 = both-true (leb 2 (m .n)) (leb (m .n) 64) (le-leb 2 (m .n) (s .n-lo)) (le-leb (m .n) 64 (s .n-hi)) in
+    let t2 = both-true (leb 1 (m .t)) (leb (m .t) 8) (le-leb 1 (m .t) (s .t-lo)) (le-leb (m .t) 8 (s .t-hi)) in
+    let e2 = both-true (isNode m (m .head)) (isNode m (m .tail)) (lt-ltb (m .head) (m .n) (s .head-in)) (lt-ltb (m .tail) (m .n) (s .tail-in)) in
+    both-true (sizesFit m) (both (endsFit m) (both (freeFits m) (both ns ts))) (both-true (nodesFit (m .n)) (threadsFit (m .t)) n2 t2)
+    (both-true (endsFit m) (both (freeFits m) (both ns ts)) e2
+    (both-true (freeFits m) (both ns ts) (lt-ltb (m .free) (2 ^ m .n) (s .free-in))
+    (both-true ns ts (of-all (nodeFits m) (m .n) (λ i l. of-node m i (f .nodes i l))) (of-all (threadNumbers m) (m .t) (λ k l. of-thread m k (f .threads k l))))))
+
+pub range-numbers : (m : Machine) → inRange m ≡ true → numbersFit m ≡ true
+range-numbers m h = numbers-fit m (fit-range m h)
+
+-- what one step needs follows from 18's test
+pub ready : (m : Machine) (k : ℕ) → inRange m ≡ true → k < m .t → Ready m k
+ready m k h l =
+    let f = fit-range m h in
+    let u = used-range m k h l in
+    let hi = f .sizes .n-hi in
+    record {
+      thread-in = omega (arith, f .sizes .t-hi);
+      nodes-in = hi;
+      threads-in = f .sizes .t-hi;
+      free-in = f .sizes .free-in;
+      own-in = λ e. omega (arith, u .own-in e);
+      t-in = λ e. omega (arith, u .t-in e);
+      head-in = λ e. omega (arith, u .head-in e);
+      next-in = λ e. omega (arith, u .next-in e);
+      held-in = λ d. omega (arith, f .threads k l .held-link d);
+    }

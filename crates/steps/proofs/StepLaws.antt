@@ -1,0 +1,61 @@
+-- Laws that the step functions' proofs use.
+use Prim.Native.Nat.{ℕ, zero, suc, _+_, _-_, _^_, _≤_, _<_}
+use mathlib.Core.Path.{_≡_, refl, sym, ap, _∙_}
+use mathlib.Core.Bool.{Bool, true, false}
+use mathlib.Core.Logic.{_≢_}
+use native.Mathlib.Nat.{pos-of-ne-zero}
+use native.Mathlib.Omega.{arith}
+use lib.ListN.{List·getD-eq-default}
+use lib.Pow.{pow-mono}
+use Rattle.lists.specs.Find.{pick, least}
+use Rattle.lists.specs.Word.{has, with, wordOf}
+use Rattle.bits.proofs.WordLaws as words
+use Rattle.machine.specs.Record.{node, contentOf, putKept}
+use Rattle.machine.specs.Stage.{noStep, stages, stageOf}
+use Rattle.machine.specs.Line.{persist}
+use Rattle.machine.specs.Retire.{others, nextFree}
+use Rattle.machine.specs.declared.Machine.{Machine}
+use Rattle.steps.specs.Others.{isOther, joined, othersBelow}
+
+-- a number above all those in the set
+pub with-new : (w i : ℕ) → w < 2 ^ i → with w i ≡ w + 2 ^ i
+unfolding with
+with-new w i h = rw (words.has-beyond i w i h (omega arith))
+
+-- ---- the free node that A1 takes
+
+pub lowest-free : (m : Machine) → m .free ≢ 0 → m .free < 2 ^ m .n → m .n ≤ 64 → least (has (m .free)) 64 0 ≡ nextFree m
+unfolding nextFree
+lowest-free m d f h = words.least-narrow (m .n) 64 (m .free) (pos-of-ne-zero d) f h
+
+pub lowest-lt : (m : Machine) → m .free ≢ 0 → m .free < 2 ^ m .n → m .n ≤ 64 → least (has (m .free)) 64 0 < 64
+lowest-lt m d f h = words.least-lt 64 (m .free) (pos-of-ne-zero d) (omega (arith, pow-mono h))
+
+-- ---- the other threads
+
+pub below-is : (m : Machine) (k n : ℕ) → othersBelow m k n ≡ wordOf (λ u. isOther m k u) n
+unfolding othersBelow wordOf
+below-is m k zero = refl
+below-is m k (suc n) = ap (λ (w : ℕ). joined m k n w) (below-is m k n)
+
+pub others-is : (m : Machine) (k : ℕ) → others m k ≡ othersBelow m k (m .t)
+unfolding others
+others-is m k = sym (below-is m k (m .t))
+
+pub below-lt : (m : Machine) (k n : ℕ) → othersBelow m k n < 2 ^ n
+below-lt m k n = rw (below-is m k n) (words.wordOf-lt (λ u. isOther m k u) n)
+
+-- ---- a node's line, by the line's number
+
+pub persist-node : (m : Machine) (l : ℕ) → 0 < l → persist m l ≡ putKept m (l - 1) (contentOf (node m (l - 1)))
+persist-node m zero h = absurd (omega arith)
+persist-node m (suc i) h = let e : suc i - 1 ≡ i = omega arith in rw e
+
+-- ---- a number above 19 names no step
+
+pub no-step : (s : ℕ) → 19 < s → stageOf s ≡ noStep
+no-step s h = List·getD-eq-default stages noStep h
+
+-- one number of a range is left out after the other
+pub past : (n s : ℕ) → n ≤ s → s ≢ n → suc n ≤ s
+past n s h d = omega arith

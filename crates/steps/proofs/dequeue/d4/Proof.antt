@@ -1,0 +1,65 @@
+use borrow.Author.Tests.{eq-eqb, ne-eqb}
+use borrow.Author.Needs.{needs}
+use Rattle.steps.proofs.dequeue.d4.Statement.{statement}
+use Rattle.steps.proofs.dequeue.d4.Tie as tie
+
+mul-th : tie.Need-mul-th
+mul-th c = search needs
+
+element-copy-out-th : tie.Need-element-copy-out-th
+element-copy-out-th c = search needs
+
+cast-x : tie.Need-cast-x
+cast-x c = search needs
+
+mul-v : tie.Need-mul-v
+mul-v c = search needs
+
+element-copy-out-v : tie.Need-element-copy-out-v
+element-copy-out-v c = search needs
+
+mul-r : tie.Need-mul-r
+mul-r c = search needs
+
+way-write-given-r : tie.Need-way-write-given-r
+way-write-given-r c = search needs
+
+returns : tie.Need-returns
+returns c = simp (eq-eqb _ _ (c .before .before .before .before .before .if1 .taken), eq-eqb _ _ (c .before .before .before .if2 .taken))
+
+mul-r-2 : tie.Need-mul-r-2
+mul-r-2 c = search needs
+
+way-write-given-r-2 : tie.Need-way-write-given-r-2
+way-write-given-r-2 c = search needs
+
+returns-2 : tie.Need-returns-2
+returns-2 c = simp (eq-eqb _ _ (c .before .before .before .if1 .taken), ne-eqb _ _ (c .before .if2 .left))
+
+mul-r-3 : tie.Need-mul-r-3
+mul-r-3 c = search needs
+
+way-write-given-r-3 : tie.Need-way-write-given-r-3
+way-write-given-r-3 c = search needs
+
+returns-3 : tie.Need-returns-3
+returns-3 c = simp (ne-eqb _ _ (c .before .if1 .left))
+
+pub d4-spec : {M : Type 1} → statement M
+d4-spec =
+    tie.close
+    (tie.spec
+    mul-th
+    element-copy-out-th
+    cast-x
+    mul-v
+    element-copy-out-v
+    mul-r
+    way-write-given-r
+    returns
+    mul-r-2
+    way-write-given-r-2
+    returns-2
+    mul-r-3
+    way-write-given-r-3
+    returns-3)

@@ -1,0 +1,92 @@
+use Prim.Native.Nat.{_<_}
+use Rattle.steps.proofs.StepLaws as laws
+use Rattle.machine.specs.Record.{thread}
+use native.Mathlib.Omega.{arith}
+use borrow.Author.Needs.{needs}
+use Rattle.steps.proofs.dequeue_step.Statement.{statement}
+use Rattle.steps.proofs.dequeue_step.Tie as tie
+use Rattle.steps.proofs.dequeue.d1.Reads as d1-reads
+use Rattle.steps.proofs.dequeue.d2.Reads as d2-reads
+use Rattle.steps.proofs.dequeue.d3.Reads as d3-reads
+use Rattle.steps.proofs.dequeue.d4.Reads as d4-reads
+use Rattle.steps.proofs.dequeue.d5.Reads as d5-reads
+use Rattle.steps.proofs.dequeue.d6.Reads as d6-reads
+use Rattle.steps.proofs.dequeue.d7.Reads as d7-reads
+
+mul-th : tie.Need-mul-th
+mul-th c = search needs
+
+element-copy-out-th : tie.Need-element-copy-out-th
+element-copy-out-th c = search needs
+
+d1-requires : tie.Need-d1-requires
+d1-requires c κs = search needs
+
+d2-requires : tie.Need-d2-requires
+d2-requires c κs = let r = c .before .before .pre .0 in (r .thread-in, r .head-in (rw (c .match .keys2)))
+
+d3-requires : tie.Need-d3-requires
+d3-requires c κs = search needs
+
+d4-requires : tie.Need-d4-requires
+d4-requires c κs = let r = c .before .before .pre .0 in (r .thread-in, r .next-in (rw (c .match .keys4)))
+
+d5-requires : tie.Need-d5-requires
+d5-requires c κs = let r = c .before .before .pre .0 in (r .thread-in, r .next-in (rw (c .match .keys5)))
+
+d6-requires : tie.Need-d6-requires
+d6-requires c κs = search needs
+
+d7-requires : tie.Need-d7-requires
+d7-requires c κs = search needs
+
+returns : tie.Need-returns
+returns c = rw (c .d1 .ensures, c .before .match .keys1)
+
+returns-2 : tie.Need-returns-2
+returns-2 c = rw (c .d2 .ensures, c .before .match .keys2)
+
+returns-3 : tie.Need-returns-3
+returns-3 c = rw (c .d3 .ensures, c .before .match .keys3)
+
+returns-4 : tie.Need-returns-4
+returns-4 c = rw (c .d4 .ensures, c .before .match .keys4)
+
+returns-5 : tie.Need-returns-5
+returns-5 c = rw (c .d5 .ensures, c .before .match .keys5)
+
+returns-6 : tie.Need-returns-6
+returns-6 c = rw (c .d6 .ensures, c .before .match .keys6)
+
+returns-7 : tie.Need-returns-7
+returns-7 c = rw (c .d7 .ensures, c .before .match .keys7)
+
+returns-8 : tie.Need-returns-8
+returns-8 c =
+    let a = c .before .before .args in
+    let r = c .match .rest in
+    let s = thread (a .t1) (a .k) .step in
+    let h : 19 < s = laws.past 19 s (laws.past 18 s (laws.past 17 s (laws.past 16 s (laws.past 15 s (laws.past 14 s (laws.past 13 s (omega arith) (r .0 .0 .0 .0 .0 .0 .1)) (r .0 .0 .0 .0 .0 .1)) (r .0 .0 .0 .0 .1)) (r .0 .0 .0 .1)) (r .0 .0 .1)) (r .0 .1)) (r .1) in
+    rw (laws.no-step s h)
+
+pub dequeue-step-spec : {M : Type 1} → statement M
+dequeue-step-spec =
+    tie.close
+    (tie.spec
+    mul-th
+    element-copy-out-th
+    d1-requires
+    d2-requires
+    d3-requires
+    d4-requires
+    d5-requires
+    d6-requires
+    d7-requires
+    returns
+    returns-2
+    returns-3
+    returns-4
+    returns-5
+    returns-6
+    returns-7
+    returns-8)

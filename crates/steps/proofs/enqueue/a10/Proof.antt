@@ -1,0 +1,42 @@
+use native.Mathlib.Numerals.{add-one}
+use borrow.Author.Needs.{needs}
+use Rattle.steps.proofs.enqueue.a10.Statement.{statement}
+use Rattle.steps.proofs.enqueue.a10.Tie as tie
+use Rattle.steps.proofs.persist_line.Reads as persist-line-reads
+
+mul-th : tie.Need-mul-th
+mul-th c = search needs
+
+element-copy-out-th : tie.Need-element-copy-out-th
+element-copy-out-th c = search needs
+
+cast-i : tie.Need-cast-i
+cast-i c = search needs
+
+add-persist-line : tie.Need-add-persist-line
+add-persist-line c = search needs
+
+persist-line-requires : tie.Need-persist-line-requires
+persist-line-requires c κs = search needs
+
+mul-r : tie.Need-mul-r
+mul-r c = search needs
+
+way-write-given-r : tie.Need-way-write-given-r
+way-write-given-r c = search needs
+
+returns : tie.Need-returns
+returns c = rw (c .before .persist-line .ensures, add-one)
+
+pub a10-spec : {M : Type 1} → statement M
+a10-spec =
+    tie.close
+    (tie.spec
+    mul-th
+    element-copy-out-th
+    cast-i
+    add-persist-line
+    persist-line-requires
+    mul-r
+    way-write-given-r
+    returns)
