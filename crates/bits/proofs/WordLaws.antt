@@ -4,12 +4,11 @@ use mathlib.Core.Path.{_≡_, refl, sym, ap, ap₂, _∙_}
 use mathlib.Core.Bool.{Bool, true, false}
 use mathlib.Core.Logic.{_≢_, _⊎_, inl, inr}
 use native.Mathlib.Nat.{pow-suc, pow-succ', div-one, div-div-eq-div-mul, one-mul, mod-eq-of-lt, eq-or-lt-of-le, le-of-suc-le-suc}
-use native.Mathlib.Decide.{ℕ-discrete}
 use native.Mathlib.Omega.{arith}
 use lib.Dec.{eqb}
 use lib.Pow.{pow-lt, pow-mono}
 use lib.Count.{ones, ones-step, trailingZeros, under}
-use borrow.Author.Tests.{eqb-true, eqb-false, ne-eqb}
+use borrow.Author.Tests.{eqb-true, eqb-false}
 use Rattle.lists.specs.Find.{pick, least, count}
 use Rattle.lists.specs.Word.{has, with, without, wordOf}
 

@@ -2,3 +2,10 @@ pub mod RisenLaws
 pub mod QueueLaws
 pub mod WordLaws
 pub mod TableLaws
+pub mod AnswerLaws
+pub mod LinkLaws
+pub mod AcceptedLaws
+pub mod Unique
+pub mod StartLaws
+pub mod RangeLaws
+pub mod FreshLaws

@@ -1,6 +1,6 @@
 -- What each turn of a loop of the start adds, at the code's numbers. Assumes nothing.
-use Prim.Native.Nat.{ℕ, zero, suc, _+_, _≤_, _<_, _^_}
-use mathlib.Core.Path.{_≡_, refl, sym, ap, _∙_}
+use Prim.Native.Nat.{ℕ, suc, _+_, _≤_, _<_, _^_}
+use mathlib.Core.Path.{_≡_, refl, ap, _∙_}
 use mathlib.Core.Bool.{Bool, true, false, not}
 use mathlib.Core.List.{List, [], _∷_}
 use native.Mathlib.Omega.{arith}
@@ -9,7 +9,7 @@ use native.Mathlib.Numerals.{add-one}
 use lib.Pow.{pow-mono}
 use borrow.Author.Tests.{eq-eqb, ne-eqb}
 use lib.Dec.{eqb}
-use lib.ListN.{length, getD, set, take, drop, drop-of-length-le, length-replicate}
+use lib.ListN.{length, getD, set, take, drop, drop-of-length-le}
 use lib.Seq.{length-take-le, drop-cons, getD-take}
 use Rattle.lists.specs.Find.{pick}
 use Rattle.lists.specs.Tab.{tab, front}
@@ -41,7 +41,7 @@ pub last-end : (l : List ℕ) (c p a : ℕ) → c ≤ p → c ≤ length l → l
 unfolding lastOf
 last-end l c p a h f = ap (lastOf a) (rest-none l c p h f)
 
-behind-by : (b : Bool) (a x i : ℕ) (l : List ℕ) → eqb a i ≡ b → behind (a ∷ x ∷ l) i ≡ pick b x (behind (x ∷ l) i)
+pub behind-by : (b : Bool) (a x i : ℕ) (l : List ℕ) → eqb a i ≡ b → behind (a ∷ x ∷ l) i ≡ pick b x (behind (x ∷ l) i)
 unfolding behind
 behind-by true a x i l e = ap (λ (b : Bool). elim b as (λ _. ℕ) [ true ↦ x | false ↦ behind (x ∷ l) i ]) e
 behind-by false a x i l e = ap (λ (b : Bool). elim b as (λ _. ℕ) [ true ↦ x | false ↦ behind (x ∷ l) i ]) e

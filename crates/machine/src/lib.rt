@@ -1,10 +1,17 @@
 // The machine record: plain numbers, by value. docs/DECISIONS.md lists every field with its range.
 use answer::Answer;
 use image::Content;
+use image::Image;
+use image::no_contents;
 
 pub mod blank;
 pub mod queue;
 pub mod start;
+
+pub use start::start_from;
+ghost use mathlib.Core.Path.{_≡_};
+ghost use Rattle.answer.specs.Answers.{told};
+ghost use Rattle.machine.specs.Start.{freshFrom};
 
 // A node's cached copy, its link (255: none), and the threads it waits for, as a set.
 pub struct Node {
@@ -57,6 +64,16 @@ impl Machine {
     pub const ENDINGS: usize = 65536;
 
     pub const EVENTS: usize = 4096;
+
+    // The fresh machine of N nodes and T threads: the start of the all-zero image. Public: every input is answered.
+    pub fn fresh(n: u8, t: u8) -> Out
+        ensures answered { λ r. ⌜ told (r .answer) ≡ told (freshFrom n t .answer) ⌝ }
+        ensures started { λ r. ⌜ r .machine ≡ freshFrom n t .machine ⌝ }
+    {
+        let nodes = no_contents();
+        let g = Image { n, head: 0, nodes };
+        start_from(g, t)
+    }
 }
 
 // An event of a schedule: its six bytes.

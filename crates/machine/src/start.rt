@@ -19,8 +19,9 @@ use image::sound_of;
 ghost use mathlib.Core.Path.{_≡_};
 ghost use Prim.Native.Nat.{suc, _≤_, _<_};
 ghost use Rattle.answer.specs.Answers.{told};
-ghost use Rattle.machine.specs.Start.{queueOf, startNode, startOf, startFrom};
-ghost use Rattle.machine.specs.Laid.{laid, startNodes, startKept, startFree};
+ghost use Rattle.image.specs.Refusals.{nodesFit};
+ghost use Rattle.machine.specs.Start.{queueOf, startNode, startOf, threadsFit, startFrom};
+ghost use Rattle.machine.specs.Laid.{laid, refusedStart, startNodes, startKept, startFree};
 
 // Node i after a start whose dummy is d: the cached copy is read anew, the dummy's cached index becomes the head index.
 fn node_of(g: Image, d: u8, q: Queue, i: usize) -> Node
@@ -134,4 +135,54 @@ pub fn start(g: Image, t: u8) -> Machine
         kept,
         threads,
     }
+}
+
+// 3: N is 2 to 64.
+pub fn nodes_fit(n: u8) -> bool
+    ensures { λ r. ⌜ r ≡ nodesFit n ⌝ }
+{
+    if 2 <= n {
+        return n as usize <= Machine::NODES;
+    }
+    false
+}
+
+// 4: T is 1 to 8.
+pub fn threads_fit(t: u8) -> bool
+    ensures { λ r. ⌜ r ≡ threadsFit t ⌝ }
+{
+    if 1 <= t {
+        return t as usize <= Machine::THREADS;
+    }
+    false
+}
+
+// A refused start: its number and place, and a machine that holds nothing.
+fn refused(a: Answer) -> Out
+    ensures { λ r. ⌜ r ≡ refusedStart a ⌝ }
+{
+    let machine = blank_machine();
+    Out { answer: a, machine }
+}
+
+// A start from contents and T, tested for 4, 3, 6, 7, 8. Public: every input is answered.
+pub fn start_from(g: Image, t: u8) -> Out
+    ensures answered { λ r. ⌜ told (r .answer) ≡ told (startFrom g t .answer) ⌝ }
+    ensures started { λ r. ⌜ r .machine ≡ startFrom g t .machine ⌝ }
+{
+    if !threads_fit(t) {
+        return refused(Answer::Threads);
+    }
+    if !nodes_fit(g.n) {
+        return refused(Answer::Nodes);
+    }
+    let a = sound_of(g);
+    if let Answer::Taken = a {
+        let machine = start(g, t);
+        return Out {
+            answer: Answer::Taken,
+            machine,
+        };
+    }
+    refused(a)
 }

@@ -1,2 +1,4 @@
 pub mod StepLaws
 pub mod Fit
+pub mod Keep
+pub mod Kept

@@ -1,13 +1,12 @@
 -- Laws that the step functions' proofs use.
 use Prim.Native.Nat.{ℕ, zero, suc, _+_, _-_, _^_, _≤_, _<_}
-use mathlib.Core.Path.{_≡_, refl, sym, ap, _∙_}
-use mathlib.Core.Bool.{Bool, true, false}
+use mathlib.Core.Path.{_≡_, refl, sym, ap}
 use mathlib.Core.Logic.{_≢_}
 use native.Mathlib.Nat.{pos-of-ne-zero}
 use native.Mathlib.Omega.{arith}
 use lib.ListN.{List·getD-eq-default}
 use lib.Pow.{pow-mono}
-use Rattle.lists.specs.Find.{pick, least}
+use Rattle.lists.specs.Find.{least}
 use Rattle.lists.specs.Word.{has, with, wordOf}
 use Rattle.bits.proofs.WordLaws as words
 use Rattle.machine.specs.Record.{node, contentOf, putKept}

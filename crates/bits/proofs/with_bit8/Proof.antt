@@ -4,7 +4,6 @@ use mathlib.Core.Path.{sym, _∙_}
 use borrow.Author.Needs.{needs}
 use Rattle.bits.proofs.with_bit8.Statement.{statement}
 use Rattle.bits.proofs.with_bit8.Tie as tie
-use Rattle.bits.proofs.is_in8.Reads as is-in8-reads
 
 is-in8-requires : tie.Need-is-in8-requires
 is-in8-requires c κs = search needs

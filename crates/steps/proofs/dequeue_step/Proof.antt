@@ -5,13 +5,6 @@ use native.Mathlib.Omega.{arith}
 use borrow.Author.Needs.{needs}
 use Rattle.steps.proofs.dequeue_step.Statement.{statement}
 use Rattle.steps.proofs.dequeue_step.Tie as tie
-use Rattle.steps.proofs.dequeue.d1.Reads as d1-reads
-use Rattle.steps.proofs.dequeue.d2.Reads as d2-reads
-use Rattle.steps.proofs.dequeue.d3.Reads as d3-reads
-use Rattle.steps.proofs.dequeue.d4.Reads as d4-reads
-use Rattle.steps.proofs.dequeue.d5.Reads as d5-reads
-use Rattle.steps.proofs.dequeue.d6.Reads as d6-reads
-use Rattle.steps.proofs.dequeue.d7.Reads as d7-reads
 
 mul-th : tie.Need-mul-th
 mul-th c = search needs

@@ -5,18 +5,6 @@ use native.Mathlib.Omega.{arith}
 use borrow.Author.Needs.{needs}
 use Rattle.steps.proofs.enqueue_step.Statement.{statement}
 use Rattle.steps.proofs.enqueue_step.Tie as tie
-use Rattle.steps.proofs.enqueue.a1.Reads as a1-reads
-use Rattle.steps.proofs.enqueue.a10.Reads as a10-reads
-use Rattle.steps.proofs.enqueue.a11.Reads as a11-reads
-use Rattle.steps.proofs.enqueue.a12.Reads as a12-reads
-use Rattle.steps.proofs.enqueue.a2.Reads as a2-reads
-use Rattle.steps.proofs.enqueue.a3.Reads as a3-reads
-use Rattle.steps.proofs.enqueue.a4.Reads as a4-reads
-use Rattle.steps.proofs.enqueue.a5.Reads as a5-reads
-use Rattle.steps.proofs.enqueue.a6.Reads as a6-reads
-use Rattle.steps.proofs.enqueue.a7.Reads as a7-reads
-use Rattle.steps.proofs.enqueue.a8.Reads as a8-reads
-use Rattle.steps.proofs.enqueue.a9.Reads as a9-reads
 
 mul-th : tie.Need-mul-th
 mul-th c = search needs

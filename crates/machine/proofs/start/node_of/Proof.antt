@@ -1,4 +1,3 @@
-use mathlib.Core.Path.{_≡_, _∙_}
 use borrow.Author.Tests.{eq-eqb, ne-eqb}
 use Rattle.machine.proofs.QueueLaws as queues
 use native.Mathlib.Omega.{arith}

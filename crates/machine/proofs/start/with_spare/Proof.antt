@@ -1,4 +1,4 @@
-use mathlib.Core.Path.{_≡_, sym, _∙_}
+use mathlib.Core.Path.{sym, _∙_}
 use Rattle.machine.proofs.TableLaws as tables
 use Rattle.machine.proofs.WordLaws.{one-shifted}
 use borrow.Author.Needs.{needs}

@@ -3,8 +3,6 @@ use Rattle.machine.specs.Retire.{retired}
 use borrow.Author.Needs.{needs}
 use Rattle.steps.proofs.dequeue.d7.Statement.{statement}
 use Rattle.steps.proofs.dequeue.d7.Tie as tie
-use Rattle.steps.proofs.leaving.leave.Reads as leave-reads
-use Rattle.steps.proofs.retiring.retire.Reads as retire-reads
 
 mul-th : tie.Need-mul-th
 mul-th c = search needs

@@ -5,9 +5,6 @@ use mathlib.Core.Path.{_∙_}
 use borrow.Author.Needs.{needs}
 use Rattle.steps.proofs.enqueue.a1.Statement.{statement}
 use Rattle.steps.proofs.enqueue.a1.Tie as tie
-use Rattle.bits.proofs.lowest.Reads as lowest-reads
-use Rattle.bits.proofs.without_bit.Reads as without-bit-reads
-use Rattle.steps.proofs.leaving.leave.Reads as leave-reads
 
 mul-th : tie.Need-mul-th
 mul-th c = search needs

@@ -2,7 +2,6 @@ use native.Mathlib.Numerals.{add-one}
 use borrow.Author.Needs.{needs}
 use Rattle.steps.proofs.enqueue.a10.Statement.{statement}
 use Rattle.steps.proofs.enqueue.a10.Tie as tie
-use Rattle.steps.proofs.persist_line.Reads as persist-line-reads
 
 mul-th : tie.Need-mul-th
 mul-th c = search needs

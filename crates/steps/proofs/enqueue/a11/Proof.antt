@@ -2,7 +2,6 @@ use borrow.Author.Tests.{eq-eqb, ne-eqb}
 use borrow.Author.Needs.{needs}
 use Rattle.steps.proofs.enqueue.a11.Statement.{statement}
 use Rattle.steps.proofs.enqueue.a11.Tie as tie
-use Rattle.steps.proofs.leaving.leave.Reads as leave-reads
 
 mul-th : tie.Need-mul-th
 mul-th c = search needs

@@ -2,8 +2,6 @@ use borrow.Author.Tests.{eq-eqb, ne-eqb}
 use borrow.Author.Needs.{needs}
 use Rattle.steps.proofs.enqueue.a7.Statement.{statement}
 use Rattle.steps.proofs.enqueue.a7.Tie as tie
-use Rattle.bits.proofs.with_bit.Reads as with-bit-reads
-use Rattle.steps.proofs.leaving.leave.Reads as leave-reads
 
 mul-th : tie.Need-mul-th
 mul-th c = search needs

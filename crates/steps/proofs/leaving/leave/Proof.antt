@@ -1,4 +1,3 @@
-use borrow.Author.Tests.{eq-eqb, ne-eqb}
 use Rattle.machine.specs.Retire.{released}
 use native.Mathlib.Numerals.{add-one}
 use Prim.Native.Nat.{_≤_, _-_}
@@ -6,7 +5,6 @@ use mathlib.Core.Path.{_≡_, refl, _∙_}
 use native.Mathlib.Omega.{arith}
 use Rattle.steps.proofs.leaving.leave.Statement.{statement}
 use Rattle.steps.proofs.leaving.leave.Tie as tie
-use Rattle.steps.proofs.leaving.release.Reads as release-reads
 
 abbrev Inv-loop : tie.InvT-loop
 Inv-loop k x n r₀ i₀ r i = (i ≤ n) × (r ≡ released r₀ k i)

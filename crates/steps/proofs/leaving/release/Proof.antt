@@ -4,9 +4,6 @@ use Rattle.machine.specs.Retire.{releasedAt}
 use borrow.Author.Needs.{needs}
 use Rattle.steps.proofs.leaving.release.Statement.{statement}
 use Rattle.steps.proofs.leaving.release.Tie as tie
-use Rattle.bits.proofs.is_in8.Reads as is-in8-reads
-use Rattle.bits.proofs.with_bit.Reads as with-bit-reads
-use Rattle.bits.proofs.without_bit8.Reads as without-bit8-reads
 
 mul-v : tie.Need-mul-v
 mul-v c = search needs

@@ -6,7 +6,6 @@ use mathlib.Core.Path.{_≡_, refl, sym, ap, _∙_}
 use native.Mathlib.Omega.{arith}
 use Rattle.steps.proofs.retiring.all_others.Statement.{statement}
 use Rattle.steps.proofs.retiring.all_others.Tie as tie
-use Rattle.steps.proofs.retiring.join.Reads as join-reads
 
 abbrev Inv-loop : tie.InvT-loop
 Inv-loop m k n w₀ u₀ w u = (u ≤ n) × (w ≡ othersBelow m k u)

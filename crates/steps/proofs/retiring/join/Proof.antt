@@ -3,7 +3,6 @@ use Rattle.steps.proofs.StepLaws as laws
 use borrow.Author.Needs.{needs}
 use Rattle.steps.proofs.retiring.join.Statement.{statement}
 use Rattle.steps.proofs.retiring.join.Tie as tie
-use Rattle.bits.proofs.with_bit8.Reads as with-bit8-reads
 
 returns : tie.Need-returns
 returns c = simp (eq-eqb _ _ (c .if1 .taken))

@@ -4,8 +4,6 @@ use Rattle.machine.specs.Retire.{retired}
 use borrow.Author.Needs.{needs}
 use Rattle.steps.proofs.retiring.retire.Statement.{statement}
 use Rattle.steps.proofs.retiring.retire.Tie as tie
-use Rattle.bits.proofs.with_bit.Reads as with-bit-reads
-use Rattle.steps.proofs.retiring.all_others.Reads as all-others-reads
 
 all-others-requires : tie.Need-all-others-requires
 all-others-requires c κs = search needs

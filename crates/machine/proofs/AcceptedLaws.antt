@@ -1,0 +1,126 @@
+-- What an accepted start knows of its image and of T. Assumes nothing.
+use Prim.Native.Nat.{ℕ, zero, suc, _+_, _≤_, _<_}
+use mathlib.Core.Path.{_≡_, refl, sym, _∙_}
+use mathlib.Core.Bool.{Bool, true, false, not}
+use mathlib.Core.Logic.{_≢_, _⊎_, inl, inr}
+use native.Mathlib.Omega.{arith}
+use native.Mathlib.Nat.{eq-or-lt-of-le}
+use borrow.Author.Tests.{ltb-false, eqb-false, eq-eqb, not-true, not-false}
+use lib.Dec.{eqb, ltb}
+use Rattle.lists.specs.Find.{pick, least, any}
+use Rattle.lists.proofs.FindLaws as find
+use Rattle.answer.specs.Answers.{check, accepted}
+use Rattle.answer.specs.declared.Answer.the-variants.{Taken, Nodes, Threads, Linked, Twin, NoDummy}
+use Rattle.image.specs.declared.Image.{Image}
+use Rattle.image.specs.Layout.{contentAt}
+use Rattle.image.specs.Recovered.{recoveredAt, twins, hasTwin, firstUnclear, firstTwin, dummyOf}
+use Rattle.image.specs.Refusals.{nodesFit, startable, sound}
+use Rattle.machine.specs.Start.{threadsFit, startAnswer}
+use Rattle.machine.proofs.AnswerLaws.{nodes-range, threads-range}
+use Rattle.machine.proofs.TableLaws.{dummy-le}
+
+-- ---- searches
+
+never : {A : Type 0} → true ≡ false → A
+never e = let z : _≡_ {A = ℕ} 0 1 = cc in absurd (omega arith)
+
+-- a search that stopped before its end stopped at a number that the test holds of
+pub least-found : (f : ℕ → Bool) (k s : ℕ) → least f k s < s + k → f (least f k s) ≡ true
+unfolding least
+least-found f zero s h = absurd (omega arith)
+least-found f (suc k) s h = by (f s) refl (least-found f k (suc s)) h
+  where
+    by : (b : Bool) → f s ≡ b → (least f k (suc s) < suc s + k → f (least f k (suc s)) ≡ true) → pick b s (least f k (suc s)) < s + suc k → f (pick b s (least f k (suc s))) ≡ true
+    by true e r h = e
+    by false e r h = r (omega arith)
+
+-- and the test failed at every number before it
+pub least-before : (f : ℕ → Bool) (k s i : ℕ) → s ≤ i → i < least f k s → f i ≡ false
+unfolding least
+least-before f zero s i a b = absurd (omega arith)
+least-before f (suc k) s i a b = by (f s) refl (least-before f k (suc s) i) b (eq-or-lt-of-le a)
+  where
+    by : (t : Bool) → f s ≡ t → (suc s ≤ i → i < least f k (suc s) → f i ≡ false) → i < pick t s (least f k (suc s)) → (s ≡ i) ⊎ (s < i) → f i ≡ false
+    by true e r b d = absurd (omega arith)
+    by false e r b (inl z) = rw (← z) e
+    by false e r b (inr z) = r z b
+
+-- where no number below n has it, none does
+pub any-none : (f : ℕ → Bool) (n : ℕ) → ((i : ℕ) → i < n → f i ≡ false) → any f n ≡ false
+unfolding any
+any-none f zero h = refl
+any-none f (suc n) h = rw (h n (omega arith)) (any-none f n (λ i p. h i (omega arith)))
+
+-- and the other way
+pub any-clear : (f : ℕ → Bool) (n j : ℕ) → any f n ≡ false → j < n → f j ≡ false
+any-clear f n j e h = by (f j) refl
+  where
+    by : (b : Bool) → f j ≡ b → f j ≡ false
+    by true x = never (sym (find.any-hit f n j h x) ∙ e)
+    by false x = x
+
+-- ---- the answer is Taken
+
+tests :
+    (a b u w z : Bool) (i j : ℕ) →
+    accepted (check (not a) Threads (check (not b) Nodes (check u (Linked i) (check w (Twin j) (check z NoDummy Taken))))) ≡ true →
+    (a ≡ true) × (b ≡ true) × (u ≡ false) × (w ≡ false) × (z ≡ false)
+tests false b u w z i j e = never (sym e)
+tests true false u w z i j e = never (sym e)
+tests true true true w z i j e = never (sym e)
+tests true true false true z i j e = never (sym e)
+tests true true false false true i j e = never (sym e)
+tests true true false false false i j e = (refl, refl, refl, refl, refl)
+
+-- an accepted start is Taken
+pub taken-start : (g : Image) (t : ℕ) → accepted (startAnswer g t) ≡ true → startAnswer g t ≡ Taken
+unfolding startAnswer sound startable
+taken-start g t e =
+    let r = tests (threadsFit t) (nodesFit (g .n)) (ltb (firstUnclear g) (g .n)) (ltb (firstTwin g) (g .n)) (eqb (dummyOf g) (g .n)) (firstUnclear g) (firstTwin g) e in
+    rw (r .0, r .1, r .2, r .3, r .4)
+
+-- in the words of the refusals: T and N in range, no unclear linked byte, no twins, a node for the dummy
+pub record Accepted (g : Image) (t : ℕ) : Type 0 where
+  pub threads : (1 ≤ t) × (t ≤ 8)
+  pub nodes : (2 ≤ g .n) × (g .n ≤ 64)
+  pub clear : (i : ℕ) → i < g .n → contentAt (g .nodes) i .linked ≤ 1
+  pub single : (i j : ℕ) → i < g .n → j < i → recoveredAt g i ≡ true → recoveredAt g j ≡ true → contentAt (g .nodes) i .index ≢ contentAt (g .nodes) j .index
+  pub dummy : dummyOf g < g .n
+
+no-twins : (g : Image) → g .n ≤ firstTwin g → (i j : ℕ) → i < g .n → j < i → twins g i j ≡ false
+unfolding firstTwin hasTwin
+no-twins g h i j a b = any-clear (twins g i) i j (find.least-clear (hasTwin g) (g .n) 0 (omega arith) i (omega arith) (omega arith)) b
+
+twin-free : (g : Image) (i j : ℕ) → twins g i j ≡ false → recoveredAt g i ≡ true → recoveredAt g j ≡ true → contentAt (g .nodes) i .index ≢ contentAt (g .nodes) j .index
+unfolding twins
+twin-free g i j e p q s =
+    let x : eqb (contentAt (g .nodes) i .index) (contentAt (g .nodes) j .index) ≡ false = rw (p, q) at e in
+    never (sym (eq-eqb (contentAt (g .nodes) i .index) (contentAt (g .nodes) j .index) s) ∙ x)
+
+clear-at : (g : Image) → g .n ≤ firstUnclear g → (i : ℕ) → i < g .n → contentAt (g .nodes) i .linked ≤ 1
+unfolding firstUnclear
+clear-at g h i a =
+    ltb-false 1 (contentAt (g .nodes) i .linked)
+    (find.least-clear (λ i. ltb 1 (contentAt (g .nodes) i .linked)) (g .n) 0 (omega arith) i (omega arith) (omega arith))
+
+pub accepted-start : (g : Image) (t : ℕ) → accepted (startAnswer g t) ≡ true → Accepted g t
+unfolding startAnswer sound startable
+accepted-start g t e =
+    let r = tests (threadsFit t) (nodesFit (g .n)) (ltb (firstUnclear g) (g .n)) (ltb (firstTwin g) (g .n)) (eqb (dummyOf g) (g .n)) (firstUnclear g) (firstTwin g) e in
+    let ne = eqb-false (dummyOf g) (g .n) (r .4) in
+    record {
+      threads = threads-range t (r .0);
+      nodes = nodes-range (g .n) (r .1);
+      clear = clear-at g (ltb-false (firstUnclear g) (g .n) (r .2));
+      single = λ i j a b. twin-free g i j (no-twins g (ltb-false (firstTwin g) (g .n) (r .3)) i j a b);
+      dummy = omega (arith, dummy-le g, ne);
+    }
+
+-- "The lowest-numbered node that is not recovered becomes the dummy"
+pub dummy-spare : (g : Image) → dummyOf g < g .n → recoveredAt g (dummyOf g) ≡ false
+unfolding dummyOf
+dummy-spare g h = not-true (recoveredAt g (dummyOf g)) (least-found (λ i. not (recoveredAt g i)) (g .n) 0 (omega arith))
+
+pub dummy-lowest : (g : Image) (j : ℕ) → j < dummyOf g → recoveredAt g j ≡ true
+unfolding dummyOf
+dummy-lowest g j h = not-false (recoveredAt g j) (least-before (λ i. not (recoveredAt g i)) (g .n) 0 j (omega arith) h)

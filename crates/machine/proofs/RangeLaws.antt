@@ -1,0 +1,112 @@
+-- A start of accepted contents is in range: 18 takes it. Assumes nothing.
+use Prim.Native.Nat.{ℕ, _≤_, _<_, _^_}
+use mathlib.Core.Path.{_≡_, refl, ap, _∙_}
+use mathlib.Core.Bool.{Bool, true, false, not}
+use mathlib.Core.List.{_∷_}
+use mathlib.Core.Logic.{_⊎_, inl, inr}
+use native.Mathlib.Omega.{arith}
+use borrow.Author.Tests.{eq-eqb, lt-ltb, le-leb}
+use lib.Dec.{eqb, ltb, leb}
+use lib.Pow.{pow-mono}
+use Rattle.lists.specs.Find.{pick, both, any}
+use Rattle.answer.specs.Answers.{accepted}
+use Rattle.image.specs.declared.Content.{Content}
+use Rattle.image.specs.declared.Image.{Image}
+use Rattle.image.specs.Recovered.{dummyOf}
+use Rattle.machine.specs.Record.{none, node, kept}
+use Rattle.machine.specs.Range.{isLink, sizesFit, endsFit, freeFits, nodeFits, threadFits, inRange}
+use Rattle.machine.specs.Start.{queueOf, behind, startWith, startOf, startAnswer, spare}
+use Rattle.machine.specs.Rising.{among}
+use Rattle.machine.specs.declared.Machine.{Machine}
+use Rattle.machine.specs.declared.Node.{Node}
+use Rattle.machine.proofs.AcceptedLaws.{Accepted, accepted-start, any-none}
+use Rattle.machine.proofs.LinkLaws as links
+use Rattle.machine.proofs.StartLaws as starts
+use Rattle.machine.proofs.WordLaws.{wordOf-lt}
+
+all-of : (a b c d e : Bool) → a ≡ true → b ≡ true → c ≡ true → d ≡ true → e ≡ true → both a (both b (both c (both d e))) ≡ true
+all-of a b c d e p q r s t = rw (p, q, r, s, t)
+
+four : (a b c d : Bool) → a ≡ true → b ≡ true → c ≡ true → d ≡ true → both a (both b (both c d)) ≡ true
+four a b c d p q r s = rw (p, q, r, s)
+
+-- none, or a node
+link-fits : (m : Machine) (x : ℕ) → (x ≡ none) ⊎ (x < m .n) → isLink m x ≡ true
+link-fits m x (inl e) = rw (eq-eqb x none e)
+link-fits m x (inr h) = rw (lt-ltb x (m .n) h) (same (eqb x none))
+  where
+    same : (b : Bool) → pick b true true ≡ true
+    same true = refl
+    same false = refl
+
+positive : (t : ℕ) → 0 < 2 ^ t
+positive t = pow-mono {i = 0} {j = t} (omega arith)
+
+module _ (g : Image) (t : ℕ) (ok : accepted (startAnswer g t) ≡ true) where
+  fit : Accepted g t
+  fit = accepted-start g t ok
+
+  sizes : sizesFit (startOf g t) ≡ true
+  unfolding startWith
+  sizes = rw (le-leb 2 (g .n) (fit .nodes .0), le-leb (g .n) 64 (fit .nodes .1), le-leb 1 t (fit .threads .0), le-leb t 8 (fit .threads .1))
+
+  ends : endsFit (startOf g t) ≡ true
+  unfolding startWith
+  ends =
+      let last = starts.chain-in g t ok (startOf g t .tail) (links.last-among (dummyOf g) (queueOf g)) in
+      rw (lt-ltb (dummyOf g) (g .n) (fit .dummy)) (lt-ltb (startOf g t .tail) (g .n) last)
+
+  free : freeFits (startOf g t) ≡ true
+  unfolding startWith
+  free = lt-ltb (startOf g t .free) (2 ^ g .n) (wordOf-lt (spare g (dummyOf g)) (g .n))
+
+  link : (i : ℕ) → i < g .n → isLink (startOf g t) (node (startOf g t) i .next) ≡ true
+  link i h = link-fits (startOf g t) (node (startOf g t) i .next) (by (links.behind-among (dummyOf g ∷ queueOf g) i))
+    where
+      e : node (startOf g t) i .next ≡ behind (dummyOf g ∷ queueOf g) i
+      e = ap (λ (v : Node). v .next) (starts.node-is g t i h)
+
+      by : (behind (dummyOf g ∷ queueOf g) i ≡ none) ⊎ among (behind (dummyOf g ∷ queueOf g) i) (dummyOf g ∷ queueOf g)
+          → (node (startOf g t) i .next ≡ none) ⊎ (node (startOf g t) i .next < startOf g t .n)
+      by (inl z) = inl (e ∙ z)
+      by (inr z) = inr (omega (arith, e, starts.chain-in g t ok (behind (dummyOf g ∷ queueOf g) i) z, starts.sizes-are g t .0))
+
+  flag : (i : ℕ) → i < g .n → node (startOf g t) i .linked ≤ 1
+  flag i h = let e = ap (λ (v : Node). v .linked) (starts.node-is g t i h) in omega (arith, e, fit .clear i h)
+
+  kept-flag : (i : ℕ) → i < g .n → kept (startOf g t) i .linked ≤ 1
+  kept-flag i h = let e = ap (λ (v : Content). v .linked) (starts.kept-is g t i h) in omega (arith, e, fit .clear i h)
+
+  node-fits : (i : ℕ) → i < g .n → nodeFits (startOf g t) i ≡ true
+  unfolding nodeFits
+  node-fits i h =
+      four
+      (isLink (startOf g t) (node (startOf g t) i .next))
+      (leb (node (startOf g t) i .linked) 1)
+      (leb (kept (startOf g t) i .linked) 1)
+      (ltb (node (startOf g t) i .waits) (2 ^ startOf g t .t))
+      (link i h)
+      (le-leb (node (startOf g t) i .linked) 1 (flag i h))
+      (le-leb (kept (startOf g t) i .linked) 1 (kept-flag i h))
+      (lt-ltb (node (startOf g t) i .waits) (2 ^ startOf g t .t) (omega (arith, starts.none-waits g t i h, positive (startOf g t .t))))
+
+  thread-fits : (k : ℕ) → k < 8 → threadFits (startOf g t) k ≡ true
+  unfolding threadFits
+  thread-fits k h = rw (starts.thread-is g t k h)
+
+  pub start-in-range : inRange (startOf g t) ≡ true
+  unfolding inRange
+  start-in-range =
+      let nodes = any-none (λ i. not (nodeFits (startOf g t) i)) (startOf g t .n) (λ i h. ap not (node-fits i (omega (arith, starts.sizes-are g t .0)))) in
+      let threads = any-none (λ k. not (threadFits (startOf g t) k)) (startOf g t .t) (λ k h. ap not (thread-fits k (omega (arith, starts.sizes-are g t .1, fit .threads .1)))) in
+      all-of
+      (sizesFit (startOf g t))
+      (endsFit (startOf g t))
+      (freeFits (startOf g t))
+      (not (any (λ i. not (nodeFits (startOf g t) i)) (startOf g t .n)))
+      (not (any (λ k. not (threadFits (startOf g t) k)) (startOf g t .t)))
+      sizes
+      ends
+      free
+      (ap not nodes)
+      (ap not threads)

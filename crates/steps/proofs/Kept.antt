@@ -1,0 +1,232 @@
+-- Every event but a crash keeps a record's numbers in their ranges.
+use Prim.Native.Nat.{ℕ, zero, suc, _+_, _^_, _≤_, _<_}
+use mathlib.Core.Path.{_≡_, refl}
+use mathlib.Core.Bool.{Bool, true, false}
+use native.Mathlib.Omega.{arith}
+use lib.Dec.{eqb}
+use borrow.Author.Tests.{eqb-false}
+use Rattle.lists.specs.Find.{pick, both}
+use Rattle.lists.specs.Word.{with, without}
+use Rattle.bits.proofs.WordLaws as words
+use Rattle.answer.specs.declared.Answer.the-variants.{Full, WornOut}
+use Rattle.machine.specs.Record.{none, top, node, thread, contentOf, ownNode, readTail, readNext, readItem, readHead, atStep, withItem, withNext, withLinked, withIndex, putNode, putTail, putFree, putHead}
+use Rattle.machine.specs.Stage.{Stage, noStep, A1, A2, A3, A4, A5, A6, A7, A8, A9, A10, A11, A12, D1, D2, D3, D4, D5, D6, D7, stageOf, stage}
+use Rattle.machine.specs.Line.{lineCount, persist}
+use Rattle.machine.specs.Retire.{moving, going, answering, nextFree, freed, left, retired}
+use Rattle.machine.specs.Event.{begun, stepped}
+use Rattle.machine.specs.Range.{inRange}
+use Rattle.machine.specs.declared.Machine.{Machine}
+use Rattle.machine.specs.declared.Node.{Node}
+use Rattle.machine.specs.declared.Thread.{Thread}
+use Rattle.steps.specs.Numbers.{numbersFit}
+use Rattle.steps.proofs.Fit.{Link, link, ThreadFit, Fit, Used, fit-range, fit-numbers, used-range, numbers-fit}
+use Rattle.steps.proofs.Keep.{none-link, fit-thread, fit-node, fit-kept, fit-kept-head, fit-tail, fit-head, fit-free, next-free-lt, fit-left, fit-retired}
+
+-- ---- the step number of a stage: A12 alone is needed
+
+step-12 : (s : ℕ) → stageOf s ≡ A12 → s ≡ 12
+step-12 zero e = let z : _≡_ {A = ℕ} 0 1 = cc in absurd (omega arith)
+step-12 (suc zero) e = let z : _≡_ {A = ℕ} 0 1 = cc in absurd (omega arith)
+step-12 (suc (suc zero)) e = let z : _≡_ {A = ℕ} 0 1 = cc in absurd (omega arith)
+step-12 (suc (suc (suc zero))) e = let z : _≡_ {A = ℕ} 0 1 = cc in absurd (omega arith)
+step-12 (suc (suc (suc (suc zero)))) e = let z : _≡_ {A = ℕ} 0 1 = cc in absurd (omega arith)
+step-12 (suc (suc (suc (suc (suc zero))))) e = let z : _≡_ {A = ℕ} 0 1 = cc in absurd (omega arith)
+step-12 (suc (suc (suc (suc (suc (suc zero)))))) e = let z : _≡_ {A = ℕ} 0 1 = cc in absurd (omega arith)
+step-12 (suc (suc (suc (suc (suc (suc (suc zero))))))) e = let z : _≡_ {A = ℕ} 0 1 = cc in absurd (omega arith)
+step-12 (suc (suc (suc (suc (suc (suc (suc (suc zero)))))))) e = let z : _≡_ {A = ℕ} 0 1 = cc in absurd (omega arith)
+step-12 (suc (suc (suc (suc (suc (suc (suc (suc (suc zero))))))))) e = let z : _≡_ {A = ℕ} 0 1 = cc in absurd (omega arith)
+step-12 (suc (suc (suc (suc (suc (suc (suc (suc (suc (suc zero)))))))))) e = let z : _≡_ {A = ℕ} 0 1 = cc in absurd (omega arith)
+step-12 (suc (suc (suc (suc (suc (suc (suc (suc (suc (suc (suc zero))))))))))) e = let z : _≡_ {A = ℕ} 0 1 = cc in absurd (omega arith)
+step-12 (suc (suc (suc (suc (suc (suc (suc (suc (suc (suc (suc (suc zero)))))))))))) e = refl
+step-12 (suc (suc (suc (suc (suc (suc (suc (suc (suc (suc (suc (suc (suc zero))))))))))))) e = let z : _≡_ {A = ℕ} 0 1 = cc in absurd (omega arith)
+step-12 (suc (suc (suc (suc (suc (suc (suc (suc (suc (suc (suc (suc (suc (suc zero)))))))))))))) e = let z : _≡_ {A = ℕ} 0 1 = cc in absurd (omega arith)
+step-12 (suc (suc (suc (suc (suc (suc (suc (suc (suc (suc (suc (suc (suc (suc (suc zero))))))))))))))) e = let z : _≡_ {A = ℕ} 0 1 = cc in absurd (omega arith)
+step-12 (suc (suc (suc (suc (suc (suc (suc (suc (suc (suc (suc (suc (suc (suc (suc (suc zero)))))))))))))))) e = let z : _≡_ {A = ℕ} 0 1 = cc in absurd (omega arith)
+step-12 (suc (suc (suc (suc (suc (suc (suc (suc (suc (suc (suc (suc (suc (suc (suc (suc (suc zero))))))))))))))))) e = let z : _≡_ {A = ℕ} 0 1 = cc in absurd (omega arith)
+step-12 (suc (suc (suc (suc (suc (suc (suc (suc (suc (suc (suc (suc (suc (suc (suc (suc (suc (suc zero)))))))))))))))))) e = let z : _≡_ {A = ℕ} 0 1 = cc in absurd (omega arith)
+step-12 (suc (suc (suc (suc (suc (suc (suc (suc (suc (suc (suc (suc (suc (suc (suc (suc (suc (suc (suc zero))))))))))))))))))) e = let z : _≡_ {A = ℕ} 0 1 = cc in absurd (omega arith)
+step-12 (suc (suc (suc (suc (suc (suc (suc (suc (suc (suc (suc (suc (suc (suc (suc (suc (suc (suc (suc (suc s)))))))))))))))))))) e = let z : _≡_ {A = ℕ} 0 1 = cc in absurd (omega arith)
+
+-- ---- a thread with one thing replaced
+
+at-step : {n : ℕ} (v : Thread) (s : ℕ) → ThreadFit n v → s ≤ 19 → ThreadFit n (atStep v s)
+at-step v s p h = record {
+  step-in = h;
+  node-link = p .node-link;
+  tail-link = p .tail-link;
+  head-link = p .head-link;
+  next-link = p .next-link;
+  held-link = p .held-link;
+}
+
+own-node : {n : ℕ} (v : Thread) (x : ℕ) → ThreadFit n v → Link n x → ThreadFit n (ownNode v x)
+own-node v x p h = record {
+  step-in = p .step-in;
+  node-link = h;
+  tail-link = p .tail-link;
+  head-link = p .head-link;
+  next-link = p .next-link;
+  held-link = p .held-link;
+}
+
+read-tail : {n : ℕ} (v : Thread) (x : ℕ) → ThreadFit n v → Link n x → ThreadFit n (readTail v x)
+read-tail v x p h = record {
+  step-in = p .step-in;
+  node-link = p .node-link;
+  tail-link = h;
+  head-link = p .head-link;
+  next-link = p .next-link;
+  held-link = p .held-link;
+}
+
+read-head : {n : ℕ} (v : Thread) (h x : ℕ) → ThreadFit n v → Link n h → ThreadFit n (readHead v h x)
+read-head v h x p l = record {
+  step-in = p .step-in;
+  node-link = p .node-link;
+  tail-link = p .tail-link;
+  head-link = l;
+  next-link = p .next-link;
+  held-link = p .held-link;
+}
+
+read-next : {n : ℕ} (v : Thread) (x : ℕ) → ThreadFit n v → Link n x → ThreadFit n (readNext v x)
+read-next v x p h = record {
+  step-in = p .step-in;
+  node-link = p .node-link;
+  tail-link = p .tail-link;
+  head-link = p .head-link;
+  next-link = h;
+  held-link = p .held-link;
+}
+
+read-item : {n : ℕ} (v : Thread) (x : ℕ) → ThreadFit n v → ThreadFit n (readItem v x)
+read-item v x p = record {
+  step-in = p .step-in;
+  node-link = p .node-link;
+  tail-link = p .tail-link;
+  head-link = p .head-link;
+  next-link = p .next-link;
+  held-link = p .held-link;
+}
+
+-- thread k, now v, goes on to step s
+fit-moving : (m : Machine) (k : ℕ) (v : Thread) (s : ℕ) → Fit m → ThreadFit (m .n) v → s ≤ 19 → Fit (moving m k v s .machine)
+fit-moving m k v s f p h = fit-thread m k (atStep v s) f (at-step v s p h)
+
+fit-going : (m : Machine) (k s : ℕ) → Fit m → k < m .t → s ≤ 19 → Fit (going m k s .machine)
+fit-going m k s f l h = fit-moving m k (thread m k) s f (f .threads k l) h
+
+pick-le : (b : Bool) (x y : ℕ) → x ≤ 19 → y ≤ 19 → pick b x y ≤ 19
+pick-le true x y h k = h
+pick-le false x y h k = k
+
+-- ---- each step
+
+module _ (m : Machine) (k : ℕ) (f : Fit m) (u : Used m k) (l : k < m .t) where
+  A1-by : (b : Bool) → eqb (m .free) 0 ≡ b
+      → Fit (pick b (answering Full m k) (moving (putFree m (without (m .free) (nextFree m))) k (ownNode (thread m k) (nextFree m)) 2) .machine)
+  A1-by true e = fit-left m k (thread m k .held) f (f .threads k l .held-link)
+  A1-by false e =
+      let w = without (m .free) (nextFree m) in
+      fit-moving (putFree m w) k (ownNode (thread m k) (nextFree m)) 2 (fit-free m w f (words.without-lt (m .n) (m .free) (nextFree m) (f .sizes .free-in)))
+      (own-node (thread m k) (nextFree m) (f .threads k l) (link (next-free-lt m f (eqb-false (m .free) 0 e)))) (omega arith)
+
+  A7-by : thread m k .node < m .n → (b : Bool)
+      → Fit (pick b (answering WornOut (freed m (thread m k .node)) k) (going (putNode m (thread m k .node) (withIndex (node m (thread m k .node)) (node m (thread m k .tail) .index + 1))) k 8) .machine)
+  A7-by h true =
+      let i = thread m k .node in
+      fit-left (freed m i) k (thread m k .held) (fit-free m (with (m .free) i) f (words.with-lt (m .n) (m .free) i h (f .sizes .free-in))) (f .threads k l .held-link)
+  A7-by h false =
+      let i = thread m k .node in
+      let p = f .nodes i h in
+      let v = withIndex (node m i) (node m (thread m k .tail) .index + 1) in
+      fit-going (putNode m i v) k 8 (fit-node m i v f (p .next-link) (p .flag) (p .waits-in)) l (omega arith)
+
+  A8-by : thread m k .tail < m .n → (b : Bool)
+      → Fit (pick b (going (putNode m (thread m k .tail) (withNext (node m (thread m k .tail)) (thread m k .node))) k 9) (going m k 12) .machine)
+  A8-by h true =
+      let t = thread m k .tail in
+      let p = f .nodes t h in
+      let v = withNext (node m t) (thread m k .node) in
+      fit-going (putNode m t v) k 9 (fit-node m t v f (f .threads k l .node-link) (p .flag) (p .waits-in)) l (omega arith)
+  A8-by h false = fit-going m k 12 f l (omega arith)
+
+  A11-by : thread m k .node < m .n → (b : Bool) → Fit (left (pick b (putTail m (thread m k .node)) m) k (thread (pick b (putTail m (thread m k .node)) m) k .held))
+  A11-by h true = fit-left (putTail m (thread m k .node)) k (thread m k .held) (fit-tail m (thread m k .node) f h) (f .threads k l .held-link)
+  A11-by h false = fit-left m k (thread m k .held) f (f .threads k l .held-link)
+
+  A12-by : (b : Bool) → node m (thread m k .tail) .next < m .n → Fit (going (pick b (putTail m (node m (thread m k .tail) .next)) m) k 5 .machine)
+  A12-by true h = let x = node m (thread m k .tail) .next in fit-going (putTail m x) k 5 (fit-tail m x f h) l (omega arith)
+  A12-by false h = fit-going m k 5 f l (omega arith)
+
+  D4-by : thread m k .next < m .n → (b : Bool)
+      → Fit (pick b (going (putHead m (thread m k .next) (node m (thread m k .next) .index)) k 17) (going m k 13) .machine)
+  D4-by h true =
+      let x = thread m k .next in
+      let i = node m x .index in
+      fit-going (putHead m x i) k 17 (fit-head m x i f h) l (omega arith)
+  D4-by h false = fit-going m k 13 f l (omega arith)
+
+  D7-by : thread m k .head < m .n → (b : Bool) → eqb (thread m k .held) none ≡ b → Fit (left (pick b m (retired m k (thread m k .held))) k (thread m k .head))
+  unfolding retired
+  D7-by h true e = fit-left m k (thread m k .head) f (link h)
+  D7-by h false e =
+      let x = thread m k .held in
+      fit-left (retired m k x) k (thread m k .head) (fit-retired m k x f (f .threads k l .held-link (eqb-false x none e))) (link h)
+
+  -- a store to the thread's own node, and on to step s
+  stores : (v : Node) (s : ℕ) → Link (m .n) (v .next) → v .linked ≤ 1 → v .waits < 2 ^ m .t → s ≤ 19 → Fit (going (putNode m (thread m k .node) v) k s .machine)
+  stores v s a b w h = fit-going (putNode m (thread m k .node) v) k s (fit-node m (thread m k .node) v f a b w) l h
+
+  pub fit-step : (s : Stage) → stage m k ≡ s → Fit (stepped m k s .machine)
+  fit-step noStep e = f
+  fit-step A1 e = A1-by (eqb (m .free) 0) refl
+  fit-step A2 e = let p = f .nodes (thread m k .node) (u .own-in (rw e)) in stores (withItem (node m (thread m k .node)) (thread m k .item)) 3 (p .next-link) (p .flag) (p .waits-in) (omega arith)
+  fit-step A3 e = let p = f .nodes (thread m k .node) (u .own-in (rw e)) in stores (withNext (node m (thread m k .node)) none) 4 none-link (p .flag) (p .waits-in) (omega arith)
+  fit-step A4 e = let p = f .nodes (thread m k .node) (u .own-in (rw e)) in stores (withLinked (node m (thread m k .node)) 0) 5 (p .next-link) (omega arith) (p .waits-in) (omega arith)
+  fit-step A5 e = fit-moving m k (readTail (thread m k) (m .tail)) 6 f (read-tail (thread m k) (m .tail) (f .threads k l) (link (f .sizes .tail-in))) (omega arith)
+  fit-step A6 e = let b = eqb (node m (thread m k .tail) .next) none in fit-going m k (pick b 7 12) f l (pick-le b 7 12 (omega arith) (omega arith))
+  fit-step A7 e = A7-by (u .own-in (rw e)) (eqb (node m (thread m k .tail) .index) top)
+  fit-step A8 e = A8-by (u .t-in (rw e)) (eqb (node m (thread m k .tail) .next) none)
+  fit-step A9 e = let p = f .nodes (thread m k .node) (u .own-in (rw e)) in stores (withLinked (node m (thread m k .node)) 1) 10 (p .next-link) (omega arith) (p .waits-in) (omega arith)
+  fit-step A10 e =
+      let i = thread m k .node in
+      fit-going (persist m (suc i)) k 11 (fit-kept m i (contentOf (node m i)) f (f .nodes i (u .own-in (rw e)) .flag)) l (omega arith)
+  fit-step A11 e = A11-by (u .own-in (rw e)) (eqb (m .tail) (thread m k .tail))
+  fit-step A12 e =
+      A12-by (eqb (m .tail) (thread m k .tail)) (f .nodes (thread m k .tail) (u .t-in (rw e)) .next-link (u .t-next (step-12 (thread m k .step) e)))
+  fit-step D1 e = fit-moving m k (readHead (thread m k) (m .head) (m .index)) 14 f (read-head (thread m k) (m .head) (m .index) (f .threads k l) (link (f .sizes .head-in))) (omega arith)
+  fit-step D2 e =
+      let x = node m (thread m k .head) .next in
+      let b = eqb x none in
+      fit-moving m k (readNext (thread m k) x) (pick b 15 16) f (read-next (thread m k) x (f .threads k l) (f .nodes (thread m k .head) (u .head-in (rw e)) .next-link))
+      (pick-le b 15 16 (omega arith) (omega arith))
+  fit-step D3 e = fit-left (persist m 0) k (thread m k .held) (fit-kept-head m (m .index) f) (f .threads k l .held-link)
+  fit-step D4 e = D4-by (u .next-in (rw e)) (both (eqb (m .head) (thread m k .head)) (eqb (m .index) (thread m k .index)))
+  fit-step D5 e =
+      let x = node m (thread m k .next) .item in
+      fit-moving m k (readItem (thread m k) x) 18 f (read-item (thread m k) x (f .threads k l)) (omega arith)
+  fit-step D6 e = fit-going (persist m 0) k 19 (fit-kept-head m (m .index) f) l (omega arith)
+  fit-step D7 e = D7-by (u .head-in (rw e)) (eqb (thread m k .held) none) refl
+
+-- ---- the laws
+
+-- a step of a thread
+pub kept-step : (m : Machine) (k : ℕ) → inRange m ≡ true → k < m .t → numbersFit (stepped m k (stage m k) .machine) ≡ true
+kept-step m k h l = numbers-fit (stepped m k (stage m k) .machine) (fit-step m k (fit-range m h) (used-range m k h l) l (stage m k) refl)
+
+-- a begin
+pub kept-begun : (m : Machine) (k s v : ℕ) → numbersFit m ≡ true → k < m .t → s ≤ 19 → numbersFit (begun m k s v) ≡ true
+kept-begun m k s v h l q =
+    let f = fit-numbers m h in
+    numbers-fit (begun m k s v)
+    (fit-thread m k (record { step = s; node = 255; tail = 255; head = 255; index = 0; next = 255; item = v; held = thread m k .held }) f
+    (record { step-in = q; node-link = none-link; tail-link = none-link; head-link = none-link; next-link = none-link; held-link = f .threads k l .held-link }))
+
+fit-persist : (m : Machine) (i : ℕ) → Fit m → i < lineCount (m .n) → Fit (persist m i)
+fit-persist m zero f h = fit-kept-head m (m .index) f
+fit-persist m (suc i) f h = fit-kept m i (contentOf (node m i)) f (f .nodes i (omega arith) .flag)
+
+-- a write-back
+pub kept-persist : (m : Machine) (i : ℕ) → numbersFit m ≡ true → i < lineCount (m .n) → numbersFit (persist m i) ≡ true
+kept-persist m i h l = numbers-fit (persist m i) (fit-persist m i (fit-numbers m h) l)

@@ -1,0 +1,105 @@
+-- What a record that is tied to a core in range keeps to: 18 does not refuse it.
+use mathlib.Core.Path.{_≡_, refl, sym, ap, subst, _∙_}
+use mathlib.Core.Bool.{Bool, true, false, not}
+use mathlib.Core.Logic.{_⊎_, inl, inr}
+use mathlib.Core.Option.{Option, none}
+use Prim.Native.Nat.{ℕ, zero, suc, _^_, _≤_, _<_}
+use native.Mathlib.Omega.{arith}
+use lib.Dec.{eqb, ltb, leb}
+use Rattle.lists.specs.Find.{pick, both, any}
+use Rattle.lists.proofs.FindLaws.{any-more}
+use Rattle.image.specs.declared.Content.{Content}
+use Rattle.machine.specs.Record.{node, kept, thread}
+use Rattle.machine.specs.Stage.{Stage, noStep, A1, A2, A3, A4, A5, A6, A7, A8, A9, A10, A11, A12, D1, D2, D3, D4, D5, D6, D7, own, t, theHead, theNext, uses, stage, stageOf}
+use Rattle.machine.specs.Range.{isNode, isLink, readFits, nextFits, nodeFits, threadFits, inRange}
+use Rattle.machine.specs.declared.Machine.{Machine}
+use Rattle.machine.specs.declared.Thread.{Thread}
+use Rattle.model.specs.Core.{Core}
+use Rattle.model.specs.Always.{ThIn, InRange}
+use Rattle.model.proofs.Basics.{lt-true, le-true, eq-no, true→eq}
+use Rattle.tied.specs.Shown.{linkIf, linkOf, threadOf}
+use Rattle.tied.proofs.Words.{no-way}
+use Rattle.tied.proofs.Relation.{Link, Regs, Tied}
+use Rattle.tied.proofs.Changes.{count-n}
+use Rattle.tied.proofs.Stepping.{used}
+
+is-node : (m : Machine) (x : ℕ) → x < m .n → isNode m x ≡ true
+is-node m x h = lt-true x (m .n) h
+
+is-link : (m : Machine) (x : ℕ) → Link (m .n) x → isLink m x ≡ true
+is-link m x (inl h) = by (eqb x 255)
+  where
+    by : (b : Bool) → pick b true (isNode m x) ≡ true
+    by true = refl
+    by false = is-node m x h
+is-link m x (inr e) = rw e refl
+
+pub and-so : (a b : Bool) → a ≡ true → b ≡ true → both a b ≡ true
+and-so a b e f = rw (e, f) refl
+
+pub any-no : (f : ℕ → Bool) (n : ℕ) → ((i : ℕ) → i < n → f i ≡ false) → any f n ≡ false
+unfolding any
+any-no f zero h = refl
+any-no f (suc n) h = rw (h n (omega arith)) (any-no f n (λ i l. h i (omega arith)))
+
+module _ (m : Machine) (v : Thread) (next : ℕ → Option ℕ) (g : Regs (m .n) v) where
+  reads : (s : Stage) → ThIn (m .n) next (threadOf s v)
+      → (readFits m (uses s own) (v .node) ≡ true) × (readFits m (uses s t) (v .tail) ≡ true) × (readFits m (uses s theHead) (v .head) ≡ true) × (readFits m (uses s theNext) (v .next) ≡ true)
+  reads noStep u = (is-link m _ (g .node), is-link m _ (g .tail), is-link m _ (g .head), is-link m _ (g .next))
+  reads A1 u = (is-link m _ (g .node), is-link m _ (g .tail), is-link m _ (g .head), is-link m _ (g .next))
+  reads A2 u = (is-node m _ (u), is-link m _ (g .tail), is-link m _ (g .head), is-link m _ (g .next))
+  reads A3 u = (is-node m _ (u), is-link m _ (g .tail), is-link m _ (g .head), is-link m _ (g .next))
+  reads A4 u = (is-node m _ (u), is-link m _ (g .tail), is-link m _ (g .head), is-link m _ (g .next))
+  reads A5 u = (is-link m _ (g .node), is-link m _ (g .tail), is-link m _ (g .head), is-link m _ (g .next))
+  reads A6 u = (is-link m _ (g .node), is-node m _ (u .1), is-link m _ (g .head), is-link m _ (g .next))
+  reads A7 u = (is-node m _ (u .0), is-node m _ (u .1), is-link m _ (g .head), is-link m _ (g .next))
+  reads A8 u = (is-node m _ (u .0), is-node m _ (u .1), is-link m _ (g .head), is-link m _ (g .next))
+  reads A9 u = (is-node m _ (u .0), is-link m _ (g .tail), is-link m _ (g .head), is-link m _ (g .next))
+  reads A10 u = (is-node m _ (u .0), is-link m _ (g .tail), is-link m _ (g .head), is-link m _ (g .next))
+  reads A11 u = (is-node m _ (u .0), is-node m _ (u .1), is-link m _ (g .head), is-link m _ (g .next))
+  reads A12 u = (is-link m _ (g .node), is-node m _ (u .1), is-link m _ (g .head), is-link m _ (g .next))
+  reads D1 u = (is-link m _ (g .node), is-link m _ (g .tail), is-link m _ (g .head), is-link m _ (g .next))
+  reads D2 u = (is-link m _ (g .node), is-link m _ (g .tail), is-node m _ (u), is-link m _ (g .next))
+  reads D3 u = (is-link m _ (g .node), is-link m _ (g .tail), is-link m _ (g .head), is-link m _ (g .next))
+  reads D4 u = (is-link m _ (g .node), is-link m _ (g .tail), is-node m _ (u .0), is-node m _ (u .1))
+  reads D5 u = (is-link m _ (g .node), is-link m _ (g .tail), is-link m _ (g .head), is-node m _ (u .1))
+  reads D6 u = (is-link m _ (g .node), is-link m _ (g .tail), is-link m _ (g .head), is-link m _ (g .next))
+  reads D7 u = (is-link m _ (g .node), is-link m _ (g .tail), is-node m _ (u), is-link m _ (g .next))
+
+module _ (p : ℕ → Content) (m : Machine) (c : Core) (d : Tied p m c) (r : InRange c) where
+  node-fits : (i : ℕ) → i < m .n → nodeFits m i ≡ true
+  unfolding nodeFits
+  node-fits i h =
+      let a = d .nodes .at i h in
+      and-so _ _ (is-link m _ (a .reach))
+      (and-so _ _ (le-true _ 1 (a .flag))
+      (and-so _ _ (le-true _ 1 (subst (λ z. z .linked ≤ 1) (d .kept .at i h) (d .kept .flag i h))) (lt-true _ _ (a .few))))
+
+  module _ (k : ℕ) (hk : k < m .t) where
+    next-fits : (b : Bool) → eqb (thread m k .step) 12 ≡ b → nextFits m b (thread m k .tail) ≡ true
+    next-fits false e = refl
+    next-fits true e =
+        let s : stage m k ≡ A12 = ap stageOf (true→eq (thread m k .step) 12 e) in
+        let u = used p m c d k hk r A12 s in
+        by (eqb (node m (thread m k .tail) .next) 255) refl (λ z. u .2 (d .nodes .at (thread m k .tail) (u .1) .link ∙ z))
+      where
+        by : (b : Bool) → eqb (node m (thread m k .tail) .next) 255 ≡ b → (linkIf b (node m (thread m k .tail) .next) ≡ none → ⊥) → not b ≡ true
+        by true f ne = absurd (ne refl)
+        by false f ne = refl
+
+    thread-fits : threadFits m k ≡ true
+    unfolding threadFits
+    thread-fits =
+        let g = d .threads .at k hk .regs in
+        let q = reads m (thread m k) (c .next) g (stage m k) (used p m c d k hk r (stage m k) refl) in
+        and-so _ _ (le-true _ 19 (g .step))
+        (and-so _ _ (q .0) (and-so _ _ (q .1) (and-so _ _ (q .2) (and-so _ _ (q .3) (and-so _ _ (is-link m _ (g .held)) (next-fits _ refl))))))
+
+  pub tied-in-range : inRange m ≡ true
+  unfolding inRange
+  tied-in-range =
+      let z = d .sizes in
+      and-so _ _ (and-so _ _ (and-so _ _ (le-true 2 _ (z .nodes-lo)) (le-true _ 64 (z .nodes-hi))) (and-so _ _ (le-true 1 _ (z .threads-lo)) (le-true _ 8 (z .threads-hi))))
+      (and-so _ _ (and-so _ _ (is-node m _ (omega (arith, r .head, d .hnode, count-n p m c d))) (is-node m _ (omega (arith, r .tail, d .tail, count-n p m c d))))
+      (and-so _ _ (lt-true _ _ (d .free .fits))
+      (and-so _ _ (ap not (any-no _ (m .n) (λ i h. ap not (node-fits i h)))) (ap not (any-no _ (m .t) (λ k h. ap not (thread-fits k h)))))))

@@ -1,0 +1,139 @@
+-- A record and an abstract core that show the same; and what the record's numbers keep to by themselves.
+use mathlib.Core.Path.{_≡_, refl, sym, ap, subst, _∙_}
+use mathlib.Core.Bool.{Bool}
+use mathlib.Core.List.{List}
+use mathlib.Core.Logic.{_≢_, _⊎_}
+use mathlib.Core.Option.{Option}
+use Prim.Native.Nat.{ℕ, suc, _^_, _≤_, _<_}
+use native.Mathlib.Omega.{arith}
+use native.Mathlib.Decide.{ℕ-discrete}
+use lib.ListN.{length, getD, set, length-set}
+use lib.Seq.{getD-set-same, getD-set-other}
+use Rattle.lists.specs.Word.{has, with, without}
+use Rattle.image.specs.declared.Content.{Content}
+use Rattle.image.specs.Layout.{noContent}
+use Rattle.machine.specs.Record.{top, zeroNode, zeroThread, contentOf}
+use Rattle.machine.specs.Line.{headContent}
+use Rattle.machine.specs.declared.Machine.{Machine}
+use Rattle.machine.specs.declared.Node.{Node}
+use Rattle.machine.specs.declared.Thread.{Thread}
+use Rattle.model.specs.Basics.{upd}
+use Rattle.model.specs.Core as core
+use Rattle.model.specs.Core.{Core, Th}
+use Rattle.model.proofs.Basics.{upd-at, upd-other, upd-ind}
+use Rattle.tied.specs.Shown.{shownContent, linkOf, members, shownThread, confOf}
+use Rattle.tied.proofs.Words.{has-with, has-without, with-fits, without-fits}
+
+-- a node number, or none
+abbrev pub Link : ℕ → ℕ → Type 0
+Link n x = (x < n) ⊎ (x ≡ 255)
+
+-- ---- a node
+
+pub record NodeAt (n t : ℕ) (v : Node) (a : core.Node) (o : Option ℕ) (w : List ℕ) : Type 0 where
+  pub content : a ≡ shownContent (contentOf v)
+  pub link : o ≡ linkOf (v .next)
+  pub waits : w ≡ members t (v .waits)
+  pub flag : v .linked ≤ 1
+  pub reach : Link n (v .next)
+  pub few : v .waits < 2 ^ t
+  pub narrow : v .index ≤ top
+
+pub record NodesT (n t : ℕ) (l : List Node) (node : ℕ → core.Node) (next : ℕ → Option ℕ) (wait : ℕ → List ℕ) : Type 0 where
+  pub size : length l ≡ 64
+  pub at : (i : ℕ) → i < n → NodeAt n t (getD l i zeroNode) (node i) (next i) (wait i)
+
+-- one node replaced
+pub putNodes : (n t : ℕ) (l : List Node) (node : ℕ → core.Node) (next : ℕ → Option ℕ) (wait : ℕ → List ℕ) → NodesT n t l node next wait → n ≤ 64
+    → (i : ℕ) → i < n → (v : Node) (node′ : ℕ → core.Node) (next′ : ℕ → Option ℕ) (wait′ : ℕ → List ℕ) → NodeAt n t v (node′ i) (next′ i) (wait′ i)
+    → ((j : ℕ) → j ≢ i → node′ j ≡ node j) → ((j : ℕ) → j ≢ i → next′ j ≡ next j) → ((j : ℕ) → j ≢ i → wait′ j ≡ wait j)
+    → NodesT n t (set l i v) node′ next′ wait′
+putNodes n t l node next wait r h i hi v node′ next′ wait′ a en ex ew = record { size = length-set l i v ∙ r .size; at = λ j hj. by j hj (ℕ-discrete j i) }
+  where
+    by : (j : ℕ) → j < n → Dec (j ≡ i) → NodeAt n t (getD (set l i v) j zeroNode) (node′ j) (next′ j) (wait′ j)
+    by j hj (yes e) = subst (λ j. NodeAt n t (getD (set l i v) j zeroNode) (node′ j) (next′ j) (wait′ j)) (sym e)
+        (subst (λ x. NodeAt n t x (node′ i) (next′ i) (wait′ i)) (sym (getD-set-same l i v zeroNode (omega (arith, r .size)))) a)
+    by j hj (no ne) = rw (getD-set-other l i j v zeroNode ne, en j ne, ex j ne, ew j ne) (r .at j hj)
+
+-- ---- the free set
+
+pub record FreeT (n w : ℕ) (f : ℕ → Bool) : Type 0 where
+  pub bits : (i : ℕ) → i < n → f i ≡ has w i
+  pub fits : w < 2 ^ n
+
+-- ---- a thread
+
+pub record Regs (n : ℕ) (v : Thread) : Type 0 where
+  pub step : v .step ≤ 19
+  pub node : Link n (v .node)
+  pub tail : Link n (v .tail)
+  pub head : Link n (v .head)
+  pub next : Link n (v .next)
+  pub held : Link n (v .held)
+
+pub record ThreadAt (n : ℕ) (v : Thread) (s : Th) (o : Option ℕ) : Type 0 where
+  pub stage : s ≡ shownThread v
+  pub holds : o ≡ linkOf (v .held)
+  pub regs : Regs n v
+
+pub record ThreadsT (n t : ℕ) (l : List Thread) (thr : ℕ → Th) (held : ℕ → Option ℕ) : Type 0 where
+  pub size : length l ≡ 8
+  pub at : (k : ℕ) → k < t → ThreadAt n (getD l k zeroThread) (thr k) (held k)
+
+pub putThreads : (n t : ℕ) (l : List Thread) (thr : ℕ → Th) (held : ℕ → Option ℕ) → ThreadsT n t l thr held → t ≤ 8
+    → (k : ℕ) → k < t → (v : Thread) (thr′ : ℕ → Th) (held′ : ℕ → Option ℕ) → ThreadAt n v (thr′ k) (held′ k)
+    → ((j : ℕ) → j ≢ k → thr′ j ≡ thr j) → ((j : ℕ) → j ≢ k → held′ j ≡ held j)
+    → ThreadsT n t (set l k v) thr′ held′
+putThreads n t l thr held r h i hi v thr′ held′ a en ex = record { size = length-set l i v ∙ r .size; at = λ j hj. by j hj (ℕ-discrete j i) }
+  where
+    by : (j : ℕ) → j < t → Dec (j ≡ i) → ThreadAt n (getD (set l i v) j zeroThread) (thr′ j) (held′ j)
+    by j hj (yes e) = subst (λ j. ThreadAt n (getD (set l i v) j zeroThread) (thr′ j) (held′ j)) (sym e)
+        (subst (λ x. ThreadAt n x (thr′ i) (held′ i)) (sym (getD-set-same l i v zeroThread (omega (arith, r .size)))) a)
+    by j hj (no ne) = rw (getD-set-other l i j v zeroThread ne, en j ne, ex j ne) (r .at j hj)
+
+-- ---- the persisted copies: p is what each line holds
+
+pub record KeptT (n : ℕ) (p : ℕ → Content) (h : ℕ) (l : List Content) : Type 0 where
+  pub size : length l ≡ 64
+  pub head : p 0 ≡ headContent h
+  pub at : (i : ℕ) → i < n → p (suc i) ≡ getD l i noContent
+  pub flag : (i : ℕ) → i < n → p (suc i) .linked ≤ 1
+  pub narrow : (i : ℕ) → i < suc n → p i .index ≤ top
+
+pub putKepts : (n : ℕ) (p : ℕ → Content) (h : ℕ) (l : List Content) → KeptT n p h l → n ≤ 64 → (i : ℕ) → i < n → (v : Content) → v .linked ≤ 1 → v .index ≤ top
+    → KeptT n (upd p (suc i) v) h (set l i v)
+putKepts n p h l r hn i hi v fl nr = record {
+  size = length-set l i v ∙ r .size;
+  head = upd-other p (suc i) v (λ e. omega arith) ∙ r .head;
+  at = λ j hj. by j hj (ℕ-discrete j i);
+  flag = λ j hj. fl-by j hj (ℕ-discrete j i);
+  narrow = λ j hj. upd-ind p (suc i) v (λ k c. c .index ≤ top) j nr (λ ne. r .narrow j hj);
+}
+  where
+    by : (j : ℕ) → j < n → Dec (j ≡ i) → upd p (suc i) v (suc j) ≡ getD (set l i v) j noContent
+    by j hj (yes e) = upd-at p (suc i) v (ap suc e) ∙ sym (getD-set-same l i v noContent (omega (arith, r .size))) ∙ ap (λ j. getD (set l i v) j noContent) (sym e)
+    by j hj (no ne) = upd-other p (suc i) v (λ z. ne (omega arith)) ∙ r .at j hj ∙ sym (getD-set-other l i j v noContent ne)
+
+    fl-by : (j : ℕ) → j < n → Dec (j ≡ i) → upd p (suc i) v (suc j) .linked ≤ 1
+    fl-by j hj (yes e) = subst (λ y. y .linked ≤ 1) (sym (upd-at p (suc i) v (ap suc e))) fl
+    fl-by j hj (no ne) = subst (λ y. y .linked ≤ 1) (sym (upd-other p (suc i) v (λ z. ne (omega arith)))) (r .flag j hj)
+
+-- ---- the whole
+
+pub record Sizes (n t : ℕ) : Type 0 where
+  pub nodes-lo : 2 ≤ n
+  pub nodes-hi : n ≤ 64
+  pub threads-lo : 1 ≤ t
+  pub threads-hi : t ≤ 8
+
+pub record Tied (p : ℕ → Content) (m : Machine) (c : Core) : Type 0 where
+  pub conf : c .conf ≡ confOf (m .n) (m .t)
+  pub sizes : Sizes (m .n) (m .t)
+  pub hnode : c .hnode ≡ m .head
+  pub hidx : c .hidx ≡ m .index
+  pub narrow : m .index ≤ top
+  pub tail : c .tail ≡ m .tail
+  pub nodes : NodesT (m .n) (m .t) (m .nodes) (c .node) (c .next) (c .wait)
+  pub free : FreeT (m .n) (m .free) (c .free)
+  pub threads : ThreadsT (m .n) (m .t) (m .threads) (c .thr) (c .held)
+  pub kept : KeptT (m .n) p (m .«kept_head») (m .kept)

@@ -1,0 +1,161 @@
+-- A run: event by event the record and the abstract machine take, answer and show the same, up to the first event that is refused.
+use mathlib.Core.Path.{_≡_, refl, sym, ap, ap₂, subst, _∙_}
+use mathlib.Core.Bool.{Bool, true, false, not}
+use mathlib.Core.List.{List, [], _∷_, _++_, map}
+use mathlib.Core.Logic.{_≢_}
+use Prim.Native.Nat.{ℕ, zero, suc, _+_, _<_}
+use native.Mathlib.Omega.{arith}
+use native.Mathlib.Nat.{add-zero}
+use lib.Dec.{eqb}
+use lib.ListN.{length}
+use Rattle.answer.specs.Answers.{told, accepted}
+use Rattle.answer.specs.declared.Answer.{Answer}
+use Rattle.answer.specs.declared.Answer.the-variants.{Taken}
+use Rattle.image.specs.declared.Image.{Image}
+use Rattle.machine.specs.Start.{startOf, startAnswer}
+use Rattle.machine.specs.Retire.{out}
+use Rattle.machine.specs.Range.{inRange}
+use Rattle.machine.specs.Event.{Deed, deedOf, eventAnswer, eventAt, done}
+use Rattle.machine.specs.declared.Machine.{Machine}
+use Rattle.machine.specs.declared.Event.{Event}
+use Rattle.machine.specs.declared.Out.{Out}
+use Rattle.schedule.specs.Run as schedule
+use Rattle.schedule.specs.Run.{Ran, run, andBefore, turned, begins}
+use Rattle.model.specs.Core.{Ans, nothing, full, worn, empty, item}
+use Rattle.model.specs.Core as core
+use Rattle.model.specs.Machine.{M, answer, answers}
+use Rattle.model.specs.Events.{kindOf, refuse}
+use Rattle.model.specs.Bench.{Bench, turn, bench, opening}
+use Rattle.model.specs.Demand3.{TakesAll}
+use Rattle.model.proofs.Always.Runs.{openKept}
+use Rattle.tied.specs.Shown.{imageShown, Narrow, eventShown, answerOf, rawOf, toldBy}
+use Rattle.tied.proofs.Words.{no-way}
+use Rattle.tied.proofs.Range.{tied-in-range}
+use Rattle.tied.proofs.Accepted.{Sound, sound-is, shownT, tidy, fit-of}
+use Rattle.tied.proofs.Bench.{BenchT}
+use Rattle.tied.proofs.Past.{pastBegins}
+use Rattle.tied.proofs.Begins.{startedT, beginsT}
+use Rattle.tied.proofs.Refusals.{refused-same, not-7-8}
+use Rattle.tied.proofs.Turn.{ranged, takes, turns, answers-same}
+
+-- ---- one event of a run
+
+event-taken : (q : ℕ) (m : Machine) (e : Event) → accepted (eventAnswer q m e (deedOf (e .kind))) ≡ true → eventAt q m e ≡ done m e (deedOf (e .kind))
+unfolding eventAt
+event-taken q m e a = by (accepted (eventAnswer q m e (deedOf (e .kind)))) a
+  where
+    by : (x : Bool) → x ≡ true → _≡_ {A = Out} (elim x as (λ _. Out) [ true ↦ done m e (deedOf (e .kind)) | false ↦ out (eventAnswer q m e (deedOf (e .kind))) m ]) (done m e (deedOf (e .kind)))
+    by true z = refl
+    by false z = no-way (sym z)
+
+event-refused : (q : ℕ) (m : Machine) (e : Event) → accepted (eventAnswer q m e (deedOf (e .kind))) ≡ false → eventAt q m e ≡ out (eventAnswer q m e (deedOf (e .kind))) m
+unfolding eventAt
+event-refused q m e a = by (accepted (eventAnswer q m e (deedOf (e .kind)))) a
+  where
+    by : (x : Bool) → x ≡ false → _≡_ {A = Out} (elim x as (λ _. Out) [ true ↦ done m e (deedOf (e .kind)) | false ↦ out (eventAnswer q m e (deedOf (e .kind))) m ]) (out (eventAnswer q m e (deedOf (e .kind))) m)
+    by true z = no-way z
+    by false z = refl
+
+abbrev stopped : Answer → schedule.Bench → Ran
+stopped a b = record { answer = a; replies = []; bench = b }
+
+abbrev onward : ℕ → schedule.Bench → Event → List Event → Out → Ran
+onward q b e l o = andBefore (o .answer) (run (suc q) (turned b (o .machine) e (deedOf (e .kind))) l)
+
+run-by : (q : ℕ) (b : schedule.Bench) (e : Event) (l : List Event) (o : Out) → eventAt q (b .machine) e ≡ o → (x : Bool) → accepted (o .answer) ≡ x
+    → _≡_ {A = Ran} (run q b (e ∷ l)) (elim x as (λ _. Ran) [ true ↦ onward q b e l o | false ↦ stopped (o .answer) b ])
+unfolding run
+run-by q b e l o h x a = ap (λ o. elim (accepted (o .answer)) as (λ _. Ran) [ true ↦ onward q b e l o | false ↦ stopped (o .answer) b ]) h
+    ∙ ap (λ x. elim x as (λ _. Ran) [ true ↦ onward q b e l o | false ↦ stopped (o .answer) b ]) a
+
+says-taken : (a : Ans) → accepted (answerOf a) ≡ true
+says-taken nothing = refl
+says-taken core.done = refl
+says-taken full = refl
+says-taken worn = refl
+says-taken empty = refl
+says-taken (item v) = refl
+
+-- ---- the run
+
+-- Taken where no event is left; else the first of those left is refused, with the number that the abstract machine gives it, at place q
+abbrev pub Stops : M → Answer → ℕ → List Event → Type 0
+Stops m a q [] = a ≡ Taken
+Stops m a q (e ∷ l) = (refuse m (kindOf (e .kind)) (rawOf e) ≢ 0) × (told a ≡ toldBy (refuse m (kindOf (e .kind)) (rawOf e)) q)
+
+-- the events that were taken, all of them if none was refused; what they answered; what the benches show in the end
+pub record RunT (q : ℕ) (B : Bench) (l : List Event) (R : Ran) : Type 0 where
+  pub taken : List Event
+  pub rest : List Event
+  pub begin : l ≡ taken ++ rest
+  pub all : accepted (R .answer) ≡ true → taken ≡ l
+  pub takes : TakesAll (B .mach) (map eventShown taken)
+  pub replies : R .replies ≡ map answerOf (answers (B .mach) (map eventShown taken))
+  pub ends : BenchT (R .bench) (bench B (map eventShown taken))
+  pub stops : Stops (bench B (map eventShown taken) .mach) (R .answer) (q + length taken) rest
+
+pub runT : (l : List Event) (q : ℕ) (b : schedule.Bench) (B : Bench) → BenchT b B → RunT q B l (run q b l)
+unfolding run bench answers
+runT [] q b B r = record { taken = []; rest = []; begin = refl; all = λ h. refl; takes = tt; replies = refl; ends = r; stops = refl }
+runT (e ∷ l) q b B r = by (accepted (eventAnswer q (b .machine) e (deedOf (e .kind)))) refl (runT l)
+  where
+    later : (q n : ℕ) → suc q + n ≡ q + suc n
+    later q n = omega arith
+
+    stop : accepted (eventAnswer q (b .machine) e (deedOf (e .kind))) ≡ false → Stops (B .mach) (eventAnswer q (b .machine) e (deedOf (e .kind))) (q + 0) (e ∷ l)
+    stop a =
+        let t = refused-same b B r q e in
+        (λ z. no-way (sym (ap (λ w. eqb (w .number) 0) (t ∙ ap (λ n. toldBy n q) z)) ∙ a), t ∙ ap (toldBy (refuse (B .mach) (kindOf (e .kind)) (rawOf e))) (sym (add-zero q)))
+
+    by : (x : Bool) → accepted (eventAnswer q (b .machine) e (deedOf (e .kind))) ≡ x
+        → ((q : ℕ) (b : schedule.Bench) (B : Bench) → BenchT b B → RunT q B l (run q b l)) → RunT q B (e ∷ l) (run q b (e ∷ l))
+    by true a rec =
+        let says = answers-same b B r q e (deedOf (e .kind)) a in
+        let s = rec (suc q) (turned b (done (b .machine) e (deedOf (e .kind)) .machine) e (deedOf (e .kind))) (turn B (eventShown e)) (turns b B r q e (deedOf (e .kind)) a) in
+        subst (RunT q B (e ∷ l)) (sym (run-by q b e l (done (b .machine) e (deedOf (e .kind))) (event-taken q (b .machine) e a) true (ap accepted says ∙ says-taken (answer (B .mach) (eventShown e)))))
+        (record {
+          taken = e ∷ s .taken;
+          rest = s .rest;
+          begin = ap (λ z. e ∷ z) (s .begin);
+          all = λ h. ap (λ z. e ∷ z) (s .all h);
+          takes = (takes b B r q e (deedOf (e .kind)) a, s .takes);
+          replies = ap₂ (λ x y. x ∷ y) says (s .replies);
+          ends = s .ends;
+          stops = subst (λ n. Stops (bench B (map eventShown (e ∷ s .taken)) .mach) (run (suc q) (turned b (done (b .machine) e (deedOf (e .kind)) .machine) e (deedOf (e .kind))) l .answer) n (s .rest)) (later q (length (s .taken))) (s .stops);
+        })
+    by false a rec =
+        subst (RunT q B (e ∷ l)) (sym (run-by q b e l (out (eventAnswer q (b .machine) e (deedOf (e .kind))) (b .machine)) (event-refused q (b .machine) e a) false a))
+        (record { taken = []; rest = e ∷ l; begin = refl; all = λ h. no-way (sym h ∙ a); takes = tt; replies = refl; ends = r; stops = stop a })
+
+-- no run stops with 7 or 8
+told-number : (n q : ℕ) → toldBy n q .number ≡ n
+told-number zero q = refl
+told-number (suc n) q = refl
+
+stop-by : (m : M) (a : Answer) (p : ℕ) (rest : List Event) → Stops m a p rest → (x : ℕ) → 0 < x → x < 9 → told a .number ≢ x
+stop-by m a p [] s x lo hi e = omega (arith, sym (ap (λ a. told a .number) s) ∙ e)
+stop-by m a p (d ∷ l) s x lo hi e = not-7-8 m (kindOf (d .kind)) (rawOf d) x lo hi (sym (told-number _ p) ∙ sym (ap (λ w. w .number) (s .1)) ∙ e)
+
+pub stop-number : (q : ℕ) (B : Bench) (l : List Event) (R : Ran) → RunT q B l R → (told (R .answer) .number ≢ 7) × (told (R .answer) .number ≢ 8)
+stop-number q B l R r = (stop-by _ _ _ (r .rest) (r .stops) 7 (omega arith) (omega arith), stop-by _ _ _ (r .rest) (r .stops) 8 (omega arith) (omega arith))
+
+-- ---- from an accepted start
+
+module _ (g : Image) (t : ℕ) (a : accepted (startAnswer g t) ≡ true) (w : Narrow g) where
+  pub opensT : BenchT (begins (startOf g t)) (opening (imageShown g t))
+  opensT =
+      let s = sound-is g t a in
+      let i = shownT g t s w in
+      record {
+        kept = openKept (imageShown g t) (fit-of g t (imageShown g t) i s) (tidy g t s w);
+        tied = startedT g t (imageShown g t) i (s .dummy);
+        lists = beginsT g t (imageShown g t) i (s .dummy);
+        past = pastBegins (startOf g t);
+      }
+
+  pub startT : (q : ℕ) (l : List Event) → RunT q (opening (imageShown g t)) l (run q (begins (startOf g t)) l)
+  startT q l = runT l q (begins (startOf g t)) (opening (imageShown g t)) opensT
+
+-- 18 refuses no record of a run, at whatever event it stopped
+pub bench-in-range : (b : schedule.Bench) (B : Bench) → BenchT b B → inRange (b .machine) ≡ true
+bench-in-range b B r = tied-in-range _ (b .machine) (B .mach .core) (r .tied) (ranged b B r)

@@ -1,0 +1,73 @@
+-- A schedule read from bytes: it begins with an accepted start, and its indices are of 32 bits.
+use mathlib.Core.Path.{_≡_, refl, sym, ap, subst, _∙_}
+use mathlib.Core.Bool.{Bool, true, false, not}
+use mathlib.Core.List.{List}
+use Prim.Native.Nat.{ℕ, _+_, _*_, _≤_, _<_}
+use native.Mathlib.Omega.{arith}
+use lib.Dec.{eqb, ltb}
+use lib.ListN.{length, getD, drop}
+use lib.Seq.{getD-drop}
+use Rattle.answer.specs.Answers.{check, accepted}
+use Rattle.answer.specs.declared.Answer.{Answer}
+use Rattle.answer.specs.declared.Answer.the-variants.{Taken, Length, Mark, Nodes, Threads, Events}
+use Rattle.image.specs.Bytes.{at1, at4, num4}
+use Rattle.image.specs.Layout.{contentAt, noContent, noContents, isImage, nodePlace, readContent, readNodes, imageIn}
+use Rattle.image.specs.Refusals.{nodesFit, sound, imageAnswer}
+use Rattle.machine.specs.Record.{top}
+use Rattle.machine.specs.Start.{threadsFit, startAnswer}
+use Rattle.machine.specs.Range.{inRange}
+use Rattle.machine.specs.declared.Event.{Event}
+use Rattle.schedule.specs.Layout.{isSchedule, threadsIn, countIn, imagePart, scheduleIn, scheduleAnswer, eventsIn}
+use Rattle.schedule.specs.Run.{run, ran, opened}
+use Rattle.tied.specs.Shown.{Narrow}
+use Rattle.tied.proofs.Words.{no-way}
+use Rattle.tied.proofs.Accepted.{pass, not-false}
+use Rattle.tied.proofs.Start.{front-at}
+use Rattle.tied.proofs.Statements.{run-in-range}
+
+-- a list of bytes
+abbrev pub Bytes : List ℕ → Type 0
+Bytes s = (i : ℕ) → getD s i 0 < 256
+
+check-no : (b : Bool) (w rest : Answer) → b ≡ false → accepted rest ≡ true → accepted (check b w rest) ≡ true
+check-no b w rest e a = rw e a
+
+narrow4 : (s : List ℕ) → Bytes s → (i : ℕ) → at4 s i ≤ top
+narrow4 s b i = omega (arith, b i, b (i + 1), b (i + 2), b (i + 3))
+
+pub narrow-image : (s : List ℕ) → Bytes s → Narrow (imageIn s)
+unfolding imageIn readNodes
+narrow-image s b = record {
+  head = narrow4 s b 6;
+  at = λ i h. subst (λ c. c .index ≤ top) (sym (front-at (λ i. readContent s (nodePlace i)) (at1 s 5) noContents i noContent h)) (narrow4 s b (nodePlace i + 1));
+}
+
+pub image-starts : (s : List ℕ) (more t : ℕ) → accepted (imageAnswer more s) ≡ true → threadsFit t ≡ true → accepted (startAnswer (imageIn s) t) ≡ true
+unfolding imageAnswer startAnswer imageIn
+image-starts s more t a h =
+    let x = pass (ltb (length s) 10) Length _ refl a in
+    let y = pass (not (isImage s)) Mark _ refl (x .1) in
+    let z = pass (not (nodesFit (at1 s 5))) Nodes _ refl (y .1) in
+    let w = pass (not (eqb (length s) (nodePlace (at1 s 5) + more))) Length _ refl (z .1) in
+    check-no (not (threadsFit t)) Threads _ (ap not h) (check-no (not (nodesFit (at1 s 5))) Nodes _ (z .0) (w .1))
+
+pub schedule-starts : (s : List ℕ) → accepted (scheduleAnswer s) ≡ true → accepted (startAnswer (scheduleIn s .image) (scheduleIn s .t)) ≡ true
+unfolding scheduleAnswer scheduleIn
+schedule-starts s a =
+    let x = pass (ltb (length s) 8) Length _ refl a in
+    let y = pass (not (isSchedule s)) Mark _ refl (x .1) in
+    let z = pass (not (threadsFit (threadsIn s))) Threads _ refl (y .1) in
+    let w = pass (ltb 4096 (countIn s)) Events _ refl (z .1) in
+    image-starts (imagePart s) (countIn s * 6) (threadsIn s) (w .1) (not-false _ (z .0))
+
+pub schedule-narrow : (s : List ℕ) → Bytes s → Narrow (scheduleIn s .image)
+unfolding scheduleIn
+schedule-narrow s b = narrow-image (imagePart s) (λ i. subst (λ x. x < 256) (sym (getD-drop 8 s i 0)) (b (8 + i)))
+
+-- no record of a schedule's run is refused by 18, nor any of its start with other events
+pub events-in-range : (s : List ℕ) → Bytes s → accepted (scheduleAnswer s) ≡ true → (q : ℕ) (l : List Event) → inRange (run q (opened (scheduleIn s)) l .bench .machine) ≡ true
+events-in-range s b a q l = run-in-range (scheduleIn s .image) (scheduleIn s .t) (schedule-starts s a) (schedule-narrow s b) q l
+
+pub ran-in-range : (s : List ℕ) → Bytes s → accepted (scheduleAnswer s) ≡ true → inRange (ran s .bench .machine) ≡ true
+unfolding ran
+ran-in-range s b a = events-in-range s b a 0 (eventsIn s)

@@ -1,0 +1,102 @@
+-- What is to be shown of a step: the same answer, records that show the same after it, the line persisted if one is.
+use mathlib.Core.Path.{_≡_, refl, sym, ap, subst, _∙_}
+use mathlib.Core.Bool.{Bool, true, false}
+use mathlib.Core.Logic.{inl, inr}
+use mathlib.Core.Option.{Option, none, some}
+use Prim.Native.Nat.{ℕ, suc, _≤_, _<_}
+use native.Mathlib.Omega.{arith}
+use lib.Dec.{eqb}
+use Rattle.answer.specs.declared.Answer.{Answer}
+use Rattle.image.specs.declared.Content.{Content}
+use Rattle.machine.specs.Record.{thread, atStep}
+use Rattle.machine.specs.Line.{cachedAt}
+use Rattle.machine.specs.Stage.{Stage, stage}
+use Rattle.machine.specs.Retire.{left}
+use Rattle.machine.specs.declared.Machine.{Machine}
+use Rattle.machine.specs.declared.Thread.{Thread}
+use Rattle.machine.specs.declared.Out as machine
+use Rattle.schedule.specs.Run.{Touched, noLine, aLine}
+use Rattle.model.specs.Basics.{upd}
+use Rattle.model.specs.Lines.{Touch, nowhere, stores, flushes}
+use Rattle.model.specs.Conf.{shared}
+use Rattle.model.specs.Core.{Core, Th}
+use Rattle.model.specs.Changes.{setLast}
+use Rattle.model.specs.Steps.{Out, leave}
+use Rattle.model.specs.Always.{ThIn, InRange}
+use Rattle.model.proofs.Basics.{true→eq}
+use Rattle.tied.specs.Shown.{linkIf, linkOf, threadOf, shownThread, lineShown, answerOf}
+use Rattle.tied.proofs.Words.{no-way}
+use Rattle.tied.proofs.Relation.{Link, Regs, ThreadAt, Tied}
+use Rattle.tied.proofs.Changes.{count-n}
+use Rattle.tied.proofs.Leaving.{leftT}
+
+-- what the lines hold persisted after one is, or none
+abbrev pub keeps : Touched → Machine → (ℕ → Content) → ℕ → Content
+keeps noLine m p = p
+keeps (aLine l) m p = upd p l (cachedAt m l)
+
+-- the record persists what the core flushes
+abbrev pub Touches : Touched → Touch → Type 0
+Touches noLine nowhere = Unit {0}
+Touches noLine (stores l) = Unit {0}
+Touches noLine (flushes l) = ⊥
+Touches (aLine k) nowhere = ⊥
+Touches (aLine k) (stores l) = ⊥
+Touches (aLine k) (flushes l) = l ≡ lineShown k
+
+pub record StepT (p : ℕ → Content) (m : Machine) (w : Touched) (o : machine.Out) (O : Out) : Type 0 where
+  pub tied : Tied (keeps w m p) (o .machine) (O .core)
+  pub says : o .answer ≡ answerOf (O .ans)
+  pub touch : Touches w (O .touch)
+
+pub link-in : (n x : ℕ) → Link n x → eqb x 255 ≡ false → x < n
+link-in n x (inl h) e = h
+link-in n x (inr h) e = no-way (sym (ap (λ y. eqb y 255) h) ∙ e)
+
+-- a link that is some node is that node's number
+pub link-is : (x y : ℕ) → linkOf x ≡ some y → (eqb x 255 ≡ false) × (y ≡ x)
+link-is x y e = by (eqb x 255) refl e
+  where
+    by : (b : Bool) → eqb x 255 ≡ b → linkIf b x ≡ some y → (eqb x 255 ≡ false) × (y ≡ x)
+    by true h e = let z : _≡_ {A = ℕ} 0 1 = cc in absurd (omega arith)
+    by false h e = (h, let z : x ≡ y = cc in sym z)
+
+-- which node was handed out last is not in the record
+pub lastT : (p : ℕ → Content) (m : Machine) (c : Core) → Tied p m c → (n : ℕ) → Tied p m (setLast c n)
+lastT p m c d n = record {
+  conf = d .conf;
+  sizes = d .sizes;
+  hnode = d .hnode;
+  hidx = d .hidx;
+  narrow = d .narrow;
+  tail = d .tail;
+  nodes = d .nodes;
+  free = d .free;
+  threads = d .threads;
+  kept = d .kept;
+}
+
+module _ (p : ℕ → Content) (m : Machine) (c : Core) (d : Tied p m c) (k : ℕ) (hk : k < m .t) where
+  pub engine-is : c .conf .engine ≡ shared
+  engine-is = ap (λ z. z .engine) (d .conf)
+
+  pub regs-of : Regs (m .n) (thread m k)
+  regs-of = d .threads .at k hk .regs
+
+  -- the thread goes on to step s with what it has read
+  pub goes-on : (s : ℕ) (S : Th) → s ≤ 19 → S ≡ shownThread (atStep (thread m k) s) → ThreadAt (m .n) (atStep (thread m k) s) S (c .held k)
+  goes-on s S h e = record {
+    stage = e;
+    holds = d .threads .at k hk .holds;
+    regs = record { step = h; node = regs-of .node; tail = regs-of .tail; head = regs-of .head; next = regs-of .next; held = regs-of .held };
+  }
+
+  -- the thread answers and holds what it held
+  pub leavesT : Tied p (left m k (thread m k .held)) (leave c k)
+  leavesT = leftT p m c d k hk (thread m k .held) (c .held) (d .threads .at k hk .holds) (regs-of .held) (λ j ne. refl)
+
+  -- what the thread's step uses is there
+  pub used : InRange c → (s : Stage) → stage m k ≡ s → ThIn (m .n) (c .next) (threadOf s (thread m k))
+  used r s e =
+      let x : ThIn (m .n) (c .next) (c .thr k) = subst (λ n. ThIn n (c .next) (c .thr k)) (count-n p m c d) (r .threads k) in
+      subst (ThIn (m .n) (c .next)) (d .threads .at k hk .stage ∙ ap (λ s. threadOf s (thread m k)) e) x

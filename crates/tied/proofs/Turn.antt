@@ -1,0 +1,171 @@
+-- An event that the record takes: the abstract machine takes it too, answers the same, and the benches show the same after it.
+use mathlib.Core.Path.{_≡_, refl, sym, ap, subst, _∙_}
+use mathlib.Core.Bool.{Bool, true, false, not}
+use mathlib.Core.List.{List, [], _∷_, map}
+use mathlib.Core.Logic.{_≢_, inl, inr}
+use Prim.Native.Nat.{ℕ, zero, suc, _≤_, _<_}
+use native.Mathlib.Omega.{arith}
+use native.Mathlib.Decide.{decLt}
+use lib.Dec.{eqb, leb}
+use Rattle.lists.specs.Find.{pick}
+use Rattle.answer.specs.Answers.{check, accepted}
+use Rattle.answer.specs.declared.Answer.{Answer}
+use Rattle.answer.specs.declared.Answer.the-variants.{Taken, Kind, Number, Busy, Idle, NotZero}
+use Rattle.image.specs.Layout.{contentAt}
+use Rattle.image.specs.Recovered.{dummyOf}
+use Rattle.machine.specs.Record.{kept}
+use Rattle.machine.specs.Line.{lineCount, persistedAt, persisted}
+use Rattle.machine.specs.Stage as stage
+use Rattle.machine.specs.Start.{startOf}
+use Rattle.machine.specs.Event.{Deed, unknown, enqueues, dequeues, steps, writesBack, crashes, eventAnswer, threadTooLarge, lineTooLarge, itemNotZero, begun, done}
+use Rattle.machine.specs.declared.Machine.{Machine}
+use Rattle.machine.specs.declared.Event.{Event}
+use Rattle.schedule.specs.Run as run
+use Rattle.schedule.specs.Run.{noLine, aLine, turned, persists}
+use Rattle.page.specs.Contents.{contentsOf}
+use Rattle.model.specs.Lines.{act, back, nowhere, flushes, headOr}
+use Rattle.model.specs.Conf.{Within, headLines}
+use Rattle.model.specs.Core.{Core, busy, a1, d1, zeroNode}
+use Rattle.model.specs.Steps.{enq, deq, move}
+use Rattle.model.specs.Machine as machine
+use Rattle.model.specs.Machine.{ev, crash, answer}
+use Rattle.model.specs.Bench.{Bench, turn}
+use Rattle.model.specs.Demand3.{Fit, Takes}
+use Rattle.model.specs.Always.{InRange}
+use Rattle.model.proofs.Basics.{le-true}
+use Rattle.model.proofs.Demand3.Endings.{fit}
+use Rattle.model.proofs.Demand3.ThreeB.{stays-put}
+use Rattle.model.proofs.Page.Frame.{frame, conf-same}
+use Rattle.model.proofs.Always.Runs.{turnKept, keptRange}
+use Rattle.tied.specs.Shown.{shownContent, lineShown, eventBy, answerOf}
+use Rattle.tied.proofs.Words.{no-way}
+use Rattle.tied.proofs.Relation.{Tied}
+use Rattle.tied.proofs.Changes.{persistT, count-n, count-t}
+use Rattle.tied.proofs.Retiring.{busy-tied}
+use Rattle.tied.proofs.Step.{stepT, enqueuesT, dequeuesT}
+use Rattle.tied.proofs.Images.{ImageT}
+use Rattle.tied.proofs.Accepted.{pass, not-false, fit-dummy}
+use Rattle.tied.proofs.Contents.{gathered-first}
+use Rattle.tied.proofs.Bench.{own-kept, kept-flag, BenchT, ListsT, present, goesOnT, nextPast}
+use Rattle.tied.proofs.Past.{pastBegins}
+use Rattle.tied.proofs.Begins.{startedT, beginsT}
+
+pub lt-of : (a b : ℕ) → leb a b ≡ false → b < a
+lt-of a b e = by (decLt b a)
+  where
+    by : Dec (b < a) → b < a
+    by (yes h) = h
+    by (no h) = no-way (sym (le-true a b (omega arith)) ∙ e)
+
+first-of : (b : run.Bench) (l : ℕ) → headOr (map shownContent (contentsOf b l)) zeroNode ≡ shownContent (persistedAt (b .machine) l)
+unfolding contentsOf
+first-of b l = gathered-first _ (persistedAt (b .machine) l)
+
+module _ (b : run.Bench) (B : Bench) (r : BenchT b B) where
+  abbrev m : Machine
+  m = b .machine
+
+  abbrev c : Core
+  c = B .mach .core
+
+  pub ranged : InRange c
+  ranged = keptRange B (r .kept)
+
+  -- the persisted copies, as an image, here and there
+  pub persistedT : ImageT (persisted m) (m .t) (machine.persisted (B .mach))
+  persistedT = record {
+    conf = r .tied .conf;
+    sizes = r .tied .sizes;
+    head = ap (λ l. headOr l zeroNode .index) (r .lists .lists 0 (omega arith)) ∙ ap (λ z. z .index) (first-of b 0);
+    at = λ i h. ap (λ l. headOr l zeroNode) (r .lists .lists (suc i) (omega arith)) ∙ first-of b (suc i);
+    flag = λ i h. kept-flag _ m c (r .tied) (suc i) (omega arith);
+    narrow-head = r .tied .kept .narrow 0 (omega arith);
+    narrow = λ i h. r .tied .kept .narrow (suc i) (omega arith);
+  }
+
+  pub persisted-fit : Fit (machine.persisted (B .mach))
+  persisted-fit = fit _ _ _ _ _ (r .kept .all) (machine.persisted (B .mach)) (stays-put (B .mach) _ _ _ (r .kept .all))
+
+  module _ (q : ℕ) (e : Event) where
+    thread-in : threadTooLarge m e ≡ false → e .number < m .t
+    thread-in f = lt-of (m .t) (e .number) f
+
+    -- taken here, taken there
+    pub takes : (δ : Deed) → accepted (eventAnswer q m e δ) ≡ true → Takes (B .mach) (eventBy δ e)
+    takes unknown a = no-way (sym a)
+    takes enqueues a =
+        let x = pass (threadTooLarge m e) (Number q) _ refl a in let y = pass (stage.busy m (e .number)) (Busy q) Taken refl (x .1) in
+        let h = thread-in (x .0) in (omega (arith, count-t _ m c (r .tied)), busy-tied _ m c (r .tied) (e .number) h ∙ y .0)
+    takes dequeues a =
+        let x = pass (threadTooLarge m e) (Number q) _ refl a in let z = pass (itemNotZero e) (NotZero q) _ refl (x .1) in let y = pass (stage.busy m (e .number)) (Busy q) Taken refl (z .1) in
+        let h = thread-in (x .0) in (omega (arith, count-t _ m c (r .tied)), busy-tied _ m c (r .tied) (e .number) h ∙ y .0)
+    takes steps a =
+        let x = pass (threadTooLarge m e) (Number q) _ refl a in let z = pass (itemNotZero e) (NotZero q) _ refl (x .1) in let y = pass (not (stage.busy m (e .number))) (Idle q) Taken refl (z .1) in
+        let h = thread-in (x .0) in (omega (arith, count-t _ m c (r .tied)), busy-tied _ m c (r .tied) (e .number) h ∙ not-false _ (y .0))
+    takes writesBack a = let x = pass (lineTooLarge m e) (Number q) _ refl a in by (e .number) (lt-of (lineCount (m .n)) (e .number) (x .0))
+      where
+        by : (l : ℕ) → l < lineCount (m .n) → Within (c .conf) (lineShown l)
+        by zero h = subst (λ z. 0 < headLines z) (sym (r .tied .conf)) (omega arith)
+        by (suc i) h = omega (arith, count-n _ m c (r .tied))
+    takes crashes a = tt
+
+    -- and the same after it
+    pub turns : (δ : Deed) → accepted (eventAnswer q m e δ) ≡ true → BenchT (turned b (done m e δ .machine) e δ) (turn B (eventBy δ e))
+    turns unknown a = no-way (sym a)
+    turns enqueues a =
+        let x = pass (threadTooLarge m e) (Number q) _ refl a in
+        let h = thread-in (x .0) in
+        let d = enqueuesT _ m c (r .tied) ranged (e .number) h (e .item) in
+        record {
+          kept = turnKept B (ev (act (enq (e .number) (e .item)))) (r .kept) (takes enqueues a);
+          tied = own-kept _ _ _ d;
+          lists = goesOnT b c _ (B .mach .hist) _ noLine nowhere (r .lists) (r .tied) d (present b B r) refl (λ l ne. refl) tt;
+          past = nextPast b c _ (B .mach .hist) _ noLine nowhere (r .lists) (r .tied) d (present b B r) refl (λ l ne. refl) tt (r .past);
+        }
+    turns dequeues a =
+        let x = pass (threadTooLarge m e) (Number q) _ refl a in
+        let h = thread-in (x .0) in
+        let d = dequeuesT _ m c (r .tied) ranged (e .number) h in
+        record {
+          kept = turnKept B (ev (act (deq (e .number)))) (r .kept) (takes dequeues a);
+          tied = own-kept _ _ _ d;
+          lists = goesOnT b c _ (B .mach .hist) _ noLine nowhere (r .lists) (r .tied) d (present b B r) refl (λ l ne. refl) tt;
+          past = nextPast b c _ (B .mach .hist) _ noLine nowhere (r .lists) (r .tied) d (present b B r) refl (λ l ne. refl) tt (r .past);
+        }
+    turns steps a =
+        let x = pass (threadTooLarge m e) (Number q) _ refl a in
+        let h = thread-in (x .0) in
+        let s = stepT _ m c (r .tied) ranged (e .number) h in
+        record {
+          kept = turnKept B (ev (act (move (e .number)))) (r .kept) (takes steps a);
+          tied = own-kept _ _ _ (s .tied);
+          lists = goesOnT b c _ (B .mach .hist) _ (persists m e steps) _ (r .lists) (r .tied) (s .tied) (present b B r) (conf-same c (move (e .number))) (frame c (move (e .number))) (s .touch);
+          past = nextPast b c _ (B .mach .hist) _ (persists m e steps) _ (r .lists) (r .tied) (s .tied) (present b B r) (conf-same c (move (e .number))) (frame c (move (e .number))) (s .touch) (r .past);
+        }
+    turns writesBack a =
+        let x = pass (lineTooLarge m e) (Number q) _ refl a in
+        let d = persistT _ m c (r .tied) (e .number) (lt-of (lineCount (m .n)) (e .number) (x .0)) in
+        record {
+          kept = turnKept B (ev (back (lineShown (e .number)))) (r .kept) (takes writesBack a);
+          tied = own-kept _ _ _ d;
+          lists = goesOnT b c c (B .mach .hist) _ (aLine (e .number)) (flushes (lineShown (e .number))) (r .lists) (r .tied) d (present b B r) refl (λ l ne. refl) refl;
+          past = nextPast b c c (B .mach .hist) _ (aLine (e .number)) (flushes (lineShown (e .number))) (r .lists) (r .tied) d (present b B r) refl (λ l ne. refl) refl (r .past);
+        }
+    turns crashes a =
+        let dm = fit-dummy (persisted m) (m .t) (machine.persisted (B .mach)) persistedT persisted-fit in
+        record {
+          kept = turnKept B crash (r .kept) tt;
+          tied = startedT (persisted m) (m .t) (machine.persisted (B .mach)) persistedT dm;
+          lists = beginsT (persisted m) (m .t) (machine.persisted (B .mach)) persistedT dm;
+          past = pastBegins (startOf (persisted m) (m .t));
+        }
+
+    pub answers-same : (δ : Deed) → accepted (eventAnswer q m e δ) ≡ true → done m e δ .answer ≡ answerOf (answer (B .mach) (eventBy δ e))
+    answers-same unknown a = no-way (sym a)
+    answers-same enqueues a = refl
+    answers-same dequeues a = refl
+    answers-same steps a =
+        let x = pass (threadTooLarge m e) (Number q) _ refl a in
+        stepT _ m c (r .tied) ranged (e .number) (thread-in (x .0)) .says
+    answers-same writesBack a = refl
+    answers-same crashes a = refl

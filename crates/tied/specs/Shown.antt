@@ -1,0 +1,132 @@
+-- What a record shows: the values of the abstract machine that its numbers stand for.
+use mathlib.Core.Bool.{Bool, true, false}
+use mathlib.Core.List.{List, [], _∷_}
+use mathlib.Core.Option.{Option, none, some}
+use Prim.Native.Nat.{ℕ, zero, suc, _≤_, _<_}
+use lib.Dec.{eqb, ltb}
+use Rattle.lists.specs.Word.{has}
+use Rattle.answer.specs.Answers.{replied, refusal}
+use Rattle.answer.specs.declared.Told.{Told}
+use Rattle.answer.specs.declared.Answer.{Answer}
+use Rattle.answer.specs.declared.Answer.the-variants.{Taken, Done, Full, WornOut, Item, Empty}
+use Rattle.image.specs.declared.Content.{Content}
+use Rattle.image.specs.declared.Image.{Image}
+use Rattle.image.specs.Layout.{contentAt}
+use Rattle.machine.specs.Record.{top}
+use Rattle.machine.specs.Stage.{Stage, noStep, A1, A2, A3, A4, A5, A6, A7, A8, A9, A10, A11, A12, D1, D2, D3, D4, D5, D6, D7, stageOf}
+use Rattle.machine.specs.declared.Thread.{Thread}
+use Rattle.machine.specs.declared.Event.{Event}
+use Rattle.machine.specs.Event.{Deed, unknown, enqueues, dequeues, steps, writesBack, crashes, deedOf}
+use Rattle.model.specs.Basics.{sel}
+use Rattle.model.specs.Lines.{Line, ofHead, ofNode, act, back}
+use Rattle.model.specs.Conf.{Conf, shared}
+use Rattle.model.specs.Choice.{lowestFirst}
+use Rattle.model.specs.Core as core
+use Rattle.model.specs.Core.{Th, idle, a1, a2, a3, a4, a5, a6, a7, a8, a9, a10, a11, a12, d1, d2, d3, d4, d5, d6, d7, Ans}
+use Rattle.model.specs.Recovery as recovery
+use Rattle.model.specs.Machine as machine
+use Rattle.model.specs.Steps.{enq, deq, move}
+use Rattle.model.specs.Events.{Raw}
+
+-- a content: a linked flag is set where it is 1
+abbrev pub shownContent : Content → core.Node
+shownContent c = record { linked = eqb (c .linked) 1; index = c .index; item = c .item }
+
+-- a node number, where 255 is none
+abbrev pub linkIf : Bool → ℕ → Option ℕ
+linkIf true x = none
+linkIf false x = some x
+
+abbrev pub linkOf : ℕ → Option ℕ
+linkOf x = linkIf (eqb x 255) x
+
+abbrev pub also : Bool → ℕ → List ℕ → List ℕ
+also true t l = t ∷ l
+also false t l = l
+
+-- the numbers below t that f holds of, highest first
+unfoldable pub listed : (ℕ → Bool) → ℕ → List ℕ
+listed f zero = []
+listed f (suc t) = also (f t) t (listed f t)
+
+-- the threads below t in the set w
+abbrev pub members : ℕ → ℕ → List ℕ
+members t w = listed (has w) t
+
+-- a thread at a stage, with what it has read
+abbrev pub threadOf : Stage → Thread → Th
+threadOf noStep v = idle
+threadOf A1 v = a1 (v .item)
+threadOf A2 v = a2 (v .item) (v .node)
+threadOf A3 v = a3 (v .item) (v .node)
+threadOf A4 v = a4 (v .item) (v .node)
+threadOf A5 v = a5 (v .item) (v .node)
+threadOf A6 v = a6 (v .item) (v .node) (v .tail)
+threadOf A7 v = a7 (v .item) (v .node) (v .tail)
+threadOf A8 v = a8 (v .item) (v .node) (v .tail)
+threadOf A9 v = a9 (v .item) (v .node) (v .tail)
+threadOf A10 v = a10 (v .item) (v .node) (v .tail)
+threadOf A11 v = a11 (v .item) (v .node) (v .tail)
+threadOf A12 v = a12 (v .item) (v .node) (v .tail)
+threadOf D1 v = d1
+threadOf D2 v = d2 (v .head) (v .index)
+threadOf D3 v = d3 (v .head) (v .index)
+threadOf D4 v = d4 (v .head) (v .index) (v .next)
+threadOf D5 v = d5 (v .head) (v .next)
+threadOf D6 v = d6 (v .head) (v .item)
+threadOf D7 v = d7 (v .head) (v .item)
+
+abbrev pub shownThread : Thread → Th
+shownThread v = threadOf (stageOf (v .step)) v
+
+-- N nodes, T threads, indices of 32 bits, one line for Head, the lowest-numbered free node first
+abbrev pub confOf : ℕ → ℕ → Conf
+confOf n t = record { nodes = n; threads = t; top = top; engine = shared; chooser = lowestFirst }
+
+-- line 0 is Head, line i + 1 is node i
+abbrev pub lineShown : ℕ → Line
+lineShown zero = ofHead 0
+lineShown (suc i) = ofNode i
+
+-- an image: nothing is there beyond its N nodes
+unfoldable pub imageShown : Image → ℕ → recovery.Image
+imageShown g t = record {
+  conf = confOf (g .n) t;
+  heads = λ k. g .head;
+  at = λ i. sel (ltb i (g .n)) (shownContent (contentAt (g .nodes) i)) core.zeroNode;
+}
+
+-- an event that is not refused
+abbrev pub eventBy : Deed → Event → machine.Event
+eventBy unknown e = machine.crash
+eventBy enqueues e = machine.ev (act (enq (e .number) (e .item)))
+eventBy dequeues e = machine.ev (act (deq (e .number)))
+eventBy steps e = machine.ev (act (move (e .number)))
+eventBy writesBack e = machine.ev (back (lineShown (e .number)))
+eventBy crashes e = machine.crash
+
+abbrev pub eventShown : Event → machine.Event
+eventShown e = eventBy (deedOf (e .kind)) e
+
+-- the answer of an operation, or none yet
+abbrev pub answerOf : Ans → Answer
+answerOf core.nothing = Taken
+answerOf core.done = Done
+answerOf core.full = Full
+answerOf core.worn = WornOut
+answerOf core.empty = Empty
+answerOf (core.item v) = Item v
+
+-- every index of an image is one of 32 bits, as those of the code's type are
+pub record Narrow (g : Image) : Type 0 where
+  pub head : g .head ≤ top
+  pub at : (i : ℕ) → i < g .n → contentAt (g .nodes) i .index ≤ top
+
+-- an event as its three numbers
+abbrev pub rawOf : Event → Raw
+rawOf e = record { kind = e .kind; number = e .number; item = e .item }
+
+-- number k of the paper's table at place q; 0 is taken
+abbrev pub toldBy : ℕ → ℕ → Told
+toldBy zero q = replied 0 0
+toldBy (suc k) q = refusal (suc k) q
