@@ -7,7 +7,7 @@ use native.Mathlib.Omega.{arith}
 use borrow.Author.Tests.{eqb-true, ltb-false, leb-true, lt-ltb, le-ltb}
 use lib.ListN.{length, drop, length-drop}
 use lib.Dec.{eqb, ltb, leb}
-use Rattle.lists.specs.Find.{pick, both}
+use Rattle.lists.specs.Find.{both}
 use Rattle.answer.specs.Answers.{check, accepted}
 use Rattle.answer.specs.declared.Answer.{Answer}
 use Rattle.answer.specs.declared.Answer.the-variants.{Taken, Length, Mark, Nodes, Threads, Events, Linked, Twin, NoDummy, Room}
@@ -18,7 +18,6 @@ use Rattle.image.specs.Refusals.{nodesFit, startable, sound, imageAnswer, write
 use Rattle.image.specs.declared.Image.{Image}
 use Rattle.machine.specs.Start.{threadsFit}
 use Rattle.schedule.specs.Layout.{isSchedule, threadsIn, countIn, imagePart, nodesIn, eventPlace, scheduleIn, scheduleAnswer, readSchedule}
-use Rattle.schedule.specs.declared.Opened.{Opened}
 
 abbrev asNat : Bool → ℕ
 asNat true = 1

@@ -1,13 +1,11 @@
 -- The tests 6, 7 and 8 look at the nodes of an image only, not at those beyond.
 use Prim.Native.Nat.{ℕ, zero, suc, _+_, _≤_, _<_}
-use mathlib.Core.Path.{_≡_, refl, sym, ap, ap₂, _∙_}
-use mathlib.Core.Bool.{Bool, true, false, not}
+use mathlib.Core.Path.{_≡_, refl, ap, ap₂, _∙_}
+use mathlib.Core.Bool.{Bool, not}
 use native.Mathlib.Omega.{arith}
-use lib.Dec.{eqb, ltb}
-use Rattle.lists.specs.Find.{pick, both, least, any}
-use Rattle.answer.specs.Answers.{check}
+use lib.Dec.{ltb}
+use Rattle.lists.specs.Find.{least, any}
 use Rattle.answer.specs.declared.Answer.{Answer}
-use Rattle.answer.specs.declared.Answer.the-variants.{Linked, Twin, NoDummy}
 use Rattle.image.specs.Layout.{contentAt}
 use Rattle.image.specs.Recovered.{recovered, recoveredAt, twins, hasTwin, firstTwin, dummyOf, firstUnclear}
 use Rattle.image.specs.Refusals.{startable, sound}

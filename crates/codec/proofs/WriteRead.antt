@@ -1,24 +1,23 @@
 -- Contents that are taken for writing, written and read again, are the same contents.
 use Prim.Native.Nat.{ℕ, _+_, _*_, _^_, _≤_, _<_}
 use mathlib.Core.Path.{_≡_, refl, sym, ap, ap₂, _∙_}
-use mathlib.Core.Bool.{Bool, true, false}
-use mathlib.Core.List.{List, [], _∷_, _++_}
+use mathlib.Core.Bool.{true, false}
+use mathlib.Core.List.{List, _++_}
 use native.Mathlib.Omega.{arith}
 use native.Mathlib.Nat.{add-assoc, add-zero, zero-add}
 use borrow.Author.Tests.{eq-eqb, le-ltb}
 use lib.ListN.{length, getD, take, drop, length-append, take-append-drop, List·getD-append}
-use lib.Seq.{getD-append-add, getD-drop, take-at}
+use lib.Seq.{getD-append-add, take-at, drop-at}
 use lib.Dec.{eqb, ltb}
-use Rattle.lists.specs.Tab.{tab, joined, front}
+use Rattle.lists.specs.Tab.{tab, front}
 use Rattle.lists.proofs.TabLaws as tabs
 use Rattle.answer.specs.Answers.{accepted}
 use Rattle.answer.specs.declared.Answer.the-variants.{Taken}
-use Rattle.image.specs.Bytes.{num4, at1, at4}
+use Rattle.image.specs.Bytes.{at1, at4}
 use Rattle.image.specs.Layout as im
 use Rattle.image.specs.Refusals.{sound, imageAnswer, readImage, writeAnswer, written}
 use Rattle.image.specs.declared.Content.{Content}
 use Rattle.image.specs.declared.Image.{Image}
-use Rattle.image.specs.declared.Read.{Read}
 use Rattle.codec.proofs.Accepted as acc
 use Rattle.codec.proofs.Laws as laws
 use Rattle.codec.proofs.Numbers as num
@@ -35,7 +34,7 @@ pub record Fits (g : Image) : Type 0 where
 abbrev pub trimmed : Image → Image
 trimmed g = record { n = g .n; head = g .head; nodes = front (im.contentAt (g .nodes)) (g .n) im.noContents }
 
-trimmed-at : (g : Image) (i : ℕ) → i < g .n → im.contentAt (trimmed g .nodes) i ≡ im.contentAt (g .nodes) i
+pub trimmed-at : (g : Image) (i : ℕ) → i < g .n → im.contentAt (trimmed g .nodes) i ≡ im.contentAt (g .nodes) i
 unfolding front
 trimmed-at g i p =
     List·getD-append (tab (im.contentAt (g .nodes)) (g .n)) (drop (g .n) im.noContents) im.noContent i
@@ -44,6 +43,11 @@ trimmed-at g i p =
 
 pub trimmed-alike : (g : Image) → same.Alike (trimmed g) g
 trimmed-alike g = record { n = refl; head = refl; nodes = trimmed-at g }
+
+pub trimmed-beyond : (g : Image) → drop (g .n) (trimmed g .nodes) ≡ drop (g .n) im.noContents
+unfolding front
+trimmed-beyond g =
+    drop-at (tab (im.contentAt (g .nodes)) (g .n)) (drop (g .n) im.noContents) (g .n) (tabs.length-tab (im.contentAt (g .nodes)) (g .n))
 
 -- where nothing stands beyond the nodes, nothing is trimmed
 pub trimmed-same : (g : Image) → g .n ≤ length (g .nodes) → drop (g .n) (g .nodes) ≡ drop (g .n) im.noContents → trimmed g ≡ g

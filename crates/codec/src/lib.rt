@@ -1,14 +1,17 @@
 // Images and schedules, read from bytes and written to them.
+// Public calls: read_image, write_image, read_schedule, event_of. What else stands here is for the crates above.
 mod bytes;
-pub mod events;
-pub mod images;
+mod events;
+mod images;
 mod nodes;
-pub mod opening;
-pub mod reading;
+mod opening;
+mod reading;
 mod taken;
 mod writing;
 
 pub use events::event_at;
+pub use images::image_in;
+pub use images::put_image;
 pub use opening::open_schedule;
 pub use reading::read_part;
 pub use taken::is_taken;

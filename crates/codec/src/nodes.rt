@@ -3,7 +3,7 @@ ghost use mathlib.Core.Path.{_≡_};
 ghost use Prim.Native.Nat.{_+_, _*_, _≤_};
 ghost use lib.ListN.{length};
 ghost use Rattle.lists.specs.Tab.{over};
-ghost use Rattle.image.specs.Layout.{noContents, nodePlace, nodeBytes, bodyBytes, readContent, readNodes};
+ghost use Rattle.image.specs.Layout.{nodePlace, nodeBytes, bodyBytes, readContent, readNodes};
 use crate::bytes::put_word;
 use crate::bytes::word_at;
 use image::Content;
@@ -21,24 +21,12 @@ fn content_at(s: &[u8], at: usize) -> Content
     }
 }
 
-// Behind a contract, so that no goal has the 64 elements written out.
-pub fn no_contents() -> [Content; 64]
-    ensures { λ r. ⌜ r ≡ noContents ⌝ }
-{
-    let none = Content {
-        linked: 0,
-        index: 0,
-        item: 0,
-    };
-    [none; 64]
-}
-
 // The contents of the first n nodes; those beyond are blank.
 pub fn nodes_in(s: &[u8], n: usize) -> [Content; 64]
     requires { ⌜ (n ≤ 64) × (nodePlace n ≤ length (now s)) ⌝ }
     ensures { λ r. ⌜ r ≡ readNodes (now (s .entry)) n ⌝ }
 {
-    let mut nodes = no_contents();
+    let mut nodes = image::no_contents();
     let mut i = 0;
     while i < n {
         let v = content_at(s, 10 + i * 9);

@@ -4,11 +4,9 @@ ghost use Rattle.codec.specs.Parts.{refusedOpened};
 ghost use Rattle.schedule.specs.Layout.{readSchedule};
 use crate::bytes::half_at;
 use crate::bytes::is_marked;
-use crate::nodes::no_contents;
 use crate::reading::read_part;
 use crate::taken::is_taken;
 use answer::Answer;
-use image::Image;
 use schedule::Opened;
 use schedule::Schedule;
 
@@ -16,12 +14,7 @@ use schedule::Schedule;
 fn refused(a: Answer) -> Opened
     ensures { λ r. ⌜ r ≡ refusedOpened a ⌝ }
 {
-    let nodes = no_contents();
-    let image = Image {
-        n: 0,
-        head: 0,
-        nodes,
-    };
+    let image = image::blank_image();
     let schedule = Schedule {
         t: 0,
         count: 0,

@@ -4,22 +4,15 @@ ghost use Prim.Native.Nat.{_≤_};
 ghost use Rattle.codec.specs.Parts.{refusedRead, readPart};
 use crate::bytes::is_marked;
 use crate::images::image_in;
-use crate::nodes::no_contents;
 use crate::taken::is_taken;
 use answer::Answer;
-use image::Image;
 use image::Read;
 
 // A refusal, with the blank image beside it.
 fn refused(a: Answer) -> Read
     ensures { λ r. ⌜ r ≡ refusedRead a ⌝ }
 {
-    let nodes = no_contents();
-    let image = Image {
-        n: 0,
-        head: 0,
-        nodes,
-    };
+    let image = image::blank_image();
     Read { answer: a, image }
 }
 

@@ -1,11 +1,11 @@
 -- Laws of the choices: how many there are, which one has number k, from the first line and from the last.
-use Prim.Native.Nat.{ℕ, zero, suc, _+_, _*_, _/_, _%_, _≤_, _<_}
+use Prim.Native.Nat.{ℕ, _+_, _*_, _/_, _%_, _<_}
 use mathlib.Core.Path.{_≡_, refl, sym, ap, ap₂, _∙_}
 use mathlib.Core.List.{List, [], _∷_, _++_, map, map-append, append-nil}
 use mathlib.Core.Logic.{_⊎_, inl, inr}
 use native.Mathlib.Omega.{arith}
-use native.Mathlib.Nat.{mul-zero, zero-mul, mul-one, one-mul, mul-assoc, mod-lt, div-lt-iff-lt-mul, eq-zero-or-pos}
-use lib.ListN.{length, getD, length-append, length-map}
+use native.Mathlib.Nat.{mul-zero, mul-one, one-mul, mul-assoc, mod-lt, eq-zero-or-pos}
+use lib.ListN.{length, getD, length-map}
 use Rattle.image.specs.Layout.{noContent, contentAt}
 use Rattle.image.specs.declared.Content.{Content}
 use Rattle.page.specs.Endings.{choices, product}

@@ -1,23 +1,21 @@
 -- The ending that the code picks is the ending numbered k.
-use Prim.Native.Nat.{ℕ, zero, suc, _+_, _*_, _/_, _%_, _≤_, _<_, min}
+use Prim.Native.Nat.{ℕ, zero, suc, _+_, _*_, _/_, _%_, _≤_, _<_}
 use mathlib.Core.Path.{_≡_, refl, sym, ap, ap₂, subst, _∙_}
-use mathlib.Core.Bool.{Bool, true, false}
 use mathlib.Core.List.{List, [], _∷_, _++_}
-use mathlib.Core.Logic.{_⊎_, inl, inr}
 use native.Mathlib.Omega.{arith}
-use native.Mathlib.Nat.{mod-lt, div-lt-iff-lt-mul, eq-or-lt-of-le, le-of-suc-le-suc}
-use lib.ListN.{length, getD, take, drop, length-append, List·getD-append}
+use native.Mathlib.Nat.{div-lt-iff-lt-mul}
+use lib.ListN.{length, getD, take, drop, List·getD-append}
 use lib.Seq.{getD-at, take-suc, take-all}
 use Rattle.lists.specs.Tab.{tab, front}
 use Rattle.lists.proofs.TabLaws as tabs
 use Rattle.image.specs.Layout.{noContent, noContents, contentAt}
 use Rattle.image.specs.declared.Content.{Content}
 use Rattle.image.specs.declared.Image.{Image}
-use Rattle.machine.specs.Line.{lineCount, nodeLine}
+use Rattle.machine.specs.Line.{lineCount}
 use Rattle.page.specs.Endings.{choices, product, imageOf, ending}
 use Rattle.endtable.specs.Opened.{blankCounts}
-use Rattle.endtable.specs.Picks.{prod, digits, Counted, Ready, pickedAt, pickedNode, pickedImage, endingFrom}
-use Rattle.endtable.specs.Tables.{Held, Tables}
+use Rattle.endtable.specs.Picks.{prod, digits, Ready, pickedAt, pickedNode, pickedImage, picksOf, endingFrom}
+use Rattle.endtable.specs.Tables.{Tables}
 use Rattle.endtable.proofs.Digits as digits
 use Rattle.endtable.proofs.Choices as choices
 
@@ -109,7 +107,7 @@ module _ (t : List (List Content)) (cs : List ℕ) (lists : List (List Content))
       ∙ h .held l p .same d (omega (arith, ready f .1 l p)) (omega (arith, lengths f l p))
 
   pub ending-is : (n k : ℕ) → length lists ≡ lineCount n → Fits lists → k < product lists → endingFrom t cs n k ≡ ending n lists k
-  unfolding endingFrom pickedImage ending imageOf
+  unfolding endingFrom picksOf pickedImage ending imageOf
   ending-is n k e f p =
       ap₂ (λ (x : Content) (y : List Content). made n (x .index) y) (at 0 (omega arith))
       (front-same (pickedNode t ps) (λ i. contentAt (getD (choices lists) k []) (suc i)) n noContents (λ i q. at (suc i) (omega arith)))

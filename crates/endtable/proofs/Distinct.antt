@@ -1,14 +1,13 @@
 -- The endings are distinct: a line's list has no repeats, so the choices have none, and two choices give two images.
 use Prim.Native.Nat.{ℕ, zero, suc, _+_, _-_, _*_, _/_, _%_, _≤_, _<_}
 use mathlib.Core.Path.{_≡_, refl, sym, ap, ap₂, subst, _∙_}
-use mathlib.Core.Bool.{Bool, true, false}
+use mathlib.Core.Bool.{true, false}
 use mathlib.Core.List.{List, [], _∷_, _++_, map}
 use native.Mathlib.Omega.{arith}
 use native.Mathlib.Decide.{decLt}
-use native.Mathlib.Nat.{mod-lt, div-lt-iff-lt-mul, div-add-mod', zero-mul}
+use native.Mathlib.Nat.{mod-lt, div-lt-iff-lt-mul, div-add-mod'}
 use lib.ListN.{length, getD, drop, length-append, length-map, List·getD-append}
 use lib.Seq.{getD-at, ext-getD}
-use Rattle.lists.specs.Find.{least}
 use Rattle.lists.specs.Tab.{tab, front}
 use Rattle.lists.proofs.FindLaws as find
 use Rattle.lists.proofs.TabLaws as tabs

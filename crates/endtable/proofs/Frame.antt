@@ -1,17 +1,16 @@
 -- Machines with the same contents, and the machine after one store or one persist.
-use Prim.Native.Nat.{ℕ, zero, suc, _≤_, _<_}
+use Prim.Native.Nat.{ℕ, zero, suc, _<_}
 use mathlib.Core.Path.{_≡_, refl, sym, ap, _∙_}
 use mathlib.Core.Bool.{Bool, true, false}
 use mathlib.Core.Logic.{_⊎_, inl, inr}
-use mathlib.Core.List.{List, map}
+use mathlib.Core.List.{map}
 use native.Mathlib.Omega.{arith}
-use native.Mathlib.Decide.{decLt, ℕ-discrete}
+use native.Mathlib.Decide.{decLt}
 use lib.ListN.{length, getD, set, List·getD-map, List·getD-eq-default}
 use lib.Seq.{getD-set-same, getD-set-other, set-out, map-set-same}
 use Rattle.lists.specs.Find.{pick}
 use Rattle.image.specs.Layout.{noContent}
-use Rattle.image.specs.declared.Content.{Content}
-use Rattle.machine.specs.Record.{zeroNode, node, contentOf, putNode, putHead, putKept}
+use Rattle.machine.specs.Record.{zeroNode, node, contentOf, putNode, putHead}
 use Rattle.machine.specs.Line.{nodeLine, cachedAt, persistedAt, persist}
 use Rattle.machine.specs.Retire.{releasedAt, released, retired}
 use Rattle.machine.specs.declared.Machine.{Machine}

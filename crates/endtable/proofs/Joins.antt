@@ -1,14 +1,13 @@
 -- Laws of a line's list of contents: what is joined to it, and that it has no repeats.
 use Prim.Native.Nat.{ℕ, zero, suc, _+_, _≤_, _<_}
-use mathlib.Core.Path.{_≡_, refl, sym, ap, ap₂, _∙_}
+use mathlib.Core.Path.{_≡_, refl, ap, _∙_}
 use mathlib.Core.Bool.{Bool, true, false}
 use mathlib.Core.List.{List, [], _∷_, _++_}
 use native.Mathlib.Omega.{arith}
 use native.Mathlib.Decide.{decLt}
-use lib.ListN.{length, getD, length-append, List·getD-append}
-use lib.Seq.{getD-at}
+use lib.ListN.{length, length-append, List·getD-append}
 use lib.Dec.{eqb, ltb, leb·suc-suc}
-use borrow.Author.Tests.{eqb-true, eq-eqb, ltb-true, lt-ltb, le-ltb}
+use borrow.Author.Tests.{eqb-true, eq-eqb, lt-ltb, le-ltb}
 use Rattle.lists.specs.Find.{pick, both, least}
 use Rattle.image.specs.Layout.{noContent, contentAt}
 use Rattle.image.specs.declared.Content.{Content}

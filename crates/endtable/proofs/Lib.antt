@@ -12,3 +12,5 @@ pub mod Choices
 pub mod Chosen
 pub mod Limits
 pub mod Distinct
+pub mod Pages
+pub mod Benches

@@ -1,28 +1,25 @@
 -- The code's two tests, for 14 and 15, are those of the lists.
-use Prim.Native.Nat.{ℕ, zero, suc, _+_, _*_, _≤_, _<_, min}
-use mathlib.Core.Path.{_≡_, refl, sym, ap, subst, _∙_}
+use Prim.Native.Nat.{ℕ, _≤_, _<_, min}
+use mathlib.Core.Path.{_≡_, refl, sym, ap, _∙_}
 use mathlib.Core.Bool.{Bool, true, false}
-use mathlib.Core.List.{List, [], _∷_, _++_, map}
+use mathlib.Core.List.{List, [], _∷_, map}
 use native.Mathlib.Omega.{arith}
 use native.Mathlib.Decide.{decLt}
 use lib.ListN.{length, getD, drop}
 use lib.Seq.{take-all}
 use lib.Dec.{ltb}
 use borrow.Author.Tests.{lt-ltb, le-ltb, ltb-false}
-use Rattle.lists.specs.Find.{pick, least}
 use Rattle.lists.proofs.FindLaws as find
 use Rattle.image.specs.declared.Content.{Content}
-use Rattle.machine.specs.Line.{lineCount, cachedAt, persistedAt}
-use Rattle.machine.specs.declared.Machine.{Machine}
+use Rattle.machine.specs.Line.{cachedAt, persistedAt}
 use Rattle.schedule.specs.Run.{Bench}
 use Rattle.page.specs.Contents.{joins, gathered, contentsOf, tableOf}
 use Rattle.page.specs.Endings.{product}
 use Rattle.page.specs.Refusals.{firstCrowded, tableAnswer}
 use Rattle.answer.specs.Answers.{check}
-use Rattle.answer.specs.declared.Answer.{Answer}
 use Rattle.answer.specs.declared.Answer.the-variants.{Taken, Contents, Endings}
 use Rattle.endtable.specs.Picks.{isCrowded, crowdedAt, prod, countsAnswer, Counted}
-use Rattle.endtable.specs.Tables.{Held, Tables}
+use Rattle.endtable.specs.Tables.{Tables}
 use Rattle.endtable.proofs.RowLaws as rows
 use Rattle.endtable.proofs.Joins as joined
 use Rattle.endtable.proofs.Moments as moments

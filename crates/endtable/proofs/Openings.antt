@@ -1,16 +1,16 @@
 -- One turn of each loop that fills the table, the counts or an image from the front.
-use Prim.Native.Nat.{ℕ, zero, suc, _+_, _-_, _≤_, _<_}
+use Prim.Native.Nat.{ℕ, zero, suc, _+_, _-_, _<_}
 use mathlib.Core.Path.{_≡_, refl, sym, ap, _∙_}
-use mathlib.Core.List.{List, [], _∷_, _++_}
-use lib.ListN.{length, getD, set, drop, length-replicate}
+use mathlib.Core.List.{List, []}
+use lib.ListN.{length, getD, set}
 use native.Mathlib.Omega.{arith}
 use native.Mathlib.Numerals.{add-one}
 use Rattle.lists.specs.Tab.{tab, front}
 use Rattle.lists.proofs.TabLaws as tabs
-use Rattle.image.specs.Layout.{noContent, noContents, contentAt}
+use Rattle.image.specs.Layout.{noContents, contentAt}
 use Rattle.image.specs.declared.Content.{Content}
 use Rattle.machine.specs.Record.{node, kept, contentOf}
-use Rattle.machine.specs.Line.{headContent, cachedAt, persistedAt}
+use Rattle.machine.specs.Line.{headContent, cachedAt}
 use Rattle.machine.specs.declared.Machine.{Machine}
 use Rattle.endtable.specs.Opened.{blankTable, blankCounts, openedRow, openedCount, lineOpened, lineCounted, openedTable, openedCounts}
 use Rattle.endtable.specs.Picks.{pickedAt, pickedNode}

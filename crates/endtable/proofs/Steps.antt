@@ -1,24 +1,22 @@
 -- Every step and every event leaves all lines alone but the one it touches.
-use Prim.Native.Nat.{ℕ, zero, suc, _+_}
-use mathlib.Core.Path.{_≡_, refl, sym, ap, subst, _∙_}
+use Prim.Native.Nat.{ℕ, _+_}
+use mathlib.Core.Path.{_≡_, refl, ap, subst, _∙_}
 use mathlib.Core.Bool.{Bool, true, false}
-use mathlib.Core.Logic.{_⊎_, inl, inr}
 use native.Mathlib.Omega.{arith}
 use lib.ListN.{length}
 use lib.Dec.{eqb}
 use Rattle.lists.specs.Find.{pick, both}
-use Rattle.lists.specs.Word.{without}
 use Rattle.answer.specs.Answers.{accepted}
 use Rattle.answer.specs.declared.Answer.{Answer}
-use Rattle.machine.specs.Record.{none, top, node, thread, withItem, withNext, withLinked, withIndex, putNode, putTail, putHead, putFree}
+use Rattle.machine.specs.Record.{none, top, node, thread, withItem, withNext, withLinked, withIndex, putNode, putTail}
 use Rattle.machine.specs.Stage.{Stage, noStep, A1, A2, A3, A4, A5, A6, A7, A8, A9, A10, A11, A12, D1, D2, D3, D4, D5, D6, D7, stage}
 use Rattle.machine.specs.Line.{nodeLine, persist}
-use Rattle.machine.specs.Retire.{moving, going, answering, left, freed, released, retired, retiredHeld, nextFree}
+use Rattle.machine.specs.Retire.{left, freed, released, retired, retiredHeld}
 use Rattle.machine.specs.Event.{Deed, unknown, enqueues, dequeues, steps, writesBack, crashes, deedOf, eventAnswer, stepped, done, ifTaken, eventAt}
 use Rattle.machine.specs.declared.Machine.{Machine}
 use Rattle.machine.specs.declared.Event.{Event}
 use Rattle.machine.specs.declared.Out.{Out}
-use Rattle.schedule.specs.Run.{Touched, noLine, aLine, stepPersists, persists, Bench, goesOn, turned}
+use Rattle.schedule.specs.Run.{stepPersists, persists, Bench, goesOn, turned}
 use Rattle.endtable.specs.declared.touch.Touch.{Touch}
 use Rattle.endtable.specs.Touches.{storedTo, persistedLine, stageTouch, stepTouch, touches, touchIn}
 use Rattle.endtable.specs.Frame.{persistsOf, Frame}

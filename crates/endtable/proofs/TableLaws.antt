@@ -1,9 +1,9 @@
 -- The code's table stands for the bench's lists: after a start, and after each event.
-use Prim.Native.Nat.{ℕ, zero, suc, _+_, _≤_, _<_}
-use mathlib.Core.Path.{_≡_, refl, sym, ap, subst, _∙_}
+use Prim.Native.Nat.{ℕ, _≤_, _<_}
+use mathlib.Core.Path.{_≡_, refl, sym, ap, _∙_}
 use mathlib.Core.Bool.{Bool, true, false}
-use mathlib.Core.Logic.{_⊎_, inl, inr}
-use mathlib.Core.List.{List, [], _∷_, _++_}
+use mathlib.Core.Logic.{inl, inr}
+use mathlib.Core.List.{List, []}
 use native.Mathlib.Omega.{arith}
 use native.Mathlib.Decide.{decLt, ℕ-discrete}
 use lib.ListN.{length, getD, set, drop, length-append, length-drop, length-set, List·getD-append}
@@ -80,6 +80,24 @@ tables-still t cs lists next h e all = record {
 }
 
 -- ---- an event
+
+-- the code's two ways: a line that is none, and one to be stored to
+module _ (t : List (List Content)) (cs : List ℕ) (w : Touch) (c : Content) where
+  pub table-untouched : 65 ≤ w .line → tableAfter t cs w c ≡ t
+  unfolding tableAfter
+  table-untouched h = rw (le-ltb (w .line) 65 h)
+
+  pub counts-untouched : 65 ≤ w .line → countsAfter t cs w c ≡ cs
+  unfolding countsAfter
+  counts-untouched h = rw (le-ltb (w .line) 65 h)
+
+  pub table-touched : w .line < 65 → tableAfter t cs w c ≡ set t (w .line) (rowAfter (getD t (w .line) []) (getD cs (w .line) 0) c (w .persisted))
+  unfolding tableAfter
+  table-touched h = rw (lt-ltb (w .line) 65 h)
+
+  pub counts-touched : w .line < 65 → countsAfter t cs w c ≡ set cs (w .line) (countAfter (getD t (w .line) []) (getD cs (w .line) 0) c (w .persisted))
+  unfolding countsAfter
+  counts-touched h = rw (lt-ltb (w .line) 65 h)
 
 persists-other : (b : Bool) (x l : ℕ) → (l ≡ x → ⊥) → pick b (aLine x) noLine ≡ aLine l → ⊥
 persists-other true x l ne e = ne (cc)

@@ -1,7 +1,7 @@
 -- What an event leaves alone: all contents but those of the line that it touches.
 use Prim.Native.Nat.{ℕ}
 use mathlib.Core.Path.{_≡_}
-use mathlib.Core.Bool.{Bool, true, false}
+use mathlib.Core.Bool.{true, false}
 use mathlib.Core.Logic.{_⊎_}
 use Rattle.lists.specs.Find.{pick}
 use Rattle.machine.specs.Line.{cachedAt, persistedAt}

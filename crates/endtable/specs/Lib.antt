@@ -6,3 +6,4 @@ pub mod Tables
 pub mod Moments
 pub mod Frame
 pub mod Distinct
+pub mod Benches

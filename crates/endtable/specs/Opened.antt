@@ -1,8 +1,7 @@
 -- The table after a start: for each line the persisted content, and the cached one behind it.
 use Prim.Native.Nat.{ℕ}
-use mathlib.Core.Bool.{Bool, true, false}
-use mathlib.Core.List.{List, [], _∷_}
-use lib.ListN.{replicate, set}
+use mathlib.Core.List.{List, _∷_}
+use lib.ListN.{replicate}
 use Rattle.lists.specs.Find.{pick}
 use Rattle.lists.specs.Tab.{front}
 use Rattle.image.specs.Layout.{noContent}

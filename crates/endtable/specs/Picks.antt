@@ -1,8 +1,8 @@
 -- An ending's number as a choice for each line, and the image picked by it. Counts are those of the lines, line 0 first.
 use Prim.Native.Nat.{ℕ, zero, suc, _*_, _/_, _%_, _<_, _≤_}
-use mathlib.Core.Bool.{Bool, true, false}
+use mathlib.Core.Bool.{Bool}
 use mathlib.Core.List.{List, [], _∷_, _++_}
-use lib.ListN.{getD, drop, replicate}
+use lib.ListN.{getD, drop}
 use lib.Dec.{ltb}
 use Rattle.lists.specs.Find.{pick, least}
 use Rattle.lists.specs.Tab.{front}
@@ -65,5 +65,9 @@ pickedNode t ps i = pickedAt t ps (nodeLine i)
 unfoldable pub pickedImage : List (List Content) → List ℕ → ℕ → Image
 pickedImage t ps n = record { n = n; head = pickedAt t ps 0 .index; nodes = front (pickedNode t ps) n noContents }
 
+-- the choices of all lines in ending k of n nodes, and the ending picked by them
+unfoldable pub picksOf : List ℕ → ℕ → ℕ → List ℕ
+picksOf cs n k = digits cs (lineCount n) k ++ drop (lineCount n) blankCounts
+
 unfoldable pub endingFrom : List (List Content) → List ℕ → ℕ → ℕ → Image
-endingFrom t cs n k = pickedImage t (digits cs (lineCount n) k ++ drop (lineCount n) blankCounts) n
+endingFrom t cs n k = pickedImage t (picksOf cs n k) n

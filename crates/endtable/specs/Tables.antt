@@ -1,6 +1,5 @@
 -- What the code's table stands for: the lists of contents, as far as they fit.
 use Prim.Native.Nat.{ℕ, _<_, min}
-use mathlib.Core.Bool.{Bool}
 use mathlib.Core.Path.{_≡_}
 use mathlib.Core.List.{List, []}
 use lib.ListN.{length, getD, set}

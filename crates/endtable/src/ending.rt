@@ -3,12 +3,12 @@ ghost use mathlib.Core.Path.{_≡_};
 ghost use mathlib.Core.List.{_++_};
 ghost use Prim.Native.Nat.{ℕ, suc, _<_, _≤_};
 ghost use lib.ListN.{drop};
-ghost use Rattle.image.specs.Layout.{noContents};
 ghost use Rattle.machine.specs.Line.{lineCount};
-ghost use Rattle.endtable.specs.Picks.{Counted, Filled, Ready, crowdedAt, capped, prod, countsAnswer, digits, pickedImage, endingFrom};
+ghost use Rattle.endtable.specs.Picks.{Counted, Filled, crowdedAt, capped, prod, countsAnswer, digits, picksOf, pickedImage};
 use answer::Answer;
 use image::Content;
 use image::Image;
+use image::no_contents;
 
 // The first line with more than 16 contents, and the number of lines where none has.
 pub fn first_crowded(counts: [u8; 65], lines: usize) -> usize
@@ -74,19 +74,16 @@ fn split(counts: [u8; 65], left: usize, k: u32, picks: [u8; 65]) -> [u8; 65]
     split(counts, i, k / c, p)
 }
 
-fn no_contents() -> [Content; 64]
-    ensures { λ r. ⌜ r ≡ noContents ⌝ }
+// The choices of every line in ending k of n nodes.
+pub fn ending_picks(counts: [u8; 65], n: u8, k: u32) -> [u8; 65]
+    requires { ⌜ (n ≤ 64) × Counted counts (lineCount n) ⌝ }
+    ensures { λ r. ⌜ r ≡ picksOf counts n k ⌝ }
 {
-    let zero = Content {
-        linked: 0,
-        index: 0,
-        item: 0,
-    };
-    [zero; 64]
+    split(counts, n as usize + 1, k, [0; 65])
 }
 
-// One entry a line, as an image of n nodes.
-fn picked_image(t: [[Content; 16]; 65], picks: [u8; 65], n: u8) -> Image
+// One entry a line, as an image of n nodes: with the picks of ending k, that ending.
+pub fn ending_image(t: [[Content; 16]; 65], picks: [u8; 65], n: u8) -> Image
     requires { ⌜ (n ≤ 64) × Filled picks (lineCount n) ⌝ }
     ensures { λ r. ⌜ r ≡ pickedImage t picks n ⌝ }
 {
@@ -105,13 +102,4 @@ fn picked_image(t: [[Content; 16]; 65], picks: [u8; 65], n: u8) -> Image
         head: head.index,
         nodes,
     }
-}
-
-// Ending k of n nodes.
-pub fn ending_at(t: [[Content; 16]; 65], counts: [u8; 65], n: u8, k: u32) -> Image
-    requires { ⌜ (n ≤ 64) × Ready counts (lineCount n) ⌝ }
-    ensures { λ r. ⌜ r ≡ endingFrom t counts n k ⌝ }
-{
-    let picks = split(counts, n as usize + 1, k, [0; 65]);
-    picked_image(t, picks, n)
 }

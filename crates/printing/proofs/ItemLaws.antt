@@ -1,9 +1,9 @@
 -- The items of a queue that stands in the first places of a table.
-use Prim.Native.Nat.{ℕ, zero, suc, _+_, _≤_, _<_}
+use Prim.Native.Nat.{ℕ, _+_, _≤_, _<_}
 use mathlib.Core.Path.{_≡_, refl, sym, ap, ap₂, subst, _∙_}
-use mathlib.Core.List.{List, [], _∷_, _++_, map}
+use mathlib.Core.List.{List, _++_, map}
 use native.Mathlib.Omega.{arith}
-use lib.ListN.{length, getD, set, take, drop, length-map, length-append, List·getD-map, List·getD-append}
+use lib.ListN.{length, getD, set, take, drop, length-map, List·getD-map, List·getD-append}
 use lib.Seq.{ext-getD, take-append-seam}
 use Rattle.lists.specs.Tab.{tab, front}
 use Rattle.lists.proofs.TabLaws as tabs
@@ -89,3 +89,6 @@ ending-line k g i e = ap (lineText k (g .head)) (ap (λ i. take (i .count) (i .i
 
 pub few-items : (g : Image) (i : Items) → g .n ≤ 64 → i ≡ listed (itemsOf g) → i .count ≤ 64
 few-items g i h e = omega (arith, ap (λ i. i .count) e, listed-count g)
+
+pub items-few : (g : Image) → length (itemsOf g) ≤ g .n
+items-few g = omega (arith, length-items g, queues.length-risen g (g .n))

@@ -1,10 +1,10 @@
 -- Text written piece by piece.
 use Prim.Native.Nat.{ℕ, zero, suc, _+_, _-_, _≤_, _<_}
 use mathlib.Core.Path.{_≡_, refl, sym, ap, ap₂, subst, _∙_}
-use mathlib.Core.List.{List, [], _∷_, _++_, append-assoc}
+use mathlib.Core.List.{List, [], _∷_, _++_, append-assoc, append-nil}
 use native.Mathlib.Omega.{arith}
 use native.Mathlib.Numerals.{add-one}
-use lib.ListN.{length, getD, set, take, drop, length-append, length-take}
+use lib.ListN.{length, getD, set, take, drop, length-append}
 use lib.Seq.{take-suc, take-add, length-take-le}
 use Rattle.lists.specs.Tab.{over}
 use Rattle.lists.specs.Text.{text, decimal}
@@ -36,11 +36,7 @@ spaced-append (v ∷ a) b = ap (λ r. 32 ∷ (decimal v ++ r)) (spaced-append a 
 
 spaced-one : (v : ℕ) → spaced (v ∷ []) ≡ 32 ∷ decimal v
 unfolding spaced text
-spaced-one v = ap (λ r. 32 ∷ r) (nil (decimal v))
-  where
-    nil : (l : List ℕ) → l ++ [] ≡ l
-    nil [] = refl
-    nil (x ∷ l) = ap (λ r. x ∷ r) (nil l)
+spaced-one v = ap (λ r. 32 ∷ r) (append-nil (decimal v))
 
 pub spaced-next : (l : List ℕ) (i : ℕ) → i < length l → spaced (take (i + 1) l) ≡ spaced (take i l) ++ (32 ∷ decimal (getD l i 0))
 spaced-next l i h =
@@ -94,6 +90,9 @@ then l at s t a b = (
 -- a word with a number behind it
 pub then-two : (l : List ℕ) (at : ℕ) (s t d : List ℕ) {m : List ℕ} {p : ℕ} {n : List ℕ} {q : ℕ} → Put l at s m p → Put m p (t ++ d) n q → Put l at (s ++ t ++ d) n q
 then-two l at s t d {m} {p} {n} {q} a b = subst (λ r. Put l at r n q) (sym (append-assoc s t d)) (then l at s (t ++ d) a b)
+
+pub same-room : (l : List ℕ) (at : ℕ) (s : List ℕ) {m : List ℕ} → m ≡ over l at s → length m ≡ length l
+same-room l at s e = ap length e ∙ tabs.length-over l at s
 
 -- where there is room for both, there is room for the first, and then for the second
 pub room-first : (n at : ℕ) (s t : List ℕ) → at + length (s ++ t) ≤ n → at + length s ≤ n

@@ -10,6 +10,8 @@ ghost use Rattle.page.specs.Printed.{spaced};
 pub mod items;
 pub mod lines;
 pub mod refused;
+pub mod stretch;
+pub mod whole;
 
 // The number x in decimal from `at` on; gives the place behind it. Twenty bytes are room for every number of 64 bits.
 pub fn put_decimal(b: &mut [u8], at: usize, x: u64) -> usize

@@ -12,6 +12,8 @@ use machine::Node;
 
 pub mod place;
 
+pub use place::places_of;
+
 // Which of the four numbers of a thread its step uses, and which node its operation owns.
 pub struct Used {
     pub own: bool,

@@ -27,6 +27,7 @@ use Rattle.model.specs.Demand3.{Fit, Tidy}
 use Rattle.model.proofs.Basics.{T-of, yes-of, not-true, true→eq, eq-no, lt-true, lt-no}
 use Rattle.tied.specs.Shown.{shownContent, imageShown, Narrow}
 use Rattle.tied.proofs.Words.{no-way}
+use Rattle.tied.proofs.Searches.{lowest-least}
 use Rattle.tied.proofs.Relation.{Sizes}
 use Rattle.tied.proofs.Range.{any-no}
 use Rattle.tied.proofs.Images.{ImageT, head-is, rec-is, nodes-is, low-is}
@@ -180,3 +181,9 @@ module _ (g : Image) (t : ℕ) (G : recovery.Image) (r : ImageT g t G) where
   startable-yes f rest =
       let z : least (hasTwin g) (g .n) 0 ≡ 0 + g .n = least-none (hasTwin g) (g .n) 0 (λ i a b. fit-apart f i (omega arith)) in
       rw (lt-no (least (hasTwin g) (g .n) 0) (g .n) (omega arith), eq-no (dummyOf g) (g .n) (λ e. omega (arith, fit-dummy f))) refl
+
+-- the dummy is not recovered
+pub dummy-free : (g : Image) → dummyOf g < g .n → recoveredAt g (dummyOf g) ≡ false
+unfolding dummyOf
+dummy-free g h = not-true _ (lowest-free (g .n) 0 (λ i. not (recoveredAt g i)) (dummyOf g)
+    (lowest-least (λ i. not (recoveredAt g i)) (g .n) 0 ∙ ap (λ b. sel b (some (dummyOf g)) none) (lt-true (dummyOf g) (0 + g .n) (omega arith))))

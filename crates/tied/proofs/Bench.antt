@@ -30,7 +30,7 @@ use Rattle.tied.proofs.Relation.{Tied}
 use Rattle.tied.proofs.Changes.{count-n}
 use Rattle.tied.proofs.Stepping.{keeps, Touches}
 use Rattle.tied.proofs.Past.{PastT, pastOn}
-use Rattle.tied.proofs.Contents.{gathered-snoc, Flags, joins-flags, joins-shown, push-there}
+use Rattle.tied.proofs.Contents.{gathered-snoc, Small, Flags, joins-flags, joins-shown, push-there}
 
 -- ---- a line of the record and of the core
 
@@ -38,17 +38,17 @@ pub shown-cached : (p : ℕ → Content) (m : Machine) (c : Core) → Tied p m c
 shown-cached p m c d zero h = ap (λ z. hd (lineIx (z .engine) (c .hidx) (c .marks) 0)) (d .conf) ∙ ap hd (d .hidx)
 shown-cached p m c d (suc i) h = d .nodes .at i (omega arith) .content
 
-pub cached-flag : (p : ℕ → Content) (m : Machine) (c : Core) → Tied p m c → (l : ℕ) → l < lineCount (m .n) → cachedAt m l .linked ≤ 1
-cached-flag p m c d zero h = omega arith
-cached-flag p m c d (suc i) h = d .nodes .at i (omega arith) .flag
+pub cached-flag : (p : ℕ → Content) (m : Machine) (c : Core) → Tied p m c → (l : ℕ) → l < lineCount (m .n) → Small (cachedAt m l)
+cached-flag p m c d zero h = (omega arith, d .narrow)
+cached-flag p m c d (suc i) h = (d .nodes .at i (omega arith) .flag, d .nodes .at i (omega arith) .narrow)
 
 pub kept-is : (p : ℕ → Content) (m : Machine) (c : Core) → Tied p m c → (l : ℕ) → l < lineCount (m .n) → persistedAt m l ≡ p l
 kept-is p m c d zero h = sym (d .kept .head)
 kept-is p m c d (suc i) h = sym (d .kept .at i (omega arith))
 
-pub kept-flag : (p : ℕ → Content) (m : Machine) (c : Core) → Tied p m c → (l : ℕ) → l < lineCount (m .n) → persistedAt m l .linked ≤ 1
-kept-flag p m c d zero h = omega arith
-kept-flag p m c d (suc i) h = subst (λ z. z .linked ≤ 1) (d .kept .at i (omega arith)) (d .kept .flag i (omega arith))
+pub kept-flag : (p : ℕ → Content) (m : Machine) (c : Core) → Tied p m c → (l : ℕ) → l < lineCount (m .n) → Small (persistedAt m l)
+kept-flag p m c d zero h = (omega arith, subst (λ z. z .index ≤ top) (d .kept .head) (d .kept .narrow 0 h))
+kept-flag p m c d (suc i) h = subst Small (d .kept .at i (omega arith)) (d .kept .flag i (omega arith), d .kept .narrow (suc i) h)
 
 -- any account of the persisted copies that is right may stand in
 pub own-kept : (p : ℕ → Content) (m : Machine) (c : Core) → Tied p m c → Tied (persistedAt m) m c
@@ -66,7 +66,7 @@ own-kept p m c d = record {
     size = d .kept .size;
     head = refl;
     at = λ i h. refl;
-    flag = λ i h. kept-flag p m c d (suc i) (omega arith);
+    flag = λ i h. kept-flag p m c d (suc i) (omega arith) .0;
     narrow = λ i h. subst (λ z. z .index ≤ top) (sym (kept-is p m c d i h)) (d .kept .narrow i h);
   };
 }

@@ -9,6 +9,7 @@ use native.Mathlib.Decide.{ℕ-discrete}
 use lib.Dec.{eqb, eqb-refl}
 use Rattle.lists.specs.Find.{both}
 use Rattle.image.specs.declared.Content.{Content}
+use Rattle.machine.specs.Record.{top}
 use Rattle.page.specs.Contents.{sameContent, joins, gathered}
 use Rattle.model.specs.Basics.{bothb}
 use Rattle.model.specs.Lines.{push, headOr}
@@ -51,13 +52,16 @@ same-refl c = by (c .linked)
     by true = rw (yes-of (eqb (c .index) (c .index)) (eqb-refl (c .index)), yes-of (eqb (c .item) (c .item)) (eqb-refl (c .item))) refl
     by false = rw (yes-of (eqb (c .index) (c .index)) (eqb-refl (c .index)), yes-of (eqb (c .item) (c .item)) (eqb-refl (c .item))) refl
 
--- ---- contents whose flag is 0 or 1
+-- ---- contents whose flag is 0 or 1 and whose index is one of 32 bits
+
+abbrev pub Small : Content → Type 0
+Small c = (c .linked ≤ 1) × (c .index ≤ top)
 
 abbrev pub Flags : List Content → Type 0
 Flags [] = Unit {0}
-Flags (a ∷ l) = (a .linked ≤ 1) × Flags l
+Flags (a ∷ l) = Small a × Flags l
 
-pub joins-flags : (s : List Content) (c : Content) → Flags s → c .linked ≤ 1 → Flags (joins s c)
+pub joins-flags : (s : List Content) (c : Content) → Flags s → Small c → Flags (joins s c)
 unfolding joins
 joins-flags [] c f h = (h, tt)
 joins-flags (a ∷ s) c f h = by (sameContent a c) (joins-flags s c (f .1) h)
@@ -66,10 +70,10 @@ joins-flags (a ∷ s) c f h = by (sameContent a c) (joins-flags s c (f .1) h)
     by true r = f
     by false r = (f .0, r)
 
-pub joins-shown : (s : List Content) (c : Content) → Flags s → c .linked ≤ 1 → map shownContent (joins s c) ≡ push sameNode (map shownContent s) (shownContent c)
+pub joins-shown : (s : List Content) (c : Content) → Flags s → Small c → map shownContent (joins s c) ≡ push sameNode (map shownContent s) (shownContent c)
 unfolding joins push
 joins-shown [] c f h = refl
-joins-shown (a ∷ s) c f h = by (sameContent a c) (sameNode (shownContent a) (shownContent c)) (same-shown a c (f .0) h) (joins-shown s c (f .1) h)
+joins-shown (a ∷ s) c f h = by (sameContent a c) (sameNode (shownContent a) (shownContent c)) (same-shown a c (f .0 .0) (h .0)) (joins-shown s c (f .1) h)
   where
     by : (x y : Bool) → x ≡ y → map shownContent (joins s c) ≡ push sameNode (map shownContent s) (shownContent c)
         → map shownContent (elim x as (λ _. List Content) [ true ↦ a ∷ s | false ↦ a ∷ joins s c ])

@@ -1,3 +1,4 @@
+-- The record and the abstract machine show the same, event by event. Statements and Schedules are what others cite.
 pub mod Words
 pub mod Relation
 pub mod Changes

@@ -56,7 +56,7 @@ event-refused q m e a = by (accepted (eventAnswer q m e (deedOf (e .kind)))) a
     by true z = no-way z
     by false z = refl
 
-abbrev stopped : Answer → schedule.Bench → Ran
+abbrev pub stopped : Answer → schedule.Bench → Ran
 stopped a b = record { answer = a; replies = []; bench = b }
 
 abbrev onward : ℕ → schedule.Bench → Event → List Event → Out → Ran
@@ -75,6 +75,24 @@ says-taken full = refl
 says-taken worn = refl
 says-taken empty = refl
 says-taken (item v) = refl
+
+-- an event of a run, taken or refused
+pub run-taken : (q : ℕ) (b : schedule.Bench) (B : Bench) (r : BenchT b B) (e : Event) (l : List Event) → accepted (eventAnswer q (b .machine) e (deedOf (e .kind))) ≡ true
+    → run q b (e ∷ l) ≡ andBefore (done (b .machine) e (deedOf (e .kind)) .answer) (run (suc q) (turned b (done (b .machine) e (deedOf (e .kind)) .machine) e (deedOf (e .kind))) l)
+run-taken q b B r e l a = run-by q b e l (done (b .machine) e (deedOf (e .kind))) (event-taken q (b .machine) e a) true
+    (ap accepted (answers-same b B r q e (deedOf (e .kind)) a) ∙ says-taken (answer (B .mach) (eventShown e)))
+
+pub run-refused : (q : ℕ) (b : schedule.Bench) (e : Event) (l : List Event) → accepted (eventAnswer q (b .machine) e (deedOf (e .kind))) ≡ false
+    → run q b (e ∷ l) ≡ stopped (eventAnswer q (b .machine) e (deedOf (e .kind))) b
+run-refused q b e l a = run-by q b e l (out (eventAnswer q (b .machine) e (deedOf (e .kind))) (b .machine)) (event-refused q (b .machine) e a) false a
+
+-- a run that is accepted takes its first event
+pub first-taken : (q : ℕ) (b : schedule.Bench) (e : Event) (l : List Event) → accepted (run q b (e ∷ l) .answer) ≡ true → accepted (eventAnswer q (b .machine) e (deedOf (e .kind))) ≡ true
+first-taken q b e l h = by (accepted (eventAnswer q (b .machine) e (deedOf (e .kind)))) refl
+  where
+    by : (x : Bool) → accepted (eventAnswer q (b .machine) e (deedOf (e .kind))) ≡ x → accepted (eventAnswer q (b .machine) e (deedOf (e .kind))) ≡ true
+    by true a = a
+    by false a = no-way (sym h ∙ ap (λ R. accepted (R .answer)) (run-refused q b e l a) ∙ a)
 
 -- ---- the run
 
@@ -112,7 +130,7 @@ runT (e ∷ l) q b B r = by (accepted (eventAnswer q (b .machine) e (deedOf (e .
     by true a rec =
         let says = answers-same b B r q e (deedOf (e .kind)) a in
         let s = rec (suc q) (turned b (done (b .machine) e (deedOf (e .kind)) .machine) e (deedOf (e .kind))) (turn B (eventShown e)) (turns b B r q e (deedOf (e .kind)) a) in
-        subst (RunT q B (e ∷ l)) (sym (run-by q b e l (done (b .machine) e (deedOf (e .kind))) (event-taken q (b .machine) e a) true (ap accepted says ∙ says-taken (answer (B .mach) (eventShown e)))))
+        subst (RunT q B (e ∷ l)) (sym (run-taken q b B r e l a))
         (record {
           taken = e ∷ s .taken;
           rest = s .rest;
@@ -124,7 +142,7 @@ runT (e ∷ l) q b B r = by (accepted (eventAnswer q (b .machine) e (deedOf (e .
           stops = subst (λ n. Stops (bench B (map eventShown (e ∷ s .taken)) .mach) (run (suc q) (turned b (done (b .machine) e (deedOf (e .kind)) .machine) e (deedOf (e .kind))) l .answer) n (s .rest)) (later q (length (s .taken))) (s .stops);
         })
     by false a rec =
-        subst (RunT q B (e ∷ l)) (sym (run-by q b e l (out (eventAnswer q (b .machine) e (deedOf (e .kind))) (b .machine)) (event-refused q (b .machine) e a) false a))
+        subst (RunT q B (e ∷ l)) (sym (run-refused q b e l a))
         (record { taken = []; rest = e ∷ l; begin = refl; all = λ h. no-way (sym h ∙ a); takes = tt; replies = refl; ends = r; stops = stop a })
 
 -- no run stops with 7 or 8

@@ -21,7 +21,7 @@ use Rattle.model.proofs.Always.Runs.{bench-run, conf-run, conf-starts, always-i
 use Rattle.model.proofs.Always.Numbers.{one-place-always, places-tested, six-add-up}
 use Rattle.tied.specs.Always.{SixPlaces, queue, free, waiting, held, enqueue, dequeue, isIn, ExactlyOne, AddUp}
 use Rattle.tied.proofs.Relation.{Tied}
-use Rattle.tied.proofs.Changes.{count-n}
+use Rattle.tied.proofs.Changes.{count-n, count-t}
 use Rattle.tied.proofs.Bench.{BenchT}
 use Rattle.tied.proofs.Places.{kindOf, count-same, same-places}
 
@@ -61,6 +61,9 @@ module _ (g : recovery.Image) (f : Fit g) (t : Tidy g) (l : List machine.Event) 
 
   pub size-run : g .conf .nodes ≡ m .n
   size-run = ap (λ z. z .nodes) (sym (conf-run l (starts g) ∙ conf-starts g)) ∙ count-n _ m c d
+
+  pub threads-run : g .conf .threads ≡ m .t
+  threads-run = ap (λ z. z .threads) (sym (conf-run l (starts g) ∙ conf-starts g)) ∙ count-t _ m c d
 
   same : (k′ : SixPlaces) (i : ℕ) → i < m .n → isIn k′ m i ≡ placed c (kindOf k′) i
   same = same-places _ m c d (always-in-range g f t l k) (λ i h j w. places-tested g f t l k i inQueue .1 (j, w))

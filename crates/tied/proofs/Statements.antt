@@ -27,7 +27,7 @@ use Rattle.tied.proofs.Bench.{BenchT}
 use Rattle.tied.proofs.Turn.{persistedT}
 use Rattle.tied.proofs.Refusals.{crash-starts}
 use Rattle.tied.proofs.Run.{RunT, startT, stop-number, bench-in-range}
-use Rattle.tied.proofs.Sixes.{size-run, exactly-one, add-up}
+use Rattle.tied.proofs.Sixes.{size-run, threads-run, exactly-one, add-up}
 
 module _ (g : Image) (t : ℕ) (a : accepted (startAnswer g t) ≡ true) (w : Narrow g) (q : ℕ) (l : List Event) where
   -- the run, its first event having number q
@@ -55,15 +55,22 @@ module _ (g : Image) (t : ℕ) (a : accepted (startAnswer g t) ≡ true) (w : Na
   unfolding imageShown
   sizes = refl
 
+  desks : G .conf .threads ≡ t
+  unfolding imageShown
+  desks = refl
+
   -- ---- of the record alone
 
   -- 18 refuses no record of a run
   pub run-in-range : inRange m ≡ true
   run-in-range = bench-in-range _ _ (startT g t a w q l .ends)
 
-  -- N stays
+  -- N and T stay
   pub run-size : m .n ≡ g .n
   run-size = sym (size-run G fits tidies (map eventShown (r .taken)) (r .takes) (R .bench) (r .ends)) ∙ sizes
+
+  pub run-threads : m .t ≡ t
+  run-threads = sym (threads-run G fits tidies (map eventShown (r .taken)) (r .takes) (R .bench) (r .ends)) ∙ desks
 
   -- no event is refused by 7 or 8, and a crash would not be either
   pub run-not-7-8 : (told (R .answer) .number ≢ 7) × (told (R .answer) .number ≢ 8)

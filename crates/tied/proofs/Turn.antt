@@ -78,7 +78,7 @@ module _ (b : run.Bench) (B : Bench) (r : BenchT b B) where
     sizes = r .tied .sizes;
     head = ap (λ l. headOr l zeroNode .index) (r .lists .lists 0 (omega arith)) ∙ ap (λ z. z .index) (first-of b 0);
     at = λ i h. ap (λ l. headOr l zeroNode) (r .lists .lists (suc i) (omega arith)) ∙ first-of b (suc i);
-    flag = λ i h. kept-flag _ m c (r .tied) (suc i) (omega arith);
+    flag = λ i h. kept-flag _ m c (r .tied) (suc i) (omega arith) .0;
     narrow-head = r .tied .kept .narrow 0 (omega arith);
     narrow = λ i h. r .tied .kept .narrow (suc i) (omega arith);
   }

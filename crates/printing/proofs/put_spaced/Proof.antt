@@ -1,18 +1,14 @@
 use borrow.Author.Needs.{needs}
 use native.Mathlib.Omega.{arith}
-use mathlib.Core.Path.{_≡_, refl, sym, ap, _∙_}
+use mathlib.Core.Path.{_≡_, refl, ap, _∙_}
 use Prim.Native.Nat.{_+_, _-_, _≤_}
 use lib.ListN.{length, take, length-set}
-use lib.Seq.{take-all}
 use Rattle.lists.specs.Tab.{over}
 use Rattle.lists.proofs.TabLaws as tabs
 use Rattle.printing.proofs.Written as laws
 use Rattle.page.specs.Printed.{spaced}
 use Rattle.printing.proofs.put_spaced.Statement.{statement}
 use Rattle.printing.proofs.put_spaced.Tie as tie
-use Rattle.printing.proofs.put_spaced.Reads as reads
-use Rattle.printing.proofs.put_spaced.Lts as lts
-use Rattle.printing.proofs.put_decimal.Reads as put-decimal-reads
 
 abbrev Inv-loop : tie.InvT-loop
 Inv-loop b₀ at c items i₀ p₀ b i p = (i ≤ c) × (p ≡ at + length (spaced (take i items))) × (b ≡ over b₀ at (spaced (take i items)))

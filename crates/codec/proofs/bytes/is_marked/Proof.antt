@@ -1,5 +1,4 @@
 use Rattle.image.specs.Layout.{marked}
-use Rattle.lists.proofs.FindLaws as find
 use borrow.Author.Tests.{eq-eqb, ne-eqb}
 use borrow.Author.Needs.{needs}
 use Rattle.codec.proofs.bytes.is_marked.Statement.{statement}

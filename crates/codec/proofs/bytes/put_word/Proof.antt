@@ -1,6 +1,5 @@
 use native.Mathlib.Numerals.{add-one, add-two, add-three}
 use Rattle.lists.specs.Tab.{over}
-use Rattle.lists.proofs.TabLaws as laws
 use lib.ListN.{length-set}
 use native.Mathlib.Omega.{arith}
 use borrow.Author.Needs.{needs}

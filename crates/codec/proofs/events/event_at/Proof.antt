@@ -1,9 +1,6 @@
 use borrow.Author.Needs.{needs}
 use Rattle.codec.proofs.events.event_at.Statement.{statement}
 use Rattle.codec.proofs.events.event_at.Tie as tie
-use Rattle.codec.proofs.events.event_at.Reads as reads
-use Rattle.codec.proofs.events.event_at.Lts as lts
-use Rattle.codec.proofs.bytes.word_at.Reads as word-at-reads
 
 mul-at : tie.Need-mul-at
 mul-at c = search needs

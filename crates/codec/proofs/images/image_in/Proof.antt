@@ -2,10 +2,6 @@ use Rattle.image.specs.Layout.{imageIn}
 use borrow.Author.Needs.{needs}
 use Rattle.codec.proofs.images.image_in.Statement.{statement}
 use Rattle.codec.proofs.images.image_in.Tie as tie
-use Rattle.codec.proofs.images.image_in.Reads as reads
-use Rattle.codec.proofs.images.image_in.Lts as lts
-use Rattle.codec.proofs.bytes.word_at.Reads as word-at-reads
-use Rattle.codec.proofs.nodes.nodes_in.Reads as nodes-in-reads
 
 shared-slice-read-n : tie.Need-shared-slice-read-n
 shared-slice-read-n c = search needs

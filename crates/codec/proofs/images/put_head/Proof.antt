@@ -1,7 +1,6 @@
 use mathlib.Core.Path.{_∙_}
 use Rattle.image.specs.Layout.{headBytes}
 use Rattle.lists.specs.Tab.{over}
-use Rattle.lists.proofs.TabLaws as laws
 use lib.ListN.{length-set}
 use native.Mathlib.Omega.{arith}
 use borrow.Author.Needs.{needs}

@@ -3,10 +3,6 @@ use Rattle.codec.proofs.Laws as laws
 use borrow.Author.Needs.{needs}
 use Rattle.codec.proofs.images.put_image.Statement.{statement}
 use Rattle.codec.proofs.images.put_image.Tie as tie
-use Rattle.codec.proofs.images.put_image.Reads as reads
-use Rattle.codec.proofs.images.put_image.Lts as lts
-use Rattle.codec.proofs.images.put_head.Reads as put-head-reads
-use Rattle.codec.proofs.nodes.put_nodes.Reads as put-nodes-reads
 
 put-head-requires : tie.Need-put-head-requires
 put-head-requires c κs = search needs

@@ -1,4 +1,3 @@
-use Rattle.lists.proofs.TabLaws as laws
 use borrow.Author.Needs.{needs}
 use Rattle.codec.proofs.nodes.content_at.Statement.{statement}
 use Rattle.codec.proofs.nodes.content_at.Tie as tie

@@ -3,7 +3,6 @@ use Rattle.codec.proofs.Laws as image
 use Rattle.image.specs.Layout.{readNodes}
 use Prim.Native.Nat.{_≤_, _-_}
 use borrow.Author.Needs.{needs}
-use Rattle.lists.proofs.TabLaws as laws
 use native.Mathlib.Omega.{arith}
 use Rattle.codec.proofs.nodes.nodes_in.Statement.{statement}
 use Rattle.codec.proofs.nodes.nodes_in.Tie as tie

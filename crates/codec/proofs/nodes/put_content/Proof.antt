@@ -1,6 +1,5 @@
 use mathlib.Core.Path.{_∙_}
 use Rattle.codec.proofs.Laws as image
-use Rattle.lists.proofs.TabLaws as laws
 use lib.ListN.{length-set}
 use native.Mathlib.Omega.{arith}
 use borrow.Author.Needs.{needs}

@@ -8,7 +8,7 @@ use lib.Seq.{take-all}
 use Prim.Native.Nat.{_*_, _-_}
 use mathlib.Core.Path.{_≡_, sym, ap, _∙_}
 use native.Mathlib.Omega.{arith}
-use borrow.Author.Tests.{eq-eqb, ne-eqb, lt-ltb, le-ltb, le-leb, lt-leb, not-true, not-false}
+use borrow.Author.Tests.{lt-ltb, le-ltb, le-leb, lt-leb, not-true, not-false}
 use borrow.Author.Needs.{needs}
 use Rattle.codec.proofs.opening.open_schedule.Statement.{statement}
 use Rattle.codec.proofs.opening.open_schedule.Tie as tie

@@ -2,11 +2,11 @@ use borrow.Author.Needs.{needs}
 use Rattle.codec.proofs.opening.refused.Statement.{statement}
 use Rattle.codec.proofs.opening.refused.Tie as tie
 
-no-contents-requires : tie.Need-no-contents-requires
-no-contents-requires c κs = search needs
+blank-image-requires : tie.Need-blank-image-requires
+blank-image-requires c κs = search needs
 
 returns : tie.Need-returns
-returns c = rw (c .no-contents .ensures)
+returns c = rw (c .blank-image .ensures)
 
 pub refused-spec : {M : Type 1} → statement M
-refused-spec = tie.close (tie.spec no-contents-requires returns)
+refused-spec = tie.close (tie.spec blank-image-requires returns)

@@ -4,11 +4,10 @@ use lib.ListN.{getD}
 use borrow.Author.Needs.{needs}
 use native.Mathlib.Nat.{mul-le-mul}
 use native.Mathlib.Numerals.{add-one}
-use Rattle.endtable.specs.Picks.{prod, capped}
+use Rattle.endtable.specs.Picks.{prod}
 use Rattle.endtable.proofs.Digits as laws
-use borrow.Author.Tests.{lt-ltb, le-ltb}
 use Prim.Native.Nat.{_≤_, _-_}
-use mathlib.Core.Path.{_≡_, refl, sym, _∙_}
+use mathlib.Core.Path.{_≡_, refl}
 use native.Mathlib.Omega.{arith}
 use Rattle.endtable.proofs.ending.ending_count.Statement.{statement}
 use Rattle.endtable.proofs.ending.ending_count.Tie as tie

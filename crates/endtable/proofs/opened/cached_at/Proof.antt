@@ -1,5 +1,5 @@
 use Rattle.endtable.proofs.Openings as laws
-use mathlib.Core.Path.{_≡_, sym, ap, _∙_}
+use mathlib.Core.Path.{_∙_}
 use borrow.Author.Needs.{needs}
 use Rattle.endtable.proofs.opened.cached_at.Statement.{statement}
 use Rattle.endtable.proofs.opened.cached_at.Tie as tie

@@ -1,5 +1,4 @@
 use Rattle.endtable.specs.Opened.{openedCount}
-use mathlib.Core.Path.{sym, _∙_}
 use borrow.Author.Needs.{needs}
 use Rattle.endtable.proofs.opened.opened_count.Statement.{statement}
 use Rattle.endtable.proofs.opened.opened_count.Tie as tie

@@ -2,7 +2,7 @@ use native.Mathlib.Numerals.{add-one}
 use Rattle.endtable.specs.Opened.{openedCounts}
 use Rattle.endtable.proofs.Openings as laws
 use Prim.Native.Nat.{_+_, _-_, _≤_}
-use mathlib.Core.Path.{_≡_, refl, sym, _∙_}
+use mathlib.Core.Path.{_≡_}
 use native.Mathlib.Omega.{arith}
 use borrow.Author.Needs.{needs}
 use Rattle.endtable.proofs.opened.opened_counts.Statement.{statement}

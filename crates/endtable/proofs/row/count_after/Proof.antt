@@ -1,4 +1,4 @@
-use Rattle.endtable.specs.Rows.{countAfter, countJoined, seatOf}
+use Rattle.endtable.specs.Rows.{countJoined}
 use borrow.Author.Tests.{lt-ltb, le-ltb}
 use borrow.Author.Needs.{needs}
 use Rattle.endtable.proofs.row.count_after.Statement.{statement}

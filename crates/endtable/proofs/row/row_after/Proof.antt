@@ -1,4 +1,4 @@
-use Rattle.endtable.specs.Rows.{rowAfter, rowJoined, seatOf}
+use Rattle.endtable.specs.Rows.{rowJoined}
 use Rattle.endtable.proofs.RowLaws as laws
 use borrow.Author.Tests.{lt-ltb, le-ltb}
 use native.Mathlib.Omega.{arith}

@@ -1,6 +1,6 @@
 use Rattle.machine.specs.Record.{zeroThread}
-use lib.ListN.{getD, length, List·getD-eq-default}
-use mathlib.Core.Path.{_≡_, sym, ap, _∙_}
+use lib.ListN.{length, List·getD-eq-default}
+use mathlib.Core.Path.{_≡_}
 use native.Mathlib.Omega.{arith}
 use Rattle.endtable.proofs.TouchLaws as laws
 use Rattle.endtable.specs.Touches.{touchIn, stepTouch}

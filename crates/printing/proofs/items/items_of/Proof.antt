@@ -1,14 +1,10 @@
 use borrow.Author.Needs.{needs}
 use native.Mathlib.Omega.{arith}
-use mathlib.Core.Path.{_≡_, refl, sym, ap, subst, _∙_}
-use Prim.Native.Nat.{_+_, _-_, _≤_, _<_}
+use mathlib.Core.Path.{_≡_, _∙_}
+use Prim.Native.Nat.{_-_, _≤_}
 use Rattle.printing.proofs.ItemLaws as laws
 use Rattle.printing.proofs.items.items_of.Statement.{statement}
 use Rattle.printing.proofs.items.items_of.Tie as tie
-use Rattle.printing.proofs.items.items_of.Reads as reads
-use Rattle.printing.proofs.items.items_of.Lts as lts
-use Rattle.machine.proofs.queue.queue_of.Reads as queue-of-reads
-use Rattle.printing.proofs.items.no_items.Reads as no-items-reads
 
 abbrev Inv-loop : tie.InvT-loop
 Inv-loop g q c items₀ p₀ items p = (p ≤ c) × (items ≡ laws.filled g (q .at) p)

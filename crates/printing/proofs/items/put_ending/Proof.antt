@@ -1,17 +1,11 @@
 use borrow.Author.Needs.{needs}
-use mathlib.Core.Path.{_≡_, sym, subst}
+use mathlib.Core.Path.{sym, subst}
 use Prim.Native.Nat.{_+_, _≤_}
 use lib.ListN.{length}
 use Rattle.printing.proofs.Written as written
-use native.Mathlib.Omega.{arith}
 use Rattle.printing.proofs.ItemLaws as laws
-use borrow.Author.Needs.{needs}
 use Rattle.printing.proofs.items.put_ending.Statement.{statement}
 use Rattle.printing.proofs.items.put_ending.Tie as tie
-use Rattle.printing.proofs.items.put_ending.Reads as reads
-use Rattle.printing.proofs.items.put_ending.Lts as lts
-use Rattle.printing.proofs.items.items_of.Reads as items-of-reads
-use Rattle.printing.proofs.lines.put_line.Reads as put-line-reads
 
 items-of-requires : tie.Need-items-of-requires
 items-of-requires c κs = c .before .pre .0

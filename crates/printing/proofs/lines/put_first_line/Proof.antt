@@ -1,20 +1,11 @@
 use borrow.Author.Needs.{needs}
-use native.Mathlib.Omega.{arith}
-use mathlib.Core.Path.{_≡_}
-use mathlib.Core.List.{List, [], _∷_, _++_}
-use lib.ListN.{length, take}
-use Rattle.lists.specs.Tab.{over}
+use mathlib.Core.List.{_++_}
+use lib.ListN.{length}
 use Rattle.lists.specs.Text.{text, decimal}
-use Rattle.page.specs.Printed.{newline, itemsText, firstLine}
-use Rattle.printing.specs.Lines.{lineText, refusedText}
+use Rattle.page.specs.Printed.{newline, firstLine}
 use Rattle.printing.proofs.Written as laws
-use borrow.Author.Needs.{needs}
 use Rattle.printing.proofs.lines.put_first_line.Statement.{statement}
 use Rattle.printing.proofs.lines.put_first_line.Tie as tie
-use Rattle.printing.proofs.lines.put_first_line.Reads as reads
-use Rattle.printing.proofs.lines.put_first_line.Lts as lts
-use Rattle.printing.proofs.lines.put_named.Reads as put-named-reads
-use Rattle.printing.proofs.put.Reads as put-reads
 
 slice-aggregate-put-named : tie.Need-slice-aggregate-put-named
 slice-aggregate-put-named c = search needs

@@ -2,21 +2,10 @@ use borrow.Author.Needs.{needs}
 use native.Mathlib.Omega.{arith}
 use native.Mathlib.Nat.{pos-of-ne-zero}
 use mathlib.Core.Path.{_≡_, ap}
-use mathlib.Core.List.{List, [], _∷_, _++_}
-use lib.ListN.{length, take}
-use Rattle.lists.specs.Tab.{over}
-use Rattle.lists.specs.Text.{text, decimal}
-use Rattle.page.specs.Printed.{newline, itemsText, firstLine}
-use Rattle.printing.specs.Lines.{lineText, refusedText}
+use lib.ListN.{length}
 use Rattle.printing.proofs.Written as laws
-use Rattle.page.specs.Printed.{spaced}
-use borrow.Author.Needs.{needs}
 use Rattle.printing.proofs.lines.put_items.Statement.{statement}
 use Rattle.printing.proofs.lines.put_items.Tie as tie
-use Rattle.printing.proofs.lines.put_items.Reads as reads
-use Rattle.printing.proofs.lines.put_items.Lts as lts
-use Rattle.printing.proofs.put.Reads as put-reads
-use Rattle.printing.proofs.put_spaced.Reads as put-spaced-reads
 
 slice-aggregate-put : tie.Need-slice-aggregate-put
 slice-aggregate-put c = search needs

@@ -1,22 +1,13 @@
 use borrow.Author.Needs.{needs}
 use native.Mathlib.Omega.{arith}
-use mathlib.Core.Path.{_≡_}
-use mathlib.Core.List.{List, [], _∷_, _++_}
+use mathlib.Core.List.{_++_}
 use lib.ListN.{length, take}
-use Rattle.lists.specs.Tab.{over}
 use Rattle.lists.specs.Text.{text, decimal}
-use Rattle.page.specs.Printed.{newline, itemsText, firstLine}
-use Rattle.printing.specs.Lines.{lineText, refusedText}
+use Rattle.page.specs.Printed.{newline, itemsText}
+use Rattle.printing.specs.Lines.{lineText}
 use Rattle.printing.proofs.Written as laws
-use borrow.Author.Needs.{needs}
 use Rattle.printing.proofs.lines.put_line.Statement.{statement}
 use Rattle.printing.proofs.lines.put_line.Tie as tie
-use Rattle.printing.proofs.lines.put_line.Reads as reads
-use Rattle.printing.proofs.lines.put_line.Lts as lts
-use Rattle.printing.proofs.lines.put_items.Reads as put-items-reads
-use Rattle.printing.proofs.lines.put_named.Reads as put-named-reads
-use Rattle.printing.proofs.put.Reads as put-reads
-use Rattle.printing.proofs.put_decimal.Reads as put-decimal-reads
 
 put-decimal-requires : tie.Need-put-decimal-requires
 unfolding lineText text

@@ -1,20 +1,9 @@
 use borrow.Author.Needs.{needs}
-use native.Mathlib.Omega.{arith}
-use mathlib.Core.Path.{_≡_}
-use mathlib.Core.List.{List, [], _∷_, _++_}
-use lib.ListN.{length, take}
-use Rattle.lists.specs.Tab.{over}
-use Rattle.lists.specs.Text.{text, decimal}
-use Rattle.page.specs.Printed.{newline, itemsText, firstLine}
-use Rattle.printing.specs.Lines.{lineText, refusedText}
+use lib.ListN.{length}
+use Rattle.lists.specs.Text.{decimal}
 use Rattle.printing.proofs.Written as laws
-use borrow.Author.Needs.{needs}
 use Rattle.printing.proofs.lines.put_named.Statement.{statement}
 use Rattle.printing.proofs.lines.put_named.Tie as tie
-use Rattle.printing.proofs.lines.put_named.Reads as reads
-use Rattle.printing.proofs.lines.put_named.Lts as lts
-use Rattle.printing.proofs.put.Reads as put-reads
-use Rattle.printing.proofs.put_decimal.Reads as put-decimal-reads
 
 put-requires : tie.Need-put-requires
 put-requires c κs =

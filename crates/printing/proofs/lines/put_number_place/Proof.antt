@@ -1,20 +1,12 @@
 use borrow.Author.Needs.{needs}
-use native.Mathlib.Omega.{arith}
-use mathlib.Core.Path.{_≡_}
-use mathlib.Core.List.{List, [], _∷_, _++_}
-use lib.ListN.{length, take}
-use Rattle.lists.specs.Tab.{over}
+use mathlib.Core.List.{_++_}
+use lib.ListN.{length}
 use Rattle.lists.specs.Text.{text, decimal}
-use Rattle.page.specs.Printed.{newline, itemsText, firstLine}
-use Rattle.printing.specs.Lines.{lineText, refusedText}
+use Rattle.page.specs.Printed.{newline}
+use Rattle.printing.specs.Lines.{refusedText}
 use Rattle.printing.proofs.Written as laws
-use borrow.Author.Needs.{needs}
 use Rattle.printing.proofs.lines.put_number_place.Statement.{statement}
 use Rattle.printing.proofs.lines.put_number_place.Tie as tie
-use Rattle.printing.proofs.lines.put_number_place.Reads as reads
-use Rattle.printing.proofs.lines.put_number_place.Lts as lts
-use Rattle.printing.proofs.lines.put_named.Reads as put-named-reads
-use Rattle.printing.proofs.put.Reads as put-reads
 
 slice-aggregate-put-named : tie.Need-slice-aggregate-put-named
 slice-aggregate-put-named c = search needs

@@ -1,17 +1,12 @@
 use borrow.Author.Needs.{needs}
-use mathlib.Core.Path.{_≡_, sym, subst}
+use mathlib.Core.Path.{sym, subst}
 use Prim.Native.Nat.{_+_, _≤_}
 use lib.ListN.{length}
 use Rattle.printing.proofs.Written as written
 use Rattle.page.specs.Printed.{refusedLine}
 use Rattle.printing.specs.Lines.{refusedText}
-use borrow.Author.Needs.{needs}
 use Rattle.printing.proofs.refused.put_refused.Statement.{statement}
 use Rattle.printing.proofs.refused.put_refused.Tie as tie
-use Rattle.printing.proofs.refused.put_refused.Reads as reads
-use Rattle.printing.proofs.refused.put_refused.Lts as lts
-use Rattle.printing.proofs.lines.put_number_place.Reads as put-number-place-reads
-use Rattle.printing.proofs.refused.told_of.Reads as told-of-reads
 
 told-of-requires : tie.Need-told-of-requires
 told-of-requires c κs = search needs

@@ -1,11 +1,6 @@
 use borrow.Author.Needs.{needs}
-use Rattle.answer.specs.Answers.{told}
 use Rattle.printing.proofs.refused.told_of.Statement.{statement}
 use Rattle.printing.proofs.refused.told_of.Tie as tie
-use Rattle.printing.proofs.refused.told_of.Reads as reads
-use Rattle.printing.proofs.refused.told_of.Lts as lts
-use Rattle.printing.proofs.refused.refusal.Reads as refusal-reads
-use Rattle.printing.proofs.refused.replied.Reads as replied-reads
 
 enum-told : tie.Need-enum-told
 enum-told c = search needs

@@ -1,0 +1,44 @@
+use native.Mathlib.Omega.{arith}
+use Rattle.compare.proofs.input.pass_over.Statement.{statement}
+use Rattle.compare.proofs.input.pass_over.Tie as tie
+
+abbrev Inv-loop : tie.InvT-loop
+Inv-loop count left₀ left = Unit {0}
+
+abbrev μ-loop : tie.MeasureT-loop
+μ-loop count left₀ left = left
+
+loop-holds : tie.Need-loop-holds Inv-loop μ-loop
+loop-holds c = tt
+
+pass-some-requires : tie.Need-pass-some-requires Inv-loop μ-loop
+pass-some-requires c κs = omega arith
+
+sub-left : tie.Need-sub-left Inv-loop μ-loop
+sub-left c = omega arith
+
+loop-less : tie.Need-loop-less Inv-loop μ-loop
+loop-less c = omega arith
+
+loop-again : tie.Need-loop-again Inv-loop μ-loop
+loop-again c = tt
+
+pass-some-requires-2 : tie.Need-pass-some-requires-2 Inv-loop μ-loop
+pass-some-requires-2 c κs = omega arith
+
+returns : tie.Need-returns Inv-loop μ-loop
+returns c = tt
+
+pub pass-over-spec : {M : Type 1} → statement M
+pass-over-spec =
+    tie.close
+    (tie.spec
+    Inv-loop
+    μ-loop
+    loop-holds
+    pass-some-requires
+    sub-left
+    loop-less
+    loop-again
+    pass-some-requires-2
+    returns)

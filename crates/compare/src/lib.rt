@@ -1,0 +1,4 @@
+// What the comparing programs share: their input, their output, and the numbers of an answer. No promise of the bench rests on it.
+pub mod answers;
+pub mod input;
+pub mod text;

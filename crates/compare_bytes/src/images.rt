@@ -1,0 +1,29 @@
+// Images read, and written again.
+use compare::answers::told_of;
+use compare::text::put;
+use compare::text::put_front;
+use compare::text::put_refusal;
+use image::Image;
+
+// The image as write_image writes it, in hex.
+pub fn put_image(out: &mut [u8; 65536], at: usize, g: Image) -> usize {
+    let mut bytes = [0u8; 586];
+    let a = codec::write_image(g, &mut bytes);
+    let t = told_of(a);
+    if t.number != 0 {
+        return put_refusal(out, at, t);
+    }
+    put_front(out, at, &bytes, 10 + (g.n as usize) * 9)
+}
+
+pub fn answer_image(s: &[u8], out: &mut [u8; 65536], at: usize) -> usize {
+    let r = codec::read_image(s);
+    let a = r.answer;
+    let t = told_of(a);
+    if t.number != 0 {
+        return put_refusal(out, at, t);
+    }
+    let g = r.image;
+    let first = put_image(out, at, g);
+    put(out, first, b'\n')
+}

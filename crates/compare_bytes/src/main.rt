@@ -1,0 +1,51 @@
+// The calls on bytes, for many inputs in one run, so that another program's answers can be compared with theirs.
+// Standard input: one byte that names the mode, then a stream of items, each behind its length (4 bytes, little-endian).
+//   i  an image:    `refused N at P`, or the image written again, in hex
+//   s  a schedule:  `refused N at P`, or `taken T COUNT IMAGE EVENTS`, the last two in hex
+//   c  contents to be written: `N P BUFFER`, the whole lent buffer in hex
+mod contents;
+mod images;
+mod schedules;
+
+use compare::input::next_item;
+use compare::text::finish;
+use contents::answer_contents;
+use images::answer_image;
+use libc::STDIN_FILENO;
+use schedules::answer_schedule;
+
+fn answer_one(mode: u8, s: &[u8], out: &mut [u8; 65536], at: usize) -> usize {
+    match mode {
+        b'i' => answer_image(s, out, at),
+        b's' => answer_schedule(s, out, at),
+        b'c' => answer_contents(s, out, at),
+        _ => at,
+    }
+}
+
+// Nothing says that the input ends, so the turns are counted down from a number that no run uses up.
+fn answer_all(mode: u8, item: &mut [u8], out: &mut [u8; 65536]) -> usize {
+    let mut at = 0;
+    let mut turns = u64::MAX;
+    while turns > 0 {
+        let next = next_item(item);
+        if !next.there {
+            break;
+        }
+        let kept = next.kept;
+        let after = answer_one(mode, &item[..kept], out, at);
+        at = after;
+        turns -= 1;
+    }
+    at
+}
+
+fn main() {
+    let mut mode = [0u8; 1];
+    io::read_full(STDIN_FILENO, &mut mode);
+    // Longer than any image or schedule; what is longer still is refused as its first part is.
+    let mut item = [0u8; 40000];
+    let mut out = [0u8; 65536];
+    let at = answer_all(mode[0], &mut item, &mut out);
+    finish(&out, at);
+}

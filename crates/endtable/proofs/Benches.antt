@@ -1,0 +1,112 @@
+-- A run, event by event: what the code holds goes on standing for the bench.
+use Prim.Native.Nat.{ℕ, suc, _≤_, _<_}
+use mathlib.Core.Path.{_≡_, refl, sym, ap, subst, _∙_}
+use mathlib.Core.Bool.{Bool, true, false}
+use mathlib.Core.List.{List, [], _∷_}
+use native.Mathlib.Omega.{arith}
+use lib.ListN.{length, drop, drop-of-length-le}
+use lib.Seq.{drop-cons}
+use Rattle.lists.specs.Tab.{tab}
+use Rattle.lists.proofs.TabLaws as tabs
+use Rattle.answer.specs.Answers.{accepted}
+use Rattle.answer.specs.declared.Answer.the-variants.{Taken}
+use Rattle.image.specs.declared.Content.{Content}
+use Rattle.machine.specs.Line.{lineCount, cachedAt}
+use Rattle.machine.specs.Start.{startWith}
+use Rattle.machine.specs.Event.{Deed, crashes, deedOf, done, eventAt}
+use Rattle.machine.specs.declared.Machine.{Machine}
+use Rattle.machine.specs.declared.Event.{Event}
+use Rattle.schedule.specs.Run.{Bench, Ran, begins, andBefore, run}
+use Rattle.endtable.specs.Touches.{touchIn}
+use Rattle.endtable.specs.Opened.{openedTable, openedCounts}
+use Rattle.endtable.specs.Tables.{tableAfter, countsAfter}
+use Rattle.endtable.specs.Benches.{turnedBy, benchAt, Stands}
+use Rattle.endtable.proofs.Steps as events
+use Rattle.endtable.proofs.Moments as moments
+use Rattle.endtable.proofs.TableLaws as tables
+
+-- ---- what the code holds
+
+pub stands-begin : (m : Machine) → m .n ≤ 64 → Stands (begins m) m (openedTable m (lineCount (m .n))) (openedCounts m (lineCount (m .n)))
+stands-begin m h = record { machine = refl; small = h; timed = moments.timed-begins m; tables = tables.tables-begin m h }
+
+-- the machine is the bench's own
+pub stands-now : (b : Bench) (m : Machine) (t : List (List Content)) (cs : List ℕ) → Stands b m t cs → Stands b (b .machine) t cs
+stands-now b m t cs h = record { machine = refl; small = h .small; timed = h .timed; tables = h .tables }
+
+module _ (p : ℕ) (b : Bench) (e : Event) (t : List (List Content)) (cs : List ℕ) (h : Stands b (b .machine) t cs) (taken : accepted (eventAt p (b .machine) e .answer) ≡ true) where
+  abbrev m′ : Machine
+  m′ = eventAt p (b .machine) e .machine
+
+  -- an event that is no crash
+  pub stands-event : length (b .machine .kept) ≡ length (b .machine .nodes) → (deedOf (e .kind) ≡ crashes → ⊥)
+      → Stands (turnedBy p b e) (eventAt p (b .machine) e .machine)
+      (tableAfter t cs (touchIn (b .machine) e) (cachedAt (eventAt p (b .machine) e .machine) (touchIn (b .machine) e .line)))
+      (countsAfter t cs (touchIn (b .machine) e) (cachedAt (eventAt p (b .machine) e .machine) (touchIn (b .machine) e .line)))
+  stands-event k ne = record {
+    machine = same;
+    small = subst (λ (x : Machine). x .n ≤ 64) same (omega (arith, events.frame-event p (b .machine) e k taken ne .size, h .small));
+    timed = tables.timed-event p b e (h .timed) k taken ne;
+    tables = tables.tables-event p b e (h .timed) (h .small) k taken ne t cs (h .tables);
+  }
+    where
+      same : m′ ≡ turnedBy p b e .machine
+      same = sym (ap (λ (x : Bench). x .machine) (events.turned-on p b m′ e taken ne))
+
+  -- a crash
+  crash-size : deedOf (e .kind) ≡ crashes → m′ .n ≡ b .machine .n
+  unfolding startWith
+  crash-size q = ap (λ o. o .machine .n) (events.event-done p (b .machine) e taken) ∙ ap (λ (d : Deed). done (b .machine) e d .machine .n) q
+
+  pub stands-crash : deedOf (e .kind) ≡ crashes
+      → Stands (turnedBy p b e) (eventAt p (b .machine) e .machine) (openedTable m′ (lineCount (m′ .n))) (openedCounts m′ (lineCount (m′ .n)))
+  stands-crash q = record {
+    machine = rw q;
+    small = rw q (omega (arith, crash-size q, h .small));
+    timed = tables.timed-crash b m′ e q;
+    tables = tables.tables-crash b m′ e q (omega (arith, crash-size q, h .small));
+  }
+
+-- ---- the run
+
+module _ (b : Bench) (f : ℕ → Event) (n i : ℕ) where
+  events-from : i < n → drop i (tab f n) ≡ f i ∷ drop (suc i) (tab f n)
+  events-from h =
+      drop-cons (tab f n) i (f i) (omega (arith, tabs.length-tab f n)) ∙ ap (λ x. x ∷ drop (suc i) (tab f n)) (tabs.getD-tab f n i (f i) h)
+
+  -- a taken event
+  pub run-on : i < n → accepted (eventAt i (benchAt b f i .machine) (f i) .answer) ≡ true
+      → run i (benchAt b f i) (drop i (tab f n))
+      ≡ andBefore (eventAt i (benchAt b f i .machine) (f i) .answer) (run (suc i) (benchAt b f (suc i)) (drop (suc i) (tab f n)))
+  unfolding run benchAt
+  run-on h a = ap (run i (benchAt b f i)) (events-from h) ∙ by (accepted (eventAt i (benchAt b f i .machine) (f i) .answer)) a
+    where
+      yes-way : Ran
+      yes-way = andBefore (eventAt i (benchAt b f i .machine) (f i) .answer) (run (suc i) (turnedBy i (benchAt b f i) (f i)) (drop (suc i) (tab f n)))
+
+      no-way : Ran
+      no-way = record { answer = eventAt i (benchAt b f i .machine) (f i) .answer; replies = []; bench = benchAt b f i }
+
+      by : (x : Bool) → x ≡ true → elim x as (λ _. Ran) [ true ↦ yes-way | false ↦ no-way ] ≡ yes-way
+      by true q = refl
+      by false q = absurd (let z : _≡_ {A = ℕ} 0 1 = cc in omega arith)
+
+  -- "The first refused event ends the run."
+  pub run-refused : i < n → accepted (eventAt i (benchAt b f i .machine) (f i) .answer) ≡ false
+      → run i (benchAt b f i) (drop i (tab f n)) ≡ record { answer = eventAt i (benchAt b f i .machine) (f i) .answer; replies = []; bench = benchAt b f i }
+  unfolding run
+  run-refused h a = ap (run i (benchAt b f i)) (events-from h) ∙ by (accepted (eventAt i (benchAt b f i .machine) (f i) .answer)) a
+    where
+      yes-way : Ran
+      yes-way = andBefore (eventAt i (benchAt b f i .machine) (f i) .answer) (run (suc i) (turnedBy i (benchAt b f i) (f i)) (drop (suc i) (tab f n)))
+
+      no-way : Ran
+      no-way = record { answer = eventAt i (benchAt b f i .machine) (f i) .answer; replies = []; bench = benchAt b f i }
+
+      by : (x : Bool) → x ≡ false → elim x as (λ _. Ran) [ true ↦ yes-way | false ↦ no-way ] ≡ no-way
+      by true q = absurd (let z : _≡_ {A = ℕ} 0 1 = cc in omega arith)
+      by false q = refl
+
+  pub run-end : n ≤ i → run i (benchAt b f i) (drop i (tab f n)) ≡ record { answer = Taken; replies = []; bench = benchAt b f i }
+  unfolding run
+  run-end h = ap (run i (benchAt b f i)) (drop-of-length-le (tab f n) {i = i} (omega (arith, tabs.length-tab f n)))

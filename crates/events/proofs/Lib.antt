@@ -1,0 +1,4 @@
+pub mod ByAnswer
+pub mod Refused
+pub mod Unique
+pub mod Shut

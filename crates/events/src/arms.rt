@@ -1,0 +1,182 @@
+// An event on a record that is within its ranges. p is the place that a refusal names.
+ghost use mathlib.Core.Path.{_≡_};
+ghost use mathlib.Core.Bool.{true};
+ghost use Rattle.machine.specs.Event.{enqueues, dequeues, steps, writesBack, crashes, eventAt};
+ghost use Rattle.machine.specs.Line.{persisted};
+ghost use Rattle.machine.specs.Range.{inRange};
+ghost use Rattle.events.specs.Arms.{eventBy};
+use answer::Answer;
+use image::Image;
+use machine::Event;
+use machine::Machine;
+use machine::Out;
+
+// The persisted copies, as an image.
+pub fn kept_image(m: Machine) -> Image
+    ensures { λ r. ⌜ r ≡ persisted m ⌝ }
+{
+    let nodes = m.kept;
+    Image {
+        n: m.n,
+        head: m.kept_head,
+        nodes,
+    }
+}
+
+// 1: begins an enqueue of the item on the thread numbered.
+fn enqueue(p: u32, m: Machine, e: Event) -> Out
+    requires { ⌜ inRange m ≡ true ⌝ }
+    ensures { λ r. ⌜ r ≡ eventBy p m e enqueues ⌝ }
+{
+    if m.t <= e.number {
+        return Out {
+            answer: Answer::Number(p),
+            machine: m,
+        };
+    }
+    let k = e.number as usize;
+    if m.threads[k].step != 0 {
+        return Out {
+            answer: Answer::Busy(p),
+            machine: m,
+        };
+    }
+    let machine = steps::begin(m, k, 1, e.item);
+    Out {
+        answer: Answer::Taken,
+        machine,
+    }
+}
+
+// 2: begins a dequeue on the thread numbered.
+fn dequeue(p: u32, m: Machine, e: Event) -> Out
+    requires { ⌜ inRange m ≡ true ⌝ }
+    ensures { λ r. ⌜ r ≡ eventBy p m e dequeues ⌝ }
+{
+    if m.t <= e.number {
+        return Out {
+            answer: Answer::Number(p),
+            machine: m,
+        };
+    }
+    if e.item != 0 {
+        return Out {
+            answer: Answer::NotZero(p),
+            machine: m,
+        };
+    }
+    let k = e.number as usize;
+    if m.threads[k].step != 0 {
+        return Out {
+            answer: Answer::Busy(p),
+            machine: m,
+        };
+    }
+    let machine = steps::begin(m, k, 13, 0);
+    Out {
+        answer: Answer::Taken,
+        machine,
+    }
+}
+
+// 3: moves the thread numbered by one step.
+fn step(p: u32, m: Machine, e: Event) -> Out
+    requires { ⌜ inRange m ≡ true ⌝ }
+    ensures { λ r. ⌜ r ≡ eventBy p m e steps ⌝ }
+{
+    if m.t <= e.number {
+        return Out {
+            answer: Answer::Number(p),
+            machine: m,
+        };
+    }
+    if e.item != 0 {
+        return Out {
+            answer: Answer::NotZero(p),
+            machine: m,
+        };
+    }
+    let k = e.number as usize;
+    if m.threads[k].step == 0 {
+        return Out {
+            answer: Answer::Idle(p),
+            machine: m,
+        };
+    }
+    steps::one_step(m, k)
+}
+
+// 4: writes back the line numbered.
+fn write_back(p: u32, m: Machine, e: Event) -> Out
+    requires { ⌜ inRange m ≡ true ⌝ }
+    ensures { λ r. ⌜ r ≡ eventBy p m e writesBack ⌝ }
+{
+    if m.n < e.number {
+        return Out {
+            answer: Answer::Number(p),
+            machine: m,
+        };
+    }
+    if e.item != 0 {
+        return Out {
+            answer: Answer::NotZero(p),
+            machine: m,
+        };
+    }
+    let machine = steps::persist_line(m, e.number as usize);
+    Out {
+        answer: Answer::Taken,
+        machine,
+    }
+}
+
+// 5: a crash followed by recovery.
+fn crash(p: u32, m: Machine, e: Event) -> Out
+    requires { ⌜ inRange m ≡ true ⌝ }
+    ensures { λ r. ⌜ r ≡ eventBy p m e crashes ⌝ }
+{
+    if e.number != 0 {
+        return Out {
+            answer: Answer::NotZero(p),
+            machine: m,
+        };
+    }
+    if e.item != 0 {
+        return Out {
+            answer: Answer::NotZero(p),
+            machine: m,
+        };
+    }
+    let g = kept_image(m);
+    let a = image::startable_of(g);
+    if !codec::is_taken(a) {
+        return Out {
+            answer: a,
+            machine: m,
+        };
+    }
+    let machine = machine::start::start(g, m.t);
+    Out {
+        answer: Answer::Taken,
+        machine,
+    }
+}
+
+// The kind decides.
+pub fn act(p: u32, m: Machine, e: Event) -> Out
+    requires { ⌜ inRange m ≡ true ⌝ }
+    ensures { λ r. ⌜ r ≡ eventAt p m e ⌝ }
+{
+    let kind = e.kind;
+    match kind {
+        1 => enqueue(p, m, e),
+        2 => dequeue(p, m, e),
+        3 => step(p, m, e),
+        4 => write_back(p, m, e),
+        5 => crash(p, m, e),
+        0 | 6..=255 => Out {
+            answer: Answer::Kind(p),
+            machine: m,
+        },
+    }
+}

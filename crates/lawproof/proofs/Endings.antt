@@ -1,0 +1,173 @@
+-- Every ending of an accepted run, one content for each line, recovers to a lawful queue; whether or not 14 and 15 allow a page.
+use mathlib.Core.Path.{_≡_, refl, sym, ap, subst, _∙_}
+use mathlib.Core.Bool.{true}
+use mathlib.Core.List.{List, [], _∷_, map}
+use mathlib.Core.Logic.{inl, inr}
+use Prim.Native.Nat.{ℕ, zero, suc, _≤_, _<_}
+use native.Mathlib.Omega.{arith}
+use lib.ListN.{getD}
+use Rattle.answer.specs.Answers.{accepted}
+use Rattle.image.specs.declared.Content.{Content}
+use Rattle.image.specs.declared.Image.{Image}
+use Rattle.image.specs.Layout.{noContent, noContents, contentAt}
+use Rattle.machine.specs.Record.{top}
+use Rattle.machine.specs.Line.{lineCount}
+use Rattle.machine.specs.Start.{startOf, startAnswer, blankMachine}
+use Rattle.machine.specs.declared.Machine.{Machine}
+use Rattle.machine.specs.declared.Event.{Event}
+use Rattle.schedule.specs.Run as schedule
+use Rattle.schedule.specs.Run.{Ran, run, begins}
+use Rattle.page.specs.Contents.{contentsOf}
+use Rattle.page.specs.Endings.{imageOf}
+use Rattle.lawful.specs.Operation.{operations}
+use Rattle.lawful.specs.Plain.{queueIn}
+use Rattle.lawful.specs.Lawful.{Lawful}
+use Rattle.model.specs.Basics.{sel}
+use Rattle.model.specs.Lines.{Line, ofHead, ofNode}
+use Rattle.model.specs.Conf.{Conf, headLines, Within}
+use Rattle.model.specs.Core as core
+use Rattle.model.specs.Recovery as recovery
+use Rattle.model.specs.Recovery.{imageHas}
+use Rattle.model.specs.Machine.{hasNode}
+use Rattle.model.specs.Lawful as law
+use Rattle.model.specs.Bench.{Bench, bench, opening}
+use Rattle.model.specs.Demand3.{Ending, Fit}
+use Rattle.model.proofs.Basics.{lt-true}
+use Rattle.model.proofs.Demand3.ThreeB.{demand3b}
+use Rattle.tied.specs.Shown.{shownContent, lineShown, confOf, imageShown, Narrow, eventShown}
+use Rattle.tied.specs.Always.{Among}
+use Rattle.tied.proofs.Images.{ImageT}
+use Rattle.tied.proofs.Start.{front-at}
+use Rattle.tied.proofs.Contents.{Small, Flags}
+use Rattle.tied.proofs.Bench.{BenchT}
+use Rattle.tied.proofs.Statements.{fits, tidies, run-threads, run-takes, run-ends}
+use Rattle.lawproof.proofs.Queues.{starts-accepted, queue-shown}
+use Rattle.lawproof.proofs.Transfer.{lawful-same}
+use Rattle.lawproof.proofs.Books.{startBook}
+
+-- c takes for each of the bench's lines one of its contents
+abbrev pub Chosen : schedule.Bench → List Content → Type 0
+Chosen b c = (k : ℕ) → k < lineCount (b .machine .n) → Among (contentAt c k) (contentsOf b k)
+
+-- ---- contents
+
+among-shown : (l : List Content) (c : Content) → Among c l → hasNode (shownContent c) (map shownContent l)
+among-shown [] c h = h
+among-shown (d ∷ l) c (inl e) = inl (ap shownContent e)
+among-shown (d ∷ l) c (inr h) = inr (among-shown l c h)
+
+among-small : (l : List Content) (c : Content) → Flags l → Among c l → Small c
+among-small [] c f h = absurd h
+among-small (d ∷ l) c f (inl e) = subst Small (sym e) (f .0)
+among-small (d ∷ l) c f (inr h) = among-small l c (f .1) h
+
+-- ---- an image chosen from the contents of a bench
+
+module _ (b : schedule.Bench) (B : Bench) (r : BenchT b B) (c : List Content) (pick : Chosen b c) where
+  abbrev m : Machine
+  m = b .machine
+
+  -- as an image, here and there
+  abbrev e : Image
+  e = imageOf (m .n) c
+
+  abbrev E : recovery.Image
+  E = imageShown e (m .t)
+
+  e-head : e .head ≡ contentAt c 0 .index
+  unfolding imageOf
+  e-head = refl
+
+  e-size : e .n ≡ m .n
+  unfolding imageOf
+  e-size = refl
+
+  e-at : (i : ℕ) → i < m .n → contentAt (e .nodes) i ≡ contentAt c (suc i)
+  unfolding imageOf
+  e-at i h = front-at (λ i. contentAt c (suc i)) (m .n) noContents i noContent h
+
+  small : (k : ℕ) → k < lineCount (m .n) → Small (contentAt c k)
+  small k h = among-small (contentsOf b k) (contentAt c k) (r .lists .flags k h) (pick k h)
+
+  there : (k : ℕ) → k < lineCount (m .n) → hasNode (shownContent (contentAt c k)) (B .mach .hist (lineShown k))
+  there k h = subst (hasNode (shownContent (contentAt c k))) (sym (r .lists .lists k h)) (among-shown (contentsOf b k) (contentAt c k) (pick k h))
+
+  E-at : (i : ℕ) → i < m .n → E .at i ≡ shownContent (contentAt (e .nodes) i)
+  unfolding imageShown imageOf
+  E-at i h = ap (λ x. sel x (shownContent (contentAt (e .nodes) i)) core.zeroNode) (lt-true i (m .n) h)
+
+  E-conf : E .conf ≡ confOf (m .n) (m .t)
+  unfolding imageShown imageOf
+  E-conf = refl
+
+  E-head : E .heads 0 ≡ e .head
+  unfolding imageShown
+  E-head = refl
+
+  small-at : (i : ℕ) → i < m .n → Small (contentAt (e .nodes) i)
+  small-at i h = subst Small (sym (e-at i h)) (small (suc i) (omega arith))
+
+  pub chosenT : ImageT e (m .t) E
+  chosenT = record {
+    conf = E-conf ∙ ap (λ n. confOf n (m .t)) (sym e-size);
+    sizes = rw e-size (r .tied .sizes);
+    head = E-head;
+    at = λ i h. E-at i (omega (arith, e-size));
+    flag = λ i h. small-at i (omega (arith, e-size)) .0;
+    narrow-head = subst (λ x. x ≤ top) (sym e-head) (small 0 (omega arith) .1);
+    narrow = λ i h. small-at i (omega (arith, e-size)) .1;
+  }
+
+  -- an ending of the abstract machine
+  pub is-ending : Ending (B .mach) E
+  is-ending = record { conf = E-conf ∙ sym (r .tied .conf); lines = at }
+    where
+      at : (l : Line) → Within (B .mach .core .conf) l → hasNode (imageHas E l) (B .mach .hist l)
+      at (ofHead zero) h =
+          let hn = there 0 (omega arith) in
+          subst (λ x. hasNode x (B .mach .hist (ofHead 0)))
+          (r .kept .all .pinv .head .plain 0 h (shownContent (contentAt c 0)) hn ∙ ap core.hd (sym (E-head ∙ e-head))) hn
+      at (ofHead (suc k)) h = let z : suc k < 1 = subst (λ (c : Conf). suc k < headLines c) (r .tied .conf) h in absurd (omega arith)
+      at (ofNode i) h =
+          let hi : i < m .n = subst (λ (c : Conf). i < c .nodes) (r .tied .conf) h in
+          subst (λ x. hasNode x (B .mach .hist (ofNode i))) (sym (E-at i hi ∙ ap shownContent (e-at i hi))) (there (suc i) (omega arith))
+
+-- ---- every ending of an accepted run
+
+module _ (g : Image) (t : ℕ) (a : accepted (startAnswer g t) ≡ true) (w : Narrow g) (l : List Event) (all : accepted (run 0 (begins (startOf g t)) l .answer) ≡ true) where
+  abbrev R : Ran
+  R = run 0 (begins (startOf g t)) l
+
+  abbrev G : recovery.Image
+  G = imageShown g t
+
+  abbrev M : Bench
+  M = bench (opening G) (map eventShown l)
+
+  -- what the two benches show in the end is the same
+  ends : BenchT (R .bench) M
+  ends = run-ends g t a w 0 l all
+
+  module _ (c : List Content) (pick : Chosen (R .bench) c) where
+    -- the ending that c is
+    abbrev pub left : Image
+    left = imageOf (R .bench .machine .n) c
+
+    both-halves : Fit (imageShown left (R .bench .machine .t)) × law.Lawful (M .book .op) (M .book .count) (M .first) (recovery.itemsOf (imageShown left (R .bench .machine .t)))
+    both-halves = demand3b G (fits g t a w 0 l) (tidies g t a w 0 l) (map eventShown l) (run-takes g t a w 0 l all) (imageShown left (R .bench .machine .t)) (is-ending (R .bench) M ends c pick)
+
+    -- none of 4, 3, 6, 7, 8 refuses it
+    pub ending-starts : accepted (startAnswer left t) ≡ true
+    ending-starts = subst (λ t. accepted (startAnswer left t) ≡ true) (run-threads g t a w 0 l)
+        (starts-accepted left (R .bench .machine .t) (imageShown left (R .bench .machine .t)) (chosenT (R .bench) M ends c pick) (both-halves .0))
+
+    -- and its start has a queue that the operations since the last start may lawfully leave
+    pub ending-lawful : Lawful (operations 0 l (R .replies) []) (queueIn (getD (R .bench .past) 0 blankMachine)) (queueIn (startOf left t))
+    ending-lawful =
+        let k = startBook g t a w l all in
+        let q = queue-shown left (R .bench .machine .t) (imageShown left (R .bench .machine .t)) (chosenT (R .bench) M ends c pick) (both-halves .0) in
+        subst (λ t. Lawful (operations 0 l (R .replies) []) (queueIn (getD (R .bench .past) 0 blankMachine)) (queueIn (startOf left t))) (run-threads g t a w 0 l)
+        (subst (Lawful (operations 0 l (R .replies) []) (queueIn (getD (R .bench .past) 0 blankMachine))) (sym q)
+        (subst (λ p. Lawful (operations 0 l (R .replies) []) p (recovery.itemsOf (imageShown left (R .bench .machine .t)))) (sym (k .first))
+        (lawful-same (operations 0 l (R .replies) []) (M .book .op) (M .book .count) (k .book .same) (k .book .count) (M .first)
+        (recovery.itemsOf (imageShown left (R .bench .machine .t))) (both-halves .1))))

@@ -1,0 +1,9 @@
+pub mod Walk
+pub mod Queues
+pub mod Moves
+pub mod Operations
+pub mod Transfer
+pub mod Books
+pub mod Choices
+pub mod Endings
+pub mod Lawful3

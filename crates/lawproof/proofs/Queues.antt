@@ -1,0 +1,53 @@
+-- An image that is fit for the abstract machine: a start accepts it, and its queue is the abstract machine's.
+use mathlib.Core.Path.{_≡_, sym, ap, ap₂, _∙_}
+use mathlib.Core.Bool.{Bool, true, false, not}
+use mathlib.Core.List.{map}
+use Prim.Native.Nat.{ℕ}
+use native.Mathlib.Omega.{arith}
+use lib.Dec.{ltb}
+use Rattle.lists.specs.Find.{both}
+use Rattle.lists.proofs.FindLaws.{least-none}
+use Rattle.answer.specs.Answers.{check, accepted}
+use Rattle.answer.specs.declared.Answer.{Answer}
+use Rattle.answer.specs.declared.Answer.the-variants.{Taken, Nodes, Threads, Linked}
+use Rattle.image.specs.declared.Image.{Image}
+use Rattle.image.specs.Layout.{contentAt}
+use Rattle.image.specs.Recovered.{firstUnclear}
+use Rattle.image.specs.Refusals.{nodesFit, sound}
+use Rattle.machine.specs.Start.{queueOf, startOf, startAnswer, threadsFit}
+use Rattle.machine.proofs.StartLaws.{queue-in}
+use Rattle.lawful.specs.Plain.{queueIn}
+use Rattle.model.specs.Core as core
+use Rattle.model.specs.Recovery as recovery
+use Rattle.model.specs.Demand3.{Fit}
+use Rattle.model.proofs.Basics.{le-true, lt-no}
+use Rattle.tied.proofs.Images.{ImageT, queue-is}
+use Rattle.tied.proofs.Accepted.{startable-yes}
+use Rattle.lawproof.proofs.Walk.{map-among, queue-start}
+
+check-no : (b : Bool) (w rest : Answer) → b ≡ false → accepted rest ≡ true → accepted (check b w rest) ≡ true
+check-no b w rest e a = rw e a
+
+module _ (g : Image) (t : ℕ) (G : recovery.Image) (r : ImageT g t G) where
+  all-clear : ltb (firstUnclear g) (g .n) ≡ false
+  unfolding firstUnclear
+  all-clear =
+      let z = least-none (λ i. ltb 1 (contentAt (g .nodes) i .linked)) (g .n) 0 (λ i a b. lt-no 1 (contentAt (g .nodes) i .linked) (r .flag i (omega arith))) in
+      lt-no _ (g .n) (omega (arith, z))
+
+  -- none of 4, 3, 6, 7, 8
+  pub starts-accepted : Fit G → accepted (startAnswer g t) ≡ true
+  unfolding startAnswer sound
+  starts-accepted f =
+      check-no (not (threadsFit t)) Threads _ (ap not (ap₂ both (le-true 1 t (r .sizes .threads-lo)) (le-true t 8 (r .sizes .threads-hi))))
+      (check-no (not (nodesFit (g .n))) Nodes _ (ap not (ap₂ both (le-true 2 (g .n) (r .sizes .nodes-lo)) (le-true (g .n) 64 (r .sizes .nodes-hi))))
+      (check-no (ltb (firstUnclear g) (g .n)) (Linked (firstUnclear g)) _ all-clear (ap accepted (startable-yes g t G r f Taken))))
+
+  items-is : recovery.itemsOf G ≡ map (λ i. contentAt (g .nodes) i .item) (queueOf g)
+  unfolding recovery.itemsOf
+  items-is = ap (map (λ i. G .at i .item)) (queue-is g t G r)
+      ∙ map-among (λ i. G .at i .item) (λ i. contentAt (g .nodes) i .item) (queueOf g) (λ i h. ap (λ (c : core.Node). c .item) (r .at i (queue-in g t i h .0)))
+
+  -- the queue at its start, here and there
+  pub queue-shown : Fit G → queueIn (startOf g t) ≡ recovery.itemsOf G
+  queue-shown f = queue-start g t (starts-accepted f) ∙ sym items-is

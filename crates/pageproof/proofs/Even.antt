@@ -1,0 +1,118 @@
+-- In every machine of a run there are as many persisted copies as nodes: each node's line has one.
+use Prim.Native.Nat.{ℕ, zero, suc, _+_, _-_}
+use mathlib.Core.Path.{_≡_, sym, ap, ap₂, _∙_}
+use mathlib.Core.Bool.{Bool, true, false}
+use mathlib.Core.List.{List}
+use lib.ListN.{length, drop, set, length-append, length-drop, length-map, length-set, length-replicate}
+use lib.Dec.{eqb}
+use Rattle.lists.specs.Find.{pick, both}
+use Rattle.lists.specs.Tab.{tab, front}
+use Rattle.lists.proofs.TabLaws as tabs
+use Rattle.image.specs.declared.Image.{Image}
+use Rattle.image.specs.Layout.{noContent, noContents}
+use Rattle.machine.specs.Record.{none, top, node, thread, contentOf, blankNode, blankNodes, putTail}
+use Rattle.machine.specs.Stage.{Stage, noStep, A1, A2, A3, A4, A5, A6, A7, A8, A9, A10, A11, A12, D1, D2, D3, D4, D5, D6, D7, stage}
+use Rattle.machine.specs.Line.{persist}
+use Rattle.machine.specs.Retire.{left, freed, released, retired, retiredHeld}
+use Rattle.machine.specs.Start.{startWith, startOf, queueOf}
+use Rattle.machine.specs.Event.{Deed, unknown, enqueues, dequeues, steps, writesBack, crashes, stepped, done}
+use Rattle.machine.specs.declared.Machine.{Machine}
+use Rattle.machine.specs.declared.Node.{Node}
+use Rattle.machine.specs.declared.Event.{Event}
+use Rattle.machine.specs.declared.Out.{Out}
+use Rattle.endtable.proofs.Frame as frame
+
+abbrev pub Even : Machine → Type 0
+Even m = length (m .kept) ≡ length (m .nodes)
+
+-- ---- parts of a step
+
+-- the same contents
+even-same : (m m′ : Machine) → frame.Same m m′ → Even m → Even m′
+even-same m m′ s e =
+    ap length (s .kept) ∙ e ∙ sym (length-map (m .nodes) contentOf) ∙ ap length (sym (s .nodes)) ∙ length-map (m′ .nodes) contentOf
+
+even-left : (m : Machine) (k x : ℕ) → Even m → Even (left m k x)
+even-left m k x e = even-same m (released m k (m .n)) (frame.same-released m k (m .n)) e
+
+even-set : (m : Machine) (i : ℕ) (v : Node) → Even m → length (m .kept) ≡ length (set (m .nodes) i v)
+even-set m i v e = e ∙ sym (length-set (m .nodes) i v)
+
+even-pick : (t : Bool) (a b : Out) → Even (a .machine) → Even (b .machine) → Even (pick t a b .machine)
+even-pick true a b p q = p
+even-pick false a b p q = q
+
+even-persist : (m : Machine) (l : ℕ) → Even m → Even (persist m l)
+even-persist m zero e = e
+even-persist m (suc i) e = length-set (m .kept) i (contentOf (node m i)) ∙ e
+
+even-held : (m : Machine) (k : ℕ) → Even m → Even (retiredHeld m k)
+even-held m k e = by (eqb (thread m k .held) none)
+  where
+    by : (t : Bool) → Even (pick t m (retired m k (thread m k .held)))
+    by true = e
+    by false = even-same m (retired m k (thread m k .held)) (frame.same-retired m k (thread m k .held)) e
+
+even-tail : (m : Machine) (t : Bool) (x : ℕ) → Even m → Even (pick t (putTail m x) m)
+even-tail m true x e = e
+even-tail m false x e = e
+
+-- ---- the steps
+
+module _ (m : Machine) (k : ℕ) (e : Even m) where
+  even-step : (s : Stage) → Even (stepped m k s .machine)
+  even-step noStep = e
+  even-step A1 = even-pick (eqb (m .free) 0) _ _ (even-left m k (thread m k .held) e) e
+  even-step A2 = even-set m (thread m k .node) _ e
+  even-step A3 = even-set m (thread m k .node) _ e
+  even-step A4 = even-set m (thread m k .node) _ e
+  even-step A5 = e
+  even-step A6 = e
+  even-step A7 =
+      even-pick (eqb (node m (thread m k .tail) .index) top) _ _ (even-left (freed m (thread m k .node)) k (thread m k .held) e)
+      (even-set m (thread m k .node) _ e)
+  even-step A8 = even-pick (eqb (node m (thread m k .tail) .next) none) _ _ (even-set m (thread m k .tail) _ e) e
+  even-step A9 = even-set m (thread m k .node) _ e
+  even-step A10 = even-persist m (suc (thread m k .node)) e
+  even-step A11 =
+      even-left (pick (eqb (m .tail) (thread m k .tail)) (putTail m (thread m k .node)) m) k
+      (thread (pick (eqb (m .tail) (thread m k .tail)) (putTail m (thread m k .node)) m) k .held)
+      (even-tail m (eqb (m .tail) (thread m k .tail)) (thread m k .node) e)
+  even-step A12 = even-tail m (eqb (m .tail) (thread m k .tail)) (node m (thread m k .tail) .next) e
+  even-step D1 = e
+  even-step D2 = e
+  even-step D3 = even-left (persist m 0) k (thread m k .held) e
+  even-step D4 = even-pick (both (eqb (m .head) (thread m k .head)) (eqb (m .index) (thread m k .index))) _ _ e e
+  even-step D5 = e
+  even-step D6 = e
+  even-step D7 = even-left (retiredHeld m k) k (thread m k .head) (even-held m k e)
+
+-- ---- starts and events
+
+front-length : {A : Type 0} (f : ℕ → A) (n : ℕ) (l : List A) → length (front f n l) ≡ n + (length l - n)
+unfolding front
+front-length f n l = length-append (tab f n) (drop n l) ∙ ap₂ _+_ (tabs.length-tab f n) (length-drop n l)
+
+blank-length : length blankNodes ≡ 64
+unfolding blankNodes
+blank-length = length-replicate 64 blankNode
+
+contents-length : length noContents ≡ 64
+unfolding noContents
+contents-length = length-replicate 64 noContent
+
+even-with : (g : Image) (t d : ℕ) (q : List ℕ) → Even (startWith g t d q)
+unfolding startWith
+even-with g t d q =
+    front-length _ (g .n) noContents ∙ ap (λ (x : ℕ). g .n + (x - g .n)) (contents-length ∙ sym blank-length) ∙ sym (front-length _ (g .n) blankNodes)
+
+pub even-start : (g : Image) (t : ℕ) → Even (startOf g t)
+even-start g t = even-with g t _ (queueOf g)
+
+pub even-done : (m : Machine) (e : Event) (d : Deed) → Even m → Even (done m e d .machine)
+even-done m e unknown h = h
+even-done m e enqueues h = h
+even-done m e dequeues h = h
+even-done m e steps h = even-step m (e .number) h (stage m (e .number))
+even-done m e writesBack h = even-persist m (e .number) h
+even-done m e crashes h = even-start _ (m .t)

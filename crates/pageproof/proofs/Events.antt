@@ -1,0 +1,230 @@
+-- One event that is taken: what it makes of a bench, of each line's contents, and of a machine that is alike.
+use Prim.Native.Nat.{ℕ, _<_}
+use mathlib.Core.Path.{_≡_, refl, sym, ap, subst, _∙_}
+use mathlib.Core.Bool.{Bool, true, false, not}
+use mathlib.Core.List.{[], _∷_}
+use mathlib.Core.Logic.{_⊎_, inl, inr}
+use native.Mathlib.Omega.{arith}
+use lib.Dec.{eqb, leb, eqb→eq, eqb-refl, leb→le}
+use Rattle.lists.specs.Find.{pick, both}
+use Rattle.answer.specs.Answers.{check, accepted}
+use Rattle.answer.specs.declared.Answer.{Answer}
+use Rattle.answer.specs.declared.Answer.the-variants.{Taken, Number, Busy, Idle, NotZero}
+use Rattle.image.specs.Refusals.{startable}
+use Rattle.machine.specs.Stage.{busy}
+use Rattle.machine.specs.Line.{lineCount, cachedAt, persistedAt, persisted}
+use Rattle.machine.specs.Retire.{out}
+use Rattle.machine.specs.Event.{Deed, unknown, enqueues, dequeues, steps, writesBack, crashes, deedOf, threadTooLarge, lineTooLarge, itemNotZero, eventAnswer, done, eventAt}
+use Rattle.machine.specs.declared.Machine.{Machine}
+use Rattle.machine.specs.declared.Event.{Event}
+use Rattle.machine.specs.declared.Out.{Out}
+use Rattle.schedule.specs.Run.{noLine, aLine, Bench, goesOn, turned}
+use Rattle.page.specs.Contents.{joins, contentsOf}
+use Rattle.lawful.specs.Added.{writeBack}
+use Rattle.endtable.specs.declared.touch.Touch.{Touch}
+use Rattle.endtable.specs.Touches.{touches, touchIn}
+use Rattle.endtable.specs.Frame.{persistsOf, Frame}
+use Rattle.endtable.specs.Moments.{Timed}
+use Rattle.endtable.proofs.Steps as acts
+use Rattle.endtable.proofs.Moments as moments
+use Rattle.pageproof.proofs.Alike.{Alike, alike-done, alike-answer, alike-touches}
+use Rattle.pageproof.proofs.Even.{Even, even-done}
+
+pub no-way : {A : Type 0} → true ≡ false → A
+no-way e = let z : _≡_ {A = ℕ} 0 1 = cc in absurd (omega arith)
+
+abbrev pub Takes : ℕ → Machine → Event → Type 0
+Takes p m e = accepted (eventAt p m e .answer) ≡ true
+
+-- the machine after a taken event
+abbrev pub next : Machine → Event → Machine
+next m e = done m e (deedOf (e .kind)) .machine
+
+abbrev pub Crash : Event → Type 0
+Crash e = deedOf (e .kind) ≡ crashes
+
+-- ---- what is taken is taken at every place, and by every machine that is alike
+
+tests : (p : ℕ) (m : Machine) (e : Event) → Takes p m e → accepted (eventAnswer p m e (deedOf (e .kind))) ≡ true
+unfolding eventAt
+tests p m e h = by (accepted (eventAnswer p m e (deedOf (e .kind)))) refl h
+  where
+    by : (b : Bool) → accepted (eventAnswer p m e (deedOf (e .kind))) ≡ b
+        → accepted (elim b as (λ _. Out) [ true ↦ done m e (deedOf (e .kind)) | false ↦ out (eventAnswer p m e (deedOf (e .kind))) m ] .answer) ≡ true
+        → accepted (eventAnswer p m e (deedOf (e .kind))) ≡ true
+    by true q z = q
+    by false q z = no-way (sym z ∙ q)
+
+passes : (p : ℕ) (m : Machine) (e : Event) → accepted (eventAnswer p m e (deedOf (e .kind))) ≡ true → eventAt p m e ≡ done m e (deedOf (e .kind))
+unfolding eventAt
+passes p m e h = by (accepted (eventAnswer p m e (deedOf (e .kind)))) h
+  where
+    by : (b : Bool) → b ≡ true → _≡_ {A = Out} (elim b as (λ _. Out) [ true ↦ done m e (deedOf (e .kind)) | false ↦ out (eventAnswer p m e (deedOf (e .kind))) m ]) (done m e (deedOf (e .kind)))
+    by true z = refl
+    by false z = no-way (sym z)
+
+-- a check that names another place
+again : (b : Bool) (w w′ r r′ : Answer) → accepted w ≡ false → (accepted r ≡ true → accepted r′ ≡ true) → accepted (check b w r) ≡ true → accepted (check b w′ r′) ≡ true
+again true w w′ r r′ n f h = no-way (sym h ∙ n)
+again false w w′ r r′ n f h = f h
+
+replaced : (p q : ℕ) (m : Machine) (e : Event) (d : Deed) → accepted (eventAnswer p m e d) ≡ true → accepted (eventAnswer q m e d) ≡ true
+replaced p q m e unknown h = no-way (sym h)
+replaced p q m e enqueues h =
+    again (threadTooLarge m e) (Number p) (Number q) (check (busy m (e .number)) (Busy p) Taken) (check (busy m (e .number)) (Busy q) Taken) refl
+    (again (busy m (e .number)) (Busy p) (Busy q) Taken Taken refl (λ z. z)) h
+replaced p q m e dequeues h =
+    again (threadTooLarge m e) (Number p) (Number q) (check (itemNotZero e) (NotZero p) (check (busy m (e .number)) (Busy p) Taken))
+    (check (itemNotZero e) (NotZero q) (check (busy m (e .number)) (Busy q) Taken)) refl
+    (again (itemNotZero e) (NotZero p) (NotZero q) (check (busy m (e .number)) (Busy p) Taken) (check (busy m (e .number)) (Busy q) Taken) refl
+    (again (busy m (e .number)) (Busy p) (Busy q) Taken Taken refl (λ z. z))) h
+replaced p q m e steps h =
+    again (threadTooLarge m e) (Number p) (Number q) (check (itemNotZero e) (NotZero p) (check (not (busy m (e .number))) (Idle p) Taken))
+    (check (itemNotZero e) (NotZero q) (check (not (busy m (e .number))) (Idle q) Taken)) refl
+    (again (itemNotZero e) (NotZero p) (NotZero q) (check (not (busy m (e .number))) (Idle p) Taken) (check (not (busy m (e .number))) (Idle q) Taken) refl
+    (again (not (busy m (e .number))) (Idle p) (Idle q) Taken Taken refl (λ z. z))) h
+replaced p q m e writesBack h =
+    again (lineTooLarge m e) (Number p) (Number q) (check (itemNotZero e) (NotZero p) Taken) (check (itemNotZero e) (NotZero q) Taken) refl
+    (again (itemNotZero e) (NotZero p) (NotZero q) Taken Taken refl (λ z. z)) h
+replaced p q m e crashes h =
+    again (pick (eqb (e .number) 0) (itemNotZero e) true) (NotZero p) (NotZero q) (startable (persisted m) Taken) (startable (persisted m) Taken) refl (λ z. z) h
+
+pub taken-is : (p : ℕ) (m : Machine) (e : Event) → Takes p m e → eventAt p m e ≡ done m e (deedOf (e .kind))
+taken-is p m e h = passes p m e (tests p m e h)
+
+module _ (p q : ℕ) (m m′ : Machine) (a : Alike m m′) (e : Event) (ne : Crash e → ⊥) (h : Takes p m e) where
+  -- the other machine takes it and answers the same
+  alike-is : eventAt q m′ e ≡ done m′ e (deedOf (e .kind))
+  alike-is = passes q m′ e (ap accepted (alike-answer q m m′ a e (deedOf (e .kind)) ne) ∙ replaced p q m e (deedOf (e .kind)) (tests p m e h))
+
+  pub alike-reply : eventAt q m′ e .answer ≡ eventAt p m e .answer
+  alike-reply =
+      ap (λ (o : Out). o .answer) alike-is ∙ alike-done m m′ a e (deedOf (e .kind)) ne .answer
+      ∙ ap (λ (o : Out). o .answer) (sym (taken-is p m e h))
+
+  pub alike-takes : Takes q m′ e
+  alike-takes = ap accepted alike-reply ∙ h
+
+pub alike-next : (m m′ : Machine) → Alike m m′ → (e : Event) → (Crash e → ⊥) → Alike (next m e) (next m′ e)
+alike-next m m′ a e ne = alike-done m m′ a e (deedOf (e .kind)) ne .machine
+
+-- a write-back of a line that there is
+
+pub no-crash : (i : ℕ) → Crash (writeBack i) → ⊥
+no-crash i c = let z : _≡_ {A = ℕ} 0 1 = cc in omega arith
+
+beyond : (n i : ℕ) → i < n → leb n i ≡ false
+beyond n i h = by (leb n i) refl
+  where
+    by : (b : Bool) → leb n i ≡ b → b ≡ false
+    by true e = absurd (omega (arith, leb→le n i (rw e tt)))
+    by false e = refl
+
+pub back-taken : (q : ℕ) (m : Machine) (i : ℕ) → i < lineCount (m .n) → Takes q m (writeBack i)
+back-taken q m i h = ap (λ (o : Out). accepted (o .answer)) (passes q m (writeBack i) (fits (lineTooLarge m (writeBack i)) (beyond (lineCount (m .n)) i h)))
+  where
+    fits : (b : Bool) → b ≡ false → accepted (check b (Number q) (check (itemNotZero (writeBack i)) (NotZero q) Taken)) ≡ true
+    fits true e = no-way e
+    fits false e = refl
+
+-- ---- which line an event persists
+
+abbrev pub hits : Machine → Event → ℕ → Bool
+hits m e l = both (touches m e (deedOf (e .kind)) .persisted) (eqb l (touches m e (deedOf (e .kind)) .line))
+
+hit-is : (w : Touch) (l : ℕ) → both (w .persisted) (eqb l (w .line)) ≡ true → (w .persisted ≡ true) × (l ≡ w .line)
+hit-is w l = by (w .persisted) refl
+  where
+    by : (b : Bool) → w .persisted ≡ b → both b (eqb l (w .line)) ≡ true → (b ≡ true) × (l ≡ w .line)
+    by true e z = (refl, eqb→eq l (w .line) (rw z tt))
+    by false e z = no-way (sym z)
+
+miss-is : (w : Touch) (l : ℕ) → both (w .persisted) (eqb l (w .line)) ≡ false → (w .persisted ≡ false) ⊎ (l ≡ w .line → ⊥)
+miss-is w l = by (w .persisted) refl
+  where
+    by : (b : Bool) → w .persisted ≡ b → both b (eqb l (w .line)) ≡ false → (b ≡ false) ⊎ (l ≡ w .line → ⊥)
+    by true e z = inr (λ q. no-way (sym (true-of (eqb l (w .line)) (rw q (eqb-refl (w .line)))) ∙ z))
+      where
+        true-of : (x : Bool) → (elim x as (λ _. Type 0) [ true ↦ Unit {0} | false ↦ ⊥ ]) → x ≡ true
+        true-of true t = refl
+        true-of false t = absurd t
+    by false e z = inl refl
+
+pub alike-hits : (m m′ : Machine) → Alike m m′ → (e : Event) (l : ℕ) → hits m′ e l ≡ hits m e l
+alike-hits m m′ a e l = ap (λ (w : Touch). both (w .persisted) (eqb l (w .line))) (alike-touches m m′ a e (deedOf (e .kind)))
+
+module _ (m : Machine) (ev : Even m) (e : Event) (ne : Crash e → ⊥) (l : ℕ) where
+  fr : Frame m (next m e) (touches m e (deedOf (e .kind)))
+  fr = acts.frame-done m e (deedOf (e .kind)) ev ne
+
+  pub hit-persisted : hits m e l ≡ true → persistedAt (next m e) l ≡ cachedAt (next m e) l
+  hit-persisted h =
+      let w = touches m e (deedOf (e .kind)) in
+      let r = hit-is w l h in
+      subst (λ (x : ℕ). persistedAt (next m e) x ≡ cachedAt (next m e) x) (sym (r .1)) (fr .present (r .0))
+
+  pub miss-persisted : hits m e l ≡ false → persistedAt (next m e) l ≡ persistedAt m l
+  miss-persisted h = fr .kept l (miss-is (touches m e (deedOf (e .kind))) l h)
+
+  pub persisted-next : persistedAt (next m e) l ≡ pick (hits m e l) (cachedAt (next m e) l) (persistedAt m l)
+  persisted-next = by (hits m e l) refl
+    where
+      by : (b : Bool) → hits m e l ≡ b → persistedAt (next m e) l ≡ pick b (cachedAt (next m e) l) (persistedAt m l)
+      by true h = hit-persisted h
+      by false h = miss-persisted h
+
+-- ---- a bench that goes on
+
+pub record Good (b : Bench) : Type 0 where
+  pub timed : Timed b
+  pub even : Even (b .machine)
+
+-- the bench after a taken event
+abbrev pub onto : Bench → Event → Bench
+onto b e = turned b (next (b .machine) e) e (deedOf (e .kind))
+
+module _ (p : ℕ) (b : Bench) (g : Good b) (e : Event) (ne : Crash e → ⊥) (h : Takes p (b .machine) e) where
+  goes : onto b e ≡ goesOn b (next (b .machine) e) (persistsOf (touches (b .machine) e (deedOf (e .kind))))
+  unfolding touchIn
+  goes = acts.turned-on p b (next (b .machine) e) e h ne
+
+  pub onto-machine : onto b e .machine ≡ next (b .machine) e
+  onto-machine = ap (λ (x : Bench). x .machine) goes
+
+  size : next (b .machine) e .n ≡ b .machine .n
+  size = acts.frame-done (b .machine) e (deedOf (e .kind)) (g .even) ne .size
+
+  pub onto-size : onto b e .machine .n ≡ b .machine .n
+  onto-size = ap (λ (x : Machine). x .n) onto-machine ∙ size
+
+  pub onto-good : Good (onto b e)
+  onto-good = record {
+    timed = rw goes (moments.timed-goes b (next (b .machine) e) (persistsOf (touches (b .machine) e (deedOf (e .kind)))) (g .timed) size);
+    even = rw onto-machine (even-done (b .machine) e (deedOf (e .kind)) (g .even));
+  }
+
+  pub hit-contents : (l : ℕ) → l < lineCount (b .machine .n) → hits (b .machine) e l ≡ true → contentsOf (onto b e) l ≡ cachedAt (next (b .machine) e) l ∷ []
+  hit-contents l in-range t =
+      let w = touches (b .machine) e (deedOf (e .kind)) in
+      let r = hit-is w l t in
+      rw (goes, r .0, sym (r .1))
+      (moments.contents-persisted b (next (b .machine) e) l (omega (arith, g .timed .lines)) (hit-persisted (b .machine) (g .even) e ne l t))
+
+  pub miss-contents : (l : ℕ) → hits (b .machine) e l ≡ false → contentsOf (onto b e) l ≡ joins (contentsOf b l) (cachedAt (next (b .machine) e) l)
+  miss-contents l t =
+      rw goes
+      (moments.contents-joined b (g .timed) (next (b .machine) e) (persistsOf w) l (other (w .persisted) refl (miss-is w l t))
+      (miss-persisted (b .machine) (g .even) e ne l t))
+    where
+      w : Touch
+      w = touches (b .machine) e (deedOf (e .kind))
+
+      other : (x : Bool) → w .persisted ≡ x → (w .persisted ≡ false) ⊎ (l ≡ w .line → ⊥) → pick x (aLine (w .line)) noLine ≡ aLine l → ⊥
+      other true q (inl z) f = no-way (sym q ∙ z)
+      other true q (inr n) f = let v : w .line ≡ l = cc in n (sym v)
+      other false q z f = let v : _≡_ {A = ℕ} 0 1 = cc in omega arith
+
+-- a crash begins anew
+pub crash-good : (b : Bench) → Good b → (e : Event) → Crash e → Good (onto b e)
+crash-good b g e c =
+    rw c (record { timed = moments.timed-begins (done (b .machine) e crashes .machine); even = even-done (b .machine) e crashes (g .even) })

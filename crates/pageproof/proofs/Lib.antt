@@ -1,0 +1,10 @@
+pub mod Alike
+pub mod Even
+pub mod Among
+pub mod Events
+pub mod Runs
+pub mod Fewer
+pub mod Left
+pub mod Sow
+pub mod Page
+pub mod Holds

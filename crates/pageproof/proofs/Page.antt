@@ -1,0 +1,196 @@
+-- The page of a run from a start: its endings are what added write-backs leave.
+use Prim.Native.Nat.{ℕ, suc, _+_, _<_}
+use mathlib.Core.Path.{_≡_, refl, sym, ap, subst, _∙_}
+use mathlib.Core.List.{List, [], _++_}
+use native.Mathlib.Omega.{arith}
+use native.Mathlib.Decide.{decLt}
+use lib.ListN.{length, getD, drop}
+use Rattle.lists.specs.Tab.{front}
+use Rattle.lists.proofs.TabLaws as tabs
+use Rattle.answer.specs.Answers.{accepted}
+use Rattle.image.specs.Layout.{contentAt, noContents}
+use Rattle.image.specs.declared.Content.{Content}
+use Rattle.image.specs.declared.Image.{Image}
+use Rattle.machine.specs.Line.{lineCount, persistedAt}
+use Rattle.machine.specs.declared.Machine.{Machine}
+use Rattle.machine.specs.declared.Event.{Event}
+use Rattle.schedule.specs.Run.{Bench, Ran, run, begins}
+use Rattle.page.specs.Contents.{contentsOf, tableOf}
+use Rattle.page.specs.Endings.{choices, product, imageOf, ending}
+use Rattle.lawful.specs.Added.{AddsLate}
+use Rattle.lawful.specs.Demand3.{imageLeft}
+use Rattle.endtable.proofs.Moments as moments
+use Rattle.pageproof.proofs.Alike.{alike-self}
+use Rattle.pageproof.proofs.Even.{Even}
+use Rattle.pageproof.proofs.Among.{Among, choice-in, choice-of}
+use Rattle.pageproof.proofs.Events.{Good}
+use Rattle.pageproof.proofs.Runs.{Accepts, Last, last-of, good-run, run-size, run-front, run-append, begins-at, andAfter}
+use Rattle.pageproof.proofs.Fewer.{Inside, kept-inside, fewer}
+use Rattle.pageproof.proofs.Left.{leftAt, chosen}
+use Rattle.pageproof.proofs.Sow.{sow, Sown, sown}
+
+-- the persisted copies as an image, where line j's is the content c has there
+image-is : (m : Machine) (n : ℕ) (c : List Content) → m .n ≡ n → ((j : ℕ) → j < lineCount n → persistedAt m j ≡ contentAt c j) → imageLeft m ≡ imageOf n c
+unfolding imageOf front
+image-is m n c size h =
+    rw (size, ap (λ (x : Content). x .index) (h 0 (omega arith)))
+    (ap (λ (x : List Content). record { n = n; head = contentAt c 0 .index; nodes = x ++ drop n noContents })
+    (tabs.tab-same (contentAt (m .kept)) (λ i. contentAt c (suc i)) n (λ i k. h (suc i) (omega arith))))
+
+good-begins : (m : Machine) → Even m → Good (begins m)
+good-begins m e = record { timed = moments.timed-begins m; even = e }
+
+module _ (n : ℕ) (m : Machine) (ev : Even m) (size : m .n ≡ n) (l : List Event) (h : Accepts 0 (begins m) l) where
+  -- the image is left by added write-backs
+  pub record Left (g : Image) : Type 0 where
+    pub events : List Event
+    pub taken : Accepts 0 (begins m) events
+    pub added : AddsLate n l (run 0 (begins m) l .replies) events (run 0 (begins m) events .replies)
+    pub left : imageLeft (run 0 (begins m) events .bench .machine) ≡ g
+
+  abbrev final : Bench
+  final = run 0 (begins m) l .bench
+
+  good : Good final
+  good = good-run l 0 (begins m) (good-begins m ev) h
+
+  final-size : final .machine .n ≡ n
+  final-size = run-size l 0 (begins m) (good-begins m ev) h ∙ size
+
+  -- ---- every ending is left
+
+  module _ (k : ℕ) (lt : k < product (tableOf final)) where
+    abbrev wanted : ℕ → Content
+    wanted j = contentAt (getD (choices (tableOf final)) k []) j
+
+    among : (j : ℕ) → j < lineCount n → Among (wanted j) (contentsOf final j)
+    among j r =
+        let r′ : j < lineCount (final .machine .n) = omega (arith, final-size) in
+        subst (λ (x : List Content). Among (wanted j) x) (moments.table-at final j r′)
+        (choice-in (tableOf final) k lt j (omega (arith, moments.table-length final)))
+
+    from : (s : Last l) (m₀ : Machine) → run 0 (begins m) (s .before) .bench ≡ begins m₀ → Left (imageOf n (getD (choices (tableOf final)) k []))
+    from s m₀ is = record {
+      events = s .before ++ since′;
+      taken = ap (λ (r : Ran). accepted (r .answer)) (split since′) ∙ o .taken;
+      added = record {
+        before = s .before;
+        told = run 0 (begins m) (s .before) .replies;
+        since = s .since;
+        since′ = since′;
+        heard = run (0 + length (s .before)) (begins m₀) (s .since) .replies;
+        heard′ = run (0 + length (s .before)) (begins m₀) since′ .replies;
+        start = s .start;
+        free = s .free;
+        adds = o .added;
+        is = s .is;
+        is′ = refl;
+        answers = ap (λ (x : List Event). run 0 (begins m) x .replies) (s .is) ∙ ap (λ (r : Ran). r .replies) (split (s .since));
+        answers′ = ap (λ (r : Ran). r .replies) (split since′);
+      };
+      left = image-is (run 0 (begins m) (s .before ++ since′) .bench .machine) n (getD (choices (tableOf final)) k [])
+          (run-size (s .before ++ since′) 0 (begins m) (good-begins m ev) (ap (λ (r : Ran). accepted (r .answer)) (split since′) ∙ o .taken) ∙ size)
+          (λ j r. ap (λ (r : Ran). persistedAt (r .bench .machine) j) (split since′) ∙ o .left j r ∙ due j .1 r);
+    }
+      where
+        h₁ : Accepts 0 (begins m) (s .before ++ s .since)
+        h₁ = subst (Accepts 0 (begins m)) (s .is) h
+
+        front-taken : Accepts 0 (begins m) (s .before)
+        front-taken = run-front (s .before) (s .since) 0 (begins m) h₁
+
+        split : (x : List Event) → run 0 (begins m) (s .before ++ x) ≡ andAfter (run 0 (begins m) (s .before)) (run (0 + length (s .before)) (begins m₀) x)
+        split x =
+            run-append (s .before) x 0 (begins m) front-taken
+            ∙ ap (λ (b : Bench). andAfter (run 0 (begins m) (s .before)) (run (0 + length (s .before)) b x)) is
+
+        good₀ : Good (begins m₀)
+        good₀ = subst Good is (good-run (s .before) 0 (begins m) (good-begins m ev) front-taken)
+
+        size₀ : m₀ .n ≡ n
+        size₀ = ap (λ (b : Bench). b .machine .n) (sym is) ∙ run-size (s .before) 0 (begins m) (good-begins m ev) front-taken ∙ size
+
+        rest-taken : Accepts (0 + length (s .before)) (begins m₀) (s .since)
+        rest-taken = ap (λ (r : Ran). accepted (r .answer)) (sym (split (s .since))) ∙ h₁
+
+        there : final ≡ run (0 + length (s .before)) (begins m₀) (s .since) .bench
+        there = ap (λ (x : List Event). run 0 (begins m) x .bench) (s .is) ∙ ap (λ (r : Ran). r .bench) (split (s .since))
+
+        due : (j : ℕ) → (r : ℕ) × (j < lineCount n → leftAt j r m₀ (s .since) (persistedAt m₀ j) ≡ wanted j)
+        due j = by (decLt j (lineCount n))
+          where
+            by : Dec (j < lineCount n) → (r : ℕ) × (j < lineCount n → leftAt j r m₀ (s .since) (persistedAt m₀ j) ≡ wanted j)
+            by (yes r) =
+                let c = chosen j (wanted j) (s .since) (0 + length (s .before)) m₀ good₀ (s .free) rest-taken (omega (arith, size₀))
+                (subst (λ (b : Bench). Among (wanted j) (contentsOf b j)) there (among j r)) in
+                (c .0, λ z. c .1)
+            by (no r) = (0, λ z. absurd (r z))
+
+        since′ : List Event
+        since′ = sow (λ j. due j .0) (lineCount n) (s .since)
+
+        o : Sown n (s .since) (run (0 + length (s .before)) (begins m₀) (s .since) .replies) since′ (0 + length (s .before)) (begins m₀)
+            (λ j c. leftAt j (due j .0) m₀ (s .since) c)
+        o = sown n (λ j. due j .0) (s .since) (0 + length (s .before)) (begins m₀) good₀ (s .free) size₀ rest-taken (0 + length (s .before)) (begins m₀) good₀ (alike-self m₀)
+
+    pub leaves : Left (ending (final .machine .n) (tableOf final) k)
+    unfolding ending
+    leaves =
+        let s = last-of l in
+        let b = begins-at (s .before) 0 m (s .start) (run-front (s .before) (s .since) 0 (begins m) (subst (Accepts 0 (begins m)) (s .is) h)) in
+        rw final-size (from s (b .0) (b .1))
+
+  -- ---- and what is left is an ending
+
+  pub only : (g : Image) → Left g → (k : ℕ) × (k < product (tableOf final)) × (ending (final .machine .n) (tableOf final) k ≡ g)
+  unfolding ending
+  only g o = (
+    k .0,
+    k .1,
+    sym (image-is (run 0 (begins m) (o .events) .bench .machine) (final .machine .n) (getD (choices (tableOf final)) (k .0) []) size′
+        (λ j r. sym (k .2 j (omega (arith, moments.table-length final))))) ∙ o .left,
+  )
+    where
+      h₁ : Accepts 0 (begins m) (o .added .before ++ o .added .since)
+      h₁ = subst (Accepts 0 (begins m)) (o .added .is) h
+
+      h₁′ : Accepts 0 (begins m) (o .added .before ++ o .added .since′)
+      h₁′ = subst (Accepts 0 (begins m)) (o .added .is′) (o .taken)
+
+      front-taken : Accepts 0 (begins m) (o .added .before)
+      front-taken = run-front (o .added .before) (o .added .since) 0 (begins m) h₁
+
+      split : (x : List Event) → run 0 (begins m) (o .added .before ++ x)
+          ≡ andAfter (run 0 (begins m) (o .added .before)) (run (0 + length (o .added .before)) (run 0 (begins m) (o .added .before) .bench) x)
+      split x = run-append (o .added .before) x 0 (begins m) front-taken
+
+      good₁ : Good (run 0 (begins m) (o .added .before) .bench)
+      good₁ = good-run (o .added .before) 0 (begins m) (good-begins m ev) front-taken
+
+      inside : Inside (run (0 + length (o .added .before)) (run 0 (begins m) (o .added .before) .bench) (o .added .since) .bench)
+          (run (0 + length (o .added .before)) (run 0 (begins m) (o .added .before) .bench) (o .added .since′) .bench .machine)
+      inside =
+          let b = run 0 (begins m) (o .added .before) .bench in
+          let p = 0 + length (o .added .before) in
+          fewer n (o .added .adds) p p b b (o .added .free) good₁ good₁ (alike-self (b .machine))
+          (ap (λ (r : Ran). accepted (r .answer)) (sym (split (o .added .since))) ∙ h₁)
+          (ap (λ (r : Ran). accepted (r .answer)) (sym (split (o .added .since′))) ∙ h₁′) (kept-inside b)
+
+      there : run (0 + length (o .added .before)) (run 0 (begins m) (o .added .before) .bench) (o .added .since) .bench ≡ run 0 (begins m) l .bench
+      there = ap (λ (r : Ran). r .bench) (sym (split (o .added .since))) ∙ ap (λ (x : List Event). run 0 (begins m) x .bench) (sym (o .added .is))
+
+      there′ : run (0 + length (o .added .before)) (run 0 (begins m) (o .added .before) .bench) (o .added .since′) .bench ≡ run 0 (begins m) (o .events) .bench
+      there′ = ap (λ (r : Ran). r .bench) (sym (split (o .added .since′))) ∙ ap (λ (x : List Event). run 0 (begins m) x .bench) (sym (o .added .is′))
+
+      among : Inside (run 0 (begins m) l .bench) (run 0 (begins m) (o .events) .bench .machine)
+      among = subst (λ (b : Bench). Inside (run 0 (begins m) l .bench) (b .machine)) there′ (subst (λ (b : Bench). Inside b
+          (run (0 + length (o .added .before)) (run 0 (begins m) (o .added .before) .bench) (o .added .since′) .bench .machine)) there inside)
+
+      size′ : run 0 (begins m) (o .events) .bench .machine .n ≡ run 0 (begins m) l .bench .machine .n
+      size′ = run-size (o .events) 0 (begins m) (good-begins m ev) (o .taken) ∙ sym (run-size l 0 (begins m) (good-begins m ev) h)
+
+      k : (k : ℕ) × (k < product (tableOf final)) × ((j : ℕ) → j < length (tableOf final)
+          → contentAt (getD (choices (tableOf final)) k []) j ≡ persistedAt (run 0 (begins m) (o .events) .bench .machine) j)
+      k = choice-of (tableOf final) (persistedAt (run 0 (begins m) (o .events) .bench .machine)) (λ j r.
+          let r′ : j < lineCount (final .machine .n) = omega (arith, moments.table-length final) in
+          rw (moments.table-at final j r′) (among j r′))

@@ -1,0 +1,65 @@
+-- Laws of lists filled from the front and of bytes written in a row. Assumes nothing.
+use Prim.Native.Nat.{ℕ, _+_, _*_, _<_}
+use mathlib.Core.Path.{_≡_, refl, sym, ap, _∙_}
+use mathlib.Core.List.{List, [], _∷_, _++_, append-assoc}
+use native.Mathlib.Omega.{arith}
+use native.Mathlib.Numerals.{add-one}
+use lib.ListN.{length, getD, set, take, length-take, length-append}
+use lib.Seq.{take-suc}
+use Rattle.lists.specs.Tab.{tab, joined, over, front}
+use Rattle.lists.proofs.TabLaws as laws
+use Rattle.machine.specs.declared.Machine.{Machine}
+use Rattle.record.specs.Layout.{headBytes, nodePart, threadPart, recordBytes}
+
+module _ {A : Type 0} where
+  pub front-none : (f : ℕ → A) (l : List A) → l ≡ front f 0 l
+  unfolding front tab
+  front-none f l = refl
+
+  pub front-next : (f : ℕ → A) (i : ℕ) (l : List A) → i < length l → set (front f i l) i (f i) ≡ front f (i + 1) l
+  unfolding front
+  front-next f i l h = laws.tab-set f i l h
+
+  pub over-none : (l : List A) (i : ℕ) → l ≡ over l i []
+  unfolding over
+  over-none l i = refl
+
+  -- one element more of what is copied
+  pub over-next : (l a : List A) (i j : ℕ) (d : A) → j < length a → set (over l i (take j a)) (i + j) (getD a j d) ≡ over l i (take (j + 1) a)
+  unfolding over
+  over-next l a i j d h =
+      let e : length (take j a) ≡ j = simp length-take (omega arith) in
+      let t : take j a ++ (getD a j d ∷ []) ≡ take (j + 1) a = rw add-one (sym (take-suc a j d h)) in
+      ap (λ (k : ℕ). set (over l i (take j a)) (i + k) (getD a j d)) (sym e)
+      ∙ laws.over-append l i (take j a) (getD a j d ∷ [])
+      ∙ ap (over l i) t
+
+  -- one part more of parts of equal length, written in a row from place p on
+  pub row-next : (l : List A) (p c i : ℕ) (f : ℕ → List A) → ((j : ℕ) → length (f j) ≡ c) → over (over l p (joined f i)) (p + i * c) (f i) ≡ over l p (joined f (i + 1))
+  unfolding joined
+  row-next l p c i f h =
+      ap (λ (k : ℕ). over (over l p (joined f i)) (p + k) (f i)) (sym (laws.length-joined f c i h))
+      ∙ laws.over-append l p (joined f i) (f i)
+      ∙ ap (over l p) (rw add-one)
+
+-- ---- the record's parts
+
+pub node-length : (m : Machine) (i : ℕ) → length (nodePart m i) ≡ 20
+unfolding nodePart
+node-length m i = refl
+
+pub thread-length : (m : Machine) (k : ℕ) → length (threadPart m k) ≡ 14
+unfolding threadPart
+thread-length m k = refl
+
+pub record-over : (m : Machine) (b : List ℕ)
+    → over (over (over b 0 (headBytes m)) 20 (joined (nodePart m) 64)) 1300 (joined (threadPart m) 8) ≡ over b 0 (recordBytes m)
+unfolding recordBytes
+record-over m b =
+    let n = joined (nodePart m) 64 in
+    let t = joined (threadPart m) 8 in
+    let e : 0 + length (headBytes m ++ n) ≡ 1300 = omega (arith, length-append (headBytes m) n, laws.length-joined (nodePart m) 20 64 (node-length m)) in
+    ap (λ (l : List ℕ). over l 1300 t) (laws.over-append b 0 (headBytes m) n)
+    ∙ ap (λ (k : ℕ). over (over b 0 (headBytes m ++ n)) k t) (sym e)
+    ∙ laws.over-append b 0 (headBytes m ++ n) t
+    ∙ ap (over b 0) (append-assoc (headBytes m) n t)

@@ -1,0 +1,45 @@
+// The byte form of a machine record, for comparisons with other programs.
+mod reading;
+mod writing;
+
+ghost use mathlib.Core.Path.{_≡_};
+ghost use lib.ListN.{length};
+ghost use Rattle.answer.specs.Answers.{told};
+ghost use Rattle.record.specs.Layout.{readRecord, recordAnswer, recordWritten};
+use answer::Answer;
+use machine::Machine;
+use machine::Out;
+use machine::blank::blank_machine;
+use reading::record_in;
+use writing::put_record;
+
+// The record that 1,412 bytes are; it is not tested.
+pub fn read_record(s: &[u8]) -> Out
+    ensures answers { λ r. ⌜ told (r .answer) ≡ told (readRecord (now (s .entry)) .answer) ⌝ }
+    ensures machine { λ r. ⌜ r .machine ≡ readRecord (now (s .entry)) .machine ⌝ }
+{
+    if s.len() != 1412 {
+        let machine = blank_machine();
+        return Out {
+            answer: Answer::Length,
+            machine,
+        };
+    }
+    let machine = record_in(s);
+    Out {
+        answer: Answer::Taken,
+        machine,
+    }
+}
+
+// Writes the record into the first 1,412 bytes of the buffer, or nothing.
+pub fn write_record(m: Machine, b: &mut [u8]) -> Answer
+    ensures answers { λ r. ⌜ told r ≡ told (recordAnswer (length (now (b .entry)))) ⌝ }
+    ensures bytes { λ r. ⌜ now (b .exit) ≡ recordWritten m (now (b .entry)) ⌝ }
+{
+    if b.len() < 1412 {
+        return Answer::Room;
+    }
+    put_record(b, m);
+    Answer::Taken
+}

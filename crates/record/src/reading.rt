@@ -1,0 +1,156 @@
+// A record read from bytes that are long enough.
+ghost use mathlib.Core.Path.{_≡_};
+ghost use Prim.Native.Nat.{_+_, _*_, _≤_};
+ghost use lib.ListN.{length};
+ghost use Rattle.lists.specs.Tab.{front};
+ghost use Rattle.image.specs.Bytes.{num4, at4};
+ghost use Rattle.image.specs.Layout.{noContents};
+ghost use Rattle.machine.specs.Record.{blankNodes, idleThreads};
+ghost use Rattle.record.specs.Layout.{at8, readNode, readKept, readThread, nodeIn, keptIn, threadIn, recordIn};
+use image::Content;
+use image::no_contents;
+use machine::Machine;
+use machine::Node;
+use machine::Thread;
+use machine::blank::blank_nodes;
+use machine::blank::idle_threads;
+
+fn num(a: u8, b: u8, c: u8, d: u8) -> u32
+    ensures { λ r. ⌜ r ≡ num4 a b c d ⌝ }
+{
+    (a as u32) + (b as u32) * 256 + (c as u32) * 65536 + (d as u32) * 16777216
+}
+
+fn word_at(s: &[u8], at: usize) -> u32
+    requires { ⌜ at + 4 ≤ length (now s) ⌝ }
+    ensures { λ r. ⌜ r ≡ at4 (now (s .entry)) at ⌝ }
+{
+    num(s[at], s[at + 1], s[at + 2], s[at + 3])
+}
+
+fn joined_words(a: u32, b: u32) -> u64
+    ensures { λ r. ⌜ r ≡ a + b * 4294967296 ⌝ }
+{
+    (a as u64) + (b as u64) * 4294967296
+}
+
+fn long_at(s: &[u8], at: usize) -> u64
+    requires { ⌜ at + 8 ≤ length (now s) ⌝ }
+    ensures { λ r. ⌜ r ≡ at8 (now (s .entry)) at ⌝ }
+{
+    let low = word_at(s, at);
+    let high = word_at(s, at + 4);
+    joined_words(low, high)
+}
+
+fn node_at(s: &[u8], at: usize) -> Node
+    requires { ⌜ at + 20 ≤ length (now s) ⌝ }
+    ensures { λ r. ⌜ r ≡ readNode (now (s .entry)) at ⌝ }
+{
+    let item = word_at(s, at);
+    let index = word_at(s, at + 6);
+    Node {
+        item,
+        next: s[at + 4],
+        linked: s[at + 5],
+        index,
+        waits: s[at + 10],
+    }
+}
+
+fn kept_at(s: &[u8], at: usize) -> Content
+    requires { ⌜ at + 20 ≤ length (now s) ⌝ }
+    ensures { λ r. ⌜ r ≡ readKept (now (s .entry)) at ⌝ }
+{
+    let index = word_at(s, at + 12);
+    let item = word_at(s, at + 16);
+    Content {
+        linked: s[at + 11],
+        index,
+        item,
+    }
+}
+
+fn thread_at(s: &[u8], at: usize) -> Thread
+    requires { ⌜ at + 14 ≤ length (now s) ⌝ }
+    ensures { λ r. ⌜ r ≡ readThread (now (s .entry)) at ⌝ }
+{
+    let index = word_at(s, at + 4);
+    let item = word_at(s, at + 9);
+    Thread {
+        step: s[at],
+        node: s[at + 1],
+        tail: s[at + 2],
+        head: s[at + 3],
+        index,
+        next: s[at + 8],
+        item,
+        held: s[at + 13],
+    }
+}
+
+fn nodes_in(s: &[u8]) -> [Node; 64]
+    requires { ⌜ 1412 ≤ length (now s) ⌝ }
+    ensures { λ r. ⌜ r ≡ front (nodeIn (now (s .entry))) 64 blankNodes ⌝ }
+{
+    let mut l = blank_nodes();
+    let mut i = 0;
+    while i < 64 {
+        let v = node_at(s, 20 + i * 20);
+        l[i] = v;
+        i += 1;
+    }
+    l
+}
+
+fn kept_in(s: &[u8]) -> [Content; 64]
+    requires { ⌜ 1412 ≤ length (now s) ⌝ }
+    ensures { λ r. ⌜ r ≡ front (keptIn (now (s .entry))) 64 noContents ⌝ }
+{
+    let mut l = no_contents();
+    let mut i = 0;
+    while i < 64 {
+        let v = kept_at(s, 20 + i * 20);
+        l[i] = v;
+        i += 1;
+    }
+    l
+}
+
+fn threads_in(s: &[u8]) -> [Thread; 8]
+    requires { ⌜ 1412 ≤ length (now s) ⌝ }
+    ensures { λ r. ⌜ r ≡ front (threadIn (now (s .entry))) 8 idleThreads ⌝ }
+{
+    let mut l = idle_threads();
+    let mut i = 0;
+    while i < 8 {
+        let v = thread_at(s, 1300 + i * 14);
+        l[i] = v;
+        i += 1;
+    }
+    l
+}
+
+pub fn record_in(s: &[u8]) -> Machine
+    requires { ⌜ 1412 ≤ length (now s) ⌝ }
+    ensures { λ r. ⌜ r ≡ recordIn (now (s .entry)) ⌝ }
+{
+    let index = word_at(s, 3);
+    let free = long_at(s, 8);
+    let kept_head = word_at(s, 16);
+    let nodes = nodes_in(s);
+    let kept = kept_in(s);
+    let threads = threads_in(s);
+    Machine {
+        n: s[0],
+        t: s[1],
+        head: s[2],
+        index,
+        tail: s[7],
+        free,
+        nodes,
+        kept_head,
+        kept,
+        threads,
+    }
+}

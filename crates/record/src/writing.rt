@@ -1,0 +1,131 @@
+// A record written into a buffer that is long enough.
+ghost use mathlib.Core.Path.{_≡_};
+ghost use Prim.Native.Nat.{_+_, _≤_};
+ghost use lib.ListN.{length};
+ghost use Rattle.lists.specs.Tab.{over, joined};
+ghost use Rattle.record.specs.Layout.{headBytes, nodeBytes, threadBytes, nodePart, threadPart, recordBytes};
+use image::Content;
+use machine::Machine;
+use machine::Node;
+use machine::Thread;
+
+// The bytes a over those of b from a place on.
+fn copy(b: &mut [u8], at: usize, a: &[u8])
+    requires { ⌜ at + length (now a) ≤ length (now b) ⌝ }
+    ensures { λ _. ⌜ now (b .exit) ≡ over (now (b .entry)) at (now (a .entry)) ⌝ }
+{
+    let mut i = 0;
+    while i < a.len() {
+        b[at + i] = a[i];
+        i += 1;
+    }
+}
+
+fn node_bytes(v: Node, p: Content) -> [u8; 20]
+    ensures { λ r. ⌜ r ≡ nodeBytes v p ⌝ }
+{
+    [
+        (v.item % 256) as u8,
+        (v.item / 256 % 256) as u8,
+        (v.item / 65536 % 256) as u8,
+        (v.item / 16777216 % 256) as u8,
+        v.next,
+        v.linked,
+        (v.index % 256) as u8,
+        (v.index / 256 % 256) as u8,
+        (v.index / 65536 % 256) as u8,
+        (v.index / 16777216 % 256) as u8,
+        v.waits,
+        p.linked,
+        (p.index % 256) as u8,
+        (p.index / 256 % 256) as u8,
+        (p.index / 65536 % 256) as u8,
+        (p.index / 16777216 % 256) as u8,
+        (p.item % 256) as u8,
+        (p.item / 256 % 256) as u8,
+        (p.item / 65536 % 256) as u8,
+        (p.item / 16777216 % 256) as u8,
+    ]
+}
+
+fn thread_bytes(v: Thread) -> [u8; 14]
+    ensures { λ r. ⌜ r ≡ threadBytes v ⌝ }
+{
+    [
+        v.step,
+        v.node,
+        v.tail,
+        v.head,
+        (v.index % 256) as u8,
+        (v.index / 256 % 256) as u8,
+        (v.index / 65536 % 256) as u8,
+        (v.index / 16777216 % 256) as u8,
+        v.next,
+        (v.item % 256) as u8,
+        (v.item / 256 % 256) as u8,
+        (v.item / 65536 % 256) as u8,
+        (v.item / 16777216 % 256) as u8,
+        v.held,
+    ]
+}
+
+fn head_bytes(m: Machine) -> [u8; 20]
+    ensures { λ r. ⌜ r ≡ headBytes m ⌝ }
+{
+    [
+        m.n,
+        m.t,
+        m.head,
+        (m.index % 256) as u8,
+        (m.index / 256 % 256) as u8,
+        (m.index / 65536 % 256) as u8,
+        (m.index / 16777216 % 256) as u8,
+        m.tail,
+        (m.free % 256) as u8,
+        (m.free / 256 % 256) as u8,
+        (m.free / 65536 % 256) as u8,
+        (m.free / 16777216 % 256) as u8,
+        (m.free / 4294967296 % 256) as u8,
+        (m.free / 1099511627776 % 256) as u8,
+        (m.free / 281474976710656 % 256) as u8,
+        (m.free / 72057594037927936 % 256) as u8,
+        (m.kept_head % 256) as u8,
+        (m.kept_head / 256 % 256) as u8,
+        (m.kept_head / 65536 % 256) as u8,
+        (m.kept_head / 16777216 % 256) as u8,
+    ]
+}
+
+fn put_nodes(b: &mut [u8], m: Machine)
+    requires { ⌜ 1412 ≤ length (now b) ⌝ }
+    ensures { λ _. ⌜ now (b .exit) ≡ over (now (b .entry)) 20 (joined (nodePart m) 64) ⌝ }
+{
+    let mut i = 0;
+    while i < 64 {
+        let a = node_bytes(m.nodes[i], m.kept[i]);
+        copy(b, 20 + i * 20, &a);
+        i += 1;
+    }
+}
+
+fn put_threads(b: &mut [u8], m: Machine)
+    requires { ⌜ 1412 ≤ length (now b) ⌝ }
+    ensures { λ _. ⌜ now (b .exit) ≡ over (now (b .entry)) 1300 (joined (threadPart m) 8) ⌝ }
+{
+    let mut i = 0;
+    while i < 8 {
+        let a = thread_bytes(m.threads[i]);
+        copy(b, 1300 + i * 14, &a);
+        i += 1;
+    }
+}
+
+pub fn put_record(b: &mut [u8], m: Machine)
+    requires { ⌜ 1412 ≤ length (now b) ⌝ }
+    ensures { λ _. ⌜ now (b .exit) ≡ over (now (b .entry)) 0 (recordBytes m) ⌝ }
+{
+    let a = head_bytes(m);
+    copy(b, 0, &a);
+    put_nodes(b, m);
+    put_threads(b, m);
+}
