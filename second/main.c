@@ -1,7 +1,7 @@
 /* The modes of the program, by the first argument. Every mode reads standard input. */
 #include "second.h"
 
-static u64 number_from(const char *text)
+u64 number_from(const char *text)
 {
     u64 number = 0;
     if (!*text)
@@ -51,31 +51,73 @@ static int mode_ending(int count, char **words)
     return 0;
 }
 
+/* Prints what there is to print of every input of a stream. */
+static int each_input(void (*print)(const u8 *bytes, u64 length))
+{
+    u64 length;
+    while (read_next(&length))
+        print(input, length);
+    return 0;
+}
+
 static int mode_endings_many(int count, char **words)
 {
     (void)count, (void)words;
-    u64 length;
-    while (read_next(&length))
-        print_endings(input, length);
-    return 0;
+    return each_input(print_endings);
 }
 
 static int mode_traces(int count, char **words)
 {
     (void)count, (void)words;
-    u64 length;
-    while (read_next(&length))
-        print_trace(input, length);
-    return 0;
+    return each_input(print_trace);
+}
+
+static int mode_sums(int count, char **words)
+{
+    (void)count, (void)words;
+    return each_input(print_trace_sums);
+}
+
+static int mode_place_counts(int count, char **words)
+{
+    (void)count, (void)words;
+    return each_input(print_place_counts);
+}
+
+static int mode_saved(int count, char **words)
+{
+    (void)count, (void)words;
+    return each_input(print_saved);
+}
+
+static int mode_starts(int count, char **words)
+{
+    (void)count, (void)words;
+    return each_input(print_start);
+}
+
+static int mode_fresh(int count, char **words)
+{
+    (void)count, (void)words;
+    return each_input(print_fresh);
 }
 
 static int mode_images(int count, char **words)
 {
     (void)count, (void)words;
-    u64 length;
-    while (read_next(&length))
-        print_image(input, length);
-    return 0;
+    return each_input(print_image);
+}
+
+static int mode_images_again(int count, char **words)
+{
+    (void)count, (void)words;
+    return each_input(print_image_again);
+}
+
+static int mode_schedules(int count, char **words)
+{
+    (void)count, (void)words;
+    return each_input(print_schedule);
 }
 
 static int mode_record(int count, char **words)
@@ -84,6 +126,18 @@ static int mode_record(int count, char **words)
     u8 item[RECORD_BYTES + EVENT_BYTES];
     while (read_exactly(item, sizeof item))
         print_record_item(item);
+    return 0;
+}
+
+static int mode_records(int count, char **words)
+{
+    u64 length;
+    (void)count, (void)words;
+    while (read_next(&length)) {
+        if (length != RECORD_BYTES + EVENT_BYTES)
+            stop("a record with an event has 1418 bytes");
+        print_record_item(input);
+    }
     return 0;
 }
 
@@ -214,17 +268,15 @@ static int mode_contents(int count, char **words)
     return 0;
 }
 
-/* Puts one input behind its length, so that it is a stream of one. */
-static int mode_frame(int count, char **words)
+static int mode_contents_many(int count, char **words)
 {
-    u8 head[4];
-    u64 length = read_all();
+    u64 length;
     (void)count, (void)words;
-    if (length > INPUT_KEPT)
-        stop("too long");
-    put4(head, (u32)length);
-    put_bytes(head, 4);
-    put_bytes(input, length);
+    while (read_next(&length)) {
+        if (length != CONTENTS_BYTES)
+            stop("an item of contents has 583 bytes");
+        print_contents_item(input);
+    }
     return 0;
 }
 
@@ -253,10 +305,13 @@ static const struct {
     int (*run)(int count, char **words);
 } modes[] = {
     {"page", mode_page}, {"many", mode_many}, {"ending", mode_ending}, {"endings-many", mode_endings_many},
-    {"trace", mode_trace}, {"traces", mode_traces}, {"images", mode_images}, {"contents", mode_contents},
-    {"record", mode_record}, {"generate", mode_generate}, {"counts", mode_counts}, {"plain", mode_plain},
-    {"judge", mode_judge}, {"places", mode_places}, {"wrong", mode_wrong}, {"search", mode_search},
-    {"frame", mode_frame}, {"sequence", mode_sequence}, {"sequences", mode_sequences},
+    {"trace", mode_trace}, {"traces", mode_traces}, {"sums", mode_sums}, {"record", mode_record}, {"records", mode_records},
+    {"place-counts", mode_place_counts}, {"saved", mode_saved}, {"starts", mode_starts}, {"fresh", mode_fresh},
+    {"images", mode_images}, {"images-again", mode_images_again}, {"schedules", mode_schedules},
+    {"contents", mode_contents}, {"contents-many", mode_contents_many}, {"generate", mode_generate},
+    {"counts", mode_counts}, {"plain", mode_plain}, {"judge", mode_judge}, {"places", mode_places},
+    {"wrong", mode_wrong}, {"search", mode_search}, {"frame", mode_frame}, {"frames", mode_frames},
+    {"cuts", mode_cuts}, {"values", mode_values}, {"sequence", mode_sequence}, {"sequences", mode_sequences},
 };
 
 static int run_mode(int count, char **words)

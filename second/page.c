@@ -1,4 +1,4 @@
-/* What is printed: pages, endings, traces, records, images. */
+/* What is printed: pages, endings, images, schedules, contents. */
 #include "second.h"
 
 u64 planted;
@@ -63,18 +63,26 @@ u32 print_page(const u8 *bytes, u64 length)
     return TAKEN;
 }
 
-static u64 add_to_sum(u64 sum, const u8 *bytes, u64 length)
+u64 add_to_sum(u64 sum, const u8 *bytes, u64 length)
 {
     for (u64 i = 0; i < length; i++)
         sum = (sum ^ bytes[i]) * 1099511628211u; /* FNV-1a, 64 bits */
     return sum;
 }
 
+void put_sum(u64 sum)
+{
+    u8 total[8];
+    put4(total, (u32)sum);
+    put4(total + 4, (u32)(sum >> 32));
+    put_hex(total, 8);
+}
+
 static void print_ending_bytes(u32 n, u64 count)
 {
     enum { SHOWN = 32 };
     u8 buffer[MAX_IMAGE];
-    u64 sum = 14695981039346656037u;
+    u64 sum = NO_SUM;
     for (u64 k = 0; k < count; k++) {
         Image image;
         ending_image(&the_bench, k, &image);
@@ -89,11 +97,8 @@ static void print_ending_bytes(u32 n, u64 count)
         }
         sum = add_to_sum(sum, buffer, image_length(n));
     }
-    u8 total[8];
-    put4(total, (u32)sum);
-    put4(total + 4, (u32)(sum >> 32));
     put_text("sum ");
-    put_hex(total, 8);
+    put_sum(sum);
     put_text("\n");
 }
 
@@ -116,68 +121,65 @@ void print_endings(const u8 *bytes, u64 length)
     print_refusal(write_ending(bytes, length, count - 1, buffer, whole - 1));
 }
 
-static void print_moment(const Machine *m, const Reply *reply)
+/* The image as it is written, in hex. */
+static void print_written_again(const Image *image)
 {
-    u8 record[RECORD_BYTES];
-    record_to_bytes(m, record);
-    put_number(reply->number);
-    put_text(" ");
-    put_number(reply->value);
-    put_text(" ");
-    put_hex(record, RECORD_BYTES);
-    put_text("\n");
-}
-
-void print_trace(const u8 *bytes, u64 length)
-{
-    Schedule schedule;
-    Reply reply = {NOTHING, 0, NO_LINE, 0};
-    Verdict v = read_schedule(bytes, length, &schedule);
-    if (v.number != TAKEN) {
+    u8 buffer[MAX_IMAGE];
+    Verdict v = write_image(image, buffer, sizeof buffer);
+    if (v.number != TAKEN)
         print_refusal(v);
-        return;
-    }
-    bench_start(&the_bench, &schedule);
-    print_moment(&the_bench.machine, &reply);
-    for (u32 i = 0; i < schedule.event_count; i++) {
-        Event event = event_at(&schedule, i);
-        v = bench_event(&the_bench, &event, i, &reply);
-        if (v.number != TAKEN) {
-            print_refusal(v);
-            return;
-        }
-        print_moment(&the_bench.machine, &reply);
-    }
+    else
+        put_hex(buffer, image_length(image->n));
 }
 
-void print_record_item(const u8 *item)
-{
-    Machine machine;
-    Reply reply;
-    const u8 *at = item + RECORD_BYTES;
-    Event event = {at[0], at[1], get4(at + 2)};
-    record_from_bytes(item, &machine);
-    Verdict v = perform(&machine, &event, &reply);
-    put_number(v.number);
-    put_text(" ");
-    put_number(v.place);
-    put_text(" ");
-    print_moment(&machine, &reply);
-}
-
-/* An image alone: its verdict and, when taken, the record that a start with one thread makes of it. */
-void print_image(const u8 *bytes, u64 length)
+/* An image alone: its verdict or, when taken, the image written again. */
+void print_image_again(const u8 *bytes, u64 length)
 {
     Image image;
-    Machine machine;
-    Reply reply = {NOTHING, 0, NO_LINE, 0};
     Verdict v = read_image(bytes, length, &image);
     if (v.number != TAKEN) {
         print_refusal(v);
         return;
     }
-    start(&machine, 1, &image);
-    print_moment(&machine, &reply);
+    print_written_again(&image);
+    put_text("\n");
+}
+
+/* A schedule up to its events, which are not tried: its verdict or, when taken, T, the count, the image and every event. */
+void print_schedule(const u8 *bytes, u64 length)
+{
+    Schedule schedule;
+    Verdict v = read_schedule(bytes, length, &schedule);
+    if (v.number != TAKEN) {
+        print_refusal(v);
+        return;
+    }
+    put_text("taken ");
+    put_number(schedule.t);
+    put_text(" ");
+    put_number(schedule.event_count);
+    put_text(" ");
+    print_written_again(&schedule.image);
+    put_text(" ");
+    for (u32 i = 0; i < schedule.event_count; i++) {
+        u8 six[EVENT_BYTES];
+        Event event = event_at(&schedule, i);
+        event_to_bytes(&event, six);
+        put_hex(six, EVENT_BYTES);
+    }
+    put_text("\n");
+}
+
+void contents_from_bytes(const u8 *bytes, Image *image)
+{
+    image->n = bytes[0];
+    image->head_index = get4(bytes + 1);
+    for (u32 i = 0; i < MAX_NODES; i++) {
+        const u8 *at = bytes + 5 + IMAGE_NODE * i;
+        image->nodes[i].linked = at[0];
+        image->nodes[i].index = get4(at + 1);
+        image->nodes[i].item = get4(at + 5);
+    }
 }
 
 /* Contents to be written as an image: n, head index, 64 nodes of 9 bytes, then the room of the lent buffer. */
@@ -186,14 +188,7 @@ void print_contents_item(const u8 *item)
     static u8 buffer[65536];
     Image image;
     u64 room = get2(item + CONTENTS_BYTES - 2);
-    image.n = item[0];
-    image.head_index = get4(item + 1);
-    for (u32 i = 0; i < MAX_NODES; i++) {
-        const u8 *at = item + 5 + IMAGE_NODE * i;
-        image.nodes[i].linked = at[0];
-        image.nodes[i].index = get4(at + 1);
-        image.nodes[i].item = get4(at + 5);
-    }
+    contents_from_bytes(item, &image);
     for (u64 i = 0; i < room; i++)
         buffer[i] = 0xaa; /* so that the bytes that stay can be seen */
     Verdict v = write_image(&image, buffer, room);

@@ -43,6 +43,19 @@ static int dequeue_owns(const Machine *m, u32 node)
     return count;
 }
 
+/* How many nodes are in each place; a node that is in two counts in both. */
+void count_places(const Machine *m, u32 *counts)
+{
+    for (u32 node = 0; node < m->n; node++) {
+        counts[IN_QUEUE] += in_queue(m, node) != 0;
+        counts[IS_FREE] += (m->free & bit(node)) != 0;
+        counts[IS_WAITING] += m->nodes[node].waits != 0;
+        counts[IS_HELD] += is_held(m, node) != 0;
+        counts[ENQUEUE_OWNS] += enqueue_owns(m, node) != 0;
+        counts[DEQUEUE_OWNS] += dequeue_owns(m, node) != 0;
+    }
+}
+
 const char *misplaced(const Machine *m)
 {
     for (u32 node = 0; node < m->n; node++) {

@@ -187,6 +187,7 @@ Verdict read_image_head(const u8 *bytes, u64 length, Image *image);
 Verdict read_image_nodes(const u8 *bytes, Image *image);
 Verdict read_image(const u8 *bytes, u64 length, Image *image);
 Verdict test_recovered(const Image *image);
+Verdict test_contents(const Image *image);
 Verdict write_image(const Image *image, u8 *buffer, u64 room);
 int is_recovered(const Image *image, u32 node);
 u32 recovered_in_order(const Image *image, u32 *order);
@@ -235,15 +236,26 @@ void ending_image(const Bench *bench, u64 k, Image *image);
 Verdict write_ending(const u8 *bytes, u64 length, u64 k, u8 *buffer, u64 room);
 extern Bench the_bench;
 
-/* page.c */
+/* page.c, moments.c */
 extern u64 planted;   /* 0, or the number of the input (from 1) whose result is to be falsified */
 extern int plant_now; /* the input at hand is that one */
 void print_refusal(Verdict v);
 u32 print_page(const u8 *bytes, u64 length);
 void print_endings(const u8 *bytes, u64 length);
+static const u64 NO_SUM = 14695981039346656037u; /* FNV-1a, 64 bits, of no bytes */
+u64 add_to_sum(u64 sum, const u8 *bytes, u64 length);
+void put_sum(u64 sum);
+void contents_from_bytes(const u8 *bytes, Image *image);
 void print_trace(const u8 *bytes, u64 length);
+void print_trace_sums(const u8 *bytes, u64 length);
 void print_record_item(const u8 *item);
+void print_place_counts(const u8 *bytes, u64 length);
+void print_saved(const u8 *bytes, u64 length);
+void print_start(const u8 *bytes, u64 length);
+void print_fresh(const u8 *bytes, u64 length);
 void print_image(const u8 *bytes, u64 length);
+void print_image_again(const u8 *bytes, u64 length);
+void print_schedule(const u8 *bytes, u64 length);
 void print_contents_item(const u8 *item);
 
 /* counts.c: how often each step, branch, answer and refusal was reached */
@@ -274,6 +286,8 @@ typedef struct Finding {
 } Finding;
 Finding plain_way(const u8 *bytes, u64 length);
 Finding judge(const u8 *bytes, u64 length);
+enum { IN_QUEUE, IS_FREE, IS_WAITING, IS_HELD, ENQUEUE_OWNS, DEQUEUE_OWNS, PLACES };
+void count_places(const Machine *m, u32 *counts);
 const char *misplaced(const Machine *m);
 Finding places(const u8 *bytes, u64 length);
 
@@ -296,5 +310,12 @@ u32 machine_of_name(const char *name);
 int search(u32 machine, u64 seed, u64 tries);
 int check_sequences(void);
 int print_sequence(const char *name);
+
+/* main.c, streams.c */
+u64 number_from(const char *text);
+int mode_frame(int count, char **words);
+int mode_frames(int count, char **words);
+int mode_cuts(int count, char **words);
+int mode_values(int count, char **words);
 
 #endif

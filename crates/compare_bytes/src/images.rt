@@ -6,7 +6,7 @@ use compare::text::put_refusal;
 use image::Image;
 
 // The image as write_image writes it, in hex.
-pub fn put_image(out: &mut [u8; 65536], at: usize, g: Image) -> usize {
+pub(crate) fn put_image(out: &mut [u8; 65536], at: usize, g: Image) -> usize {
     let mut bytes = [0u8; 586];
     let a = codec::write_image(g, &mut bytes);
     let t = told_of(a);
@@ -16,7 +16,7 @@ pub fn put_image(out: &mut [u8; 65536], at: usize, g: Image) -> usize {
     put_front(out, at, &bytes, 10 + (g.n as usize) * 9)
 }
 
-pub fn answer_image(s: &[u8], out: &mut [u8; 65536], at: usize) -> usize {
+pub(crate) fn answer_image(s: &[u8], out: &mut [u8; 65536], at: usize) -> usize {
     let r = codec::read_image(s);
     let a = r.answer;
     let t = told_of(a);

@@ -31,7 +31,7 @@ fn put_events(out: &mut [u8; 65536], at: usize, s: &[u8], count: usize) -> usize
     place
 }
 
-pub fn answer_schedule(s: &[u8], out: &mut [u8; 65536], at: usize) -> usize {
+pub(crate) fn answer_schedule(s: &[u8], out: &mut [u8; 65536], at: usize) -> usize {
     let o = codec::read_schedule(s);
     let a = o.answer;
     let t = told_of(a);

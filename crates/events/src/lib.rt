@@ -1,4 +1,5 @@
 // The machine one event at a time: calls on a machine record that is handed in. Each tests 18 before all else.
+// Public calls: on_event, save, count_places. act is for the crates above.
 mod arms;
 
 pub use arms::act;

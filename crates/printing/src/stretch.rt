@@ -10,7 +10,6 @@ ghost use lib.ListN.{length};
 ghost use Rattle.lists.specs.Tab.{over};
 ghost use Rattle.machine.specs.Line.{lineCount};
 ghost use Rattle.endtable.specs.Picks.{Ready, endingFrom};
-ghost use Rattle.printing.specs.Bounds.{lineRoom};
 ghost use Rattle.printing.specs.Lines.{linesBy, stretchOf, Stretched};
 
 // The first ending that is not printed yet, and the place behind the last line.

@@ -13,6 +13,7 @@ ghost use Rattle.lists.specs.Tab.{over};
 ghost use Rattle.page.specs.Printed.{endingLine, firstLine, refusedLine};
 ghost use Rattle.printing.specs.Bounds.{lineRoom, firstRoom, refusedRoom};
 
+// How many bytes the longest line of each kind has: lineRoom 64, firstRoom, refusedRoom of specs/Bounds.
 pub const LINE: usize = 721;
 
 pub const FIRST: usize = 51;

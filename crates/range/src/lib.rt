@@ -1,4 +1,5 @@
 // Refusal 18: whether a machine record is within its ranges; and how many of its nodes are in each of the six places.
+// For the crates above: in_range, places_of, used_by.
 ghost use mathlib.Core.Path.{_≡_};
 ghost use mathlib.Core.Bool.{Bool, true, false, not};
 ghost use Prim.Native.Nat.{_≤_, _<_, _^_};
@@ -109,7 +110,8 @@ fn nodes_fit(m: Machine) -> bool
     true
 }
 
-// The step number decides.
+// The step number decides. The columns: the step uses the thread's own node, t, the head read, the next read;
+// its enqueue owns the node (before its A8), its dequeue owns the head read (between D4 and D7).
 pub fn used_by(s: u8) -> Used
     ensures { λ r. ⌜ r ≡ usedBy s ⌝ }
 {

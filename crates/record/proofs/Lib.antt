@@ -1,2 +1,4 @@
 pub mod Laws
 pub mod Unique
+pub mod RoundTrip
+pub mod ThereAndBack

@@ -1,4 +1,4 @@
-// The byte form of a machine record, for comparisons with other programs.
+// The byte form of a machine record, for comparisons with other programs. Public calls: read_record, write_record.
 mod reading;
 mod writing;
 

@@ -1,7 +1,7 @@
 use Prim.Native.Nat.{_≤_, _-_}
 use native.Mathlib.Omega.{arith}
-use Rattle.compare_bytes.proofs.contents.contents_of.Statement.{statement}
-use Rattle.compare_bytes.proofs.contents.contents_of.Tie as tie
+use Rattle.compare.proofs.contents.contents_of.Statement.{statement}
+use Rattle.compare.proofs.contents.contents_of.Tie as tie
 
 abbrev Inv-loop : tie.InvT-loop
 Inv-loop s nodes₀ i₀ nodes i = i ≤ 64

@@ -1,0 +1,37 @@
+// Contents of a memory. An item: N (1 byte), head index (4), 64 nodes of linked (1), index (4) and item (4); more may stand behind.
+ghost use Prim.Native.Nat.{_≤_};
+use crate::input::byte;
+use crate::input::word;
+use image::Content;
+use image::Image;
+
+fn content_of(s: &[u8], at: usize) -> Content
+    requires { ⌜ at ≤ 10000 ⌝ }
+{
+    let linked = byte(s, at);
+    let index = word(s, at + 1);
+    let item = word(s, at + 5);
+    Content {
+        linked,
+        index,
+        item,
+    }
+}
+
+pub fn contents_of(s: &[u8]) -> Image {
+    let none = Content {
+        linked: 0,
+        index: 0,
+        item: 0,
+    };
+    let mut nodes = [none; 64];
+    let mut i = 0;
+    while i < 64 {
+        let v = content_of(s, 5 + i * 9);
+        nodes[i] = v;
+        i += 1;
+    }
+    let n = byte(s, 0);
+    let head = word(s, 1);
+    Image { n, head, nodes }
+}

@@ -1,0 +1,61 @@
+// The calls on a machine record, for many inputs in one run, so that another program's answers can be compared with theirs.
+// Standard input: one byte that names the mode, then a stream of items, each behind its length (4 bytes, little-endian).
+//   t  a schedule:  after the start and after each event `REPLY VALUE SUM`, the sum of the record's bytes; up to `refused N at P`
+//   r  a record and an event: `N P REPLY VALUE RECORD`
+//   p  the same: `N P QUEUE FREE WAITING HELD ENQUEUE DEQUEUE`; the event does not count
+//   k  the same: the record's persisted copies saved into a buffer, whose room the event's first two bytes give: `N P BUFFER`
+//   b  contents and T: `refused N at P`, or `0 0 RECORD` after a start
+//   f  N and T: the same for a fresh machine, with the record's sum
+mod moments;
+mod records;
+mod starts;
+mod traces;
+
+use compare::input::next_item;
+use compare::text::finish;
+use libc::STDIN_FILENO;
+use records::answer_places;
+use records::answer_record;
+use records::answer_saved;
+use starts::answer_fresh;
+use starts::answer_start;
+use traces::answer_trace;
+
+fn answer_one(mode: u8, s: &[u8], out: &mut [u8; 65536], at: usize) -> usize {
+    match mode {
+        b't' => answer_trace(s, out, at),
+        b'r' => answer_record(s, out, at),
+        b'p' => answer_places(s, out, at),
+        b'k' => answer_saved(s, out, at),
+        b'b' => answer_start(s, out, at),
+        b'f' => answer_fresh(s, out, at),
+        _ => at,
+    }
+}
+
+// Nothing says that the input ends, so the turns are counted down from a number that no run uses up.
+fn answer_all(mode: u8, item: &mut [u8], out: &mut [u8; 65536]) -> usize {
+    let mut at = 0;
+    let mut turns = u64::MAX;
+    while turns > 0 {
+        let next = next_item(item);
+        if !next.there {
+            break;
+        }
+        let kept = next.kept;
+        let after = answer_one(mode, &item[..kept], out, at);
+        at = after;
+        turns -= 1;
+    }
+    at
+}
+
+fn main() {
+    let mut mode = [0u8; 1];
+    io::read_full(STDIN_FILENO, &mut mode);
+    // Longer than any schedule; what is longer still is refused as its first part is.
+    let mut item = [0u8; 40000];
+    let mut out = [0u8; 65536];
+    let at = answer_all(mode[0], &mut item, &mut out);
+    finish(&out, at);
+}

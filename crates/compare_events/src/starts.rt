@@ -1,0 +1,35 @@
+// Starts from contents, and fresh machines.
+use crate::moments::put_moment;
+use crate::moments::put_moment_sum;
+use compare::answers::told_of;
+use compare::contents::contents_of;
+use compare::input::byte;
+use compare::text::put_refusal;
+use machine::Machine;
+
+// The last digit of the byte behind the nodes is T.
+pub(crate) fn answer_start(s: &[u8], out: &mut [u8; 65536], at: usize) -> usize {
+    let g = contents_of(s);
+    let t = byte(s, 581) % 10;
+    let r = machine::start_from(g, t);
+    let a = r.answer;
+    let u = told_of(a);
+    if u.number != 0 {
+        return put_refusal(out, at, u);
+    }
+    let m = r.machine;
+    put_moment(out, at, u, m)
+}
+
+pub(crate) fn answer_fresh(s: &[u8], out: &mut [u8; 65536], at: usize) -> usize {
+    let n = byte(s, 0);
+    let t = byte(s, 1);
+    let r = Machine::fresh(n, t);
+    let a = r.answer;
+    let u = told_of(a);
+    if u.number != 0 {
+        return put_refusal(out, at, u);
+    }
+    let m = r.machine;
+    put_moment_sum(out, at, u, m)
+}

@@ -1,0 +1,216 @@
+-- A record written as bytes and read again is the record. Assumes nothing.
+use Prim.Native.Nat.{ℕ, _+_, _*_, _/_, _%_, _^_, _<_}
+use mathlib.Core.Path.{_≡_, refl, sym, ap, _∙_}
+use mathlib.Core.List.{List, _++_}
+use native.Mathlib.Omega.{arith}
+use native.Mathlib.Nat.{div-div-eq-div-mul, div-add-mod', add-assoc, add-zero}
+use borrow.Author.Tests.{eq-eqb}
+use lib.ListN.{length, getD, drop, length-append, length-drop, List·getD-append}
+use lib.Seq.{ext-getD, getD-append-add}
+use Rattle.lists.specs.Tab.{tab, joined, front}
+use Rattle.lists.proofs.TabLaws as tabs
+use Rattle.answer.specs.declared.Answer.the-variants.{Taken}
+use Rattle.image.specs.Bytes.{num4, at1, at4}
+use Rattle.image.specs.Layout.{noContent, noContents}
+use Rattle.machine.specs.Record.{node, kept, thread, zeroNode, zeroThread, blankNodes, idleThreads}
+use Rattle.machine.specs.Retire.{out}
+use Rattle.machine.specs.declared.Machine.{Machine}
+use Rattle.record.specs.Layout.{at8, headBytes, nodePart, threadPart, recordBytes, nodeIn, keptIn, threadIn, recordIn, readRecord}
+use Rattle.record.proofs.Laws as laws
+
+-- the tables are whole, and the numbers of 32 and 64 bits fit
+pub record Whole (m : Machine) : Type 0 where
+  pub index : m .index < 2 ^ 32
+  pub free : m .free < 2 ^ 64
+  pub head : m .«kept_head» < 2 ^ 32
+  pub nodes : length (m .nodes) ≡ 64
+  pub copies : length (m .kept) ≡ 64
+  pub threads : length (m .threads) ≡ 8
+  pub node-item : (i : ℕ) → node m i .item < 2 ^ 32
+  pub node-index : (i : ℕ) → node m i .index < 2 ^ 32
+  pub kept-item : (i : ℕ) → kept m i .item < 2 ^ 32
+  pub kept-index : (i : ℕ) → kept m i .index < 2 ^ 32
+  pub thread-item : (k : ℕ) → thread m k .item < 2 ^ 32
+  pub thread-index : (k : ℕ) → thread m k .index < 2 ^ 32
+
+-- ---- numbers
+
+sum4 : (x y z w v r s t u : ℕ) → y * 256 + r ≡ x → z * 256 + s ≡ y → w * 256 + t ≡ z → v * 256 + u ≡ w
+    → r + s * 256 + t * 65536 + u * 16777216 + v * 4294967296 ≡ x
+sum4 x y z w v r s t u p q e f = omega arith
+
+-- four bytes, and what is left above them
+low4 : (x : ℕ) → num4 (x % 256) (x / 256 % 256) (x / 65536 % 256) (x / 16777216 % 256) + x / 4294967296 * 4294967296 ≡ x
+low4 x =
+    let e : x / 65536 ≡ x / 256 / 256 = sym (div-div-eq-div-mul x 256 256) in
+    let f : x / 16777216 ≡ x / 256 / 256 / 256 = sym (div-div-eq-div-mul (x / 256) 256 256 ∙ div-div-eq-div-mul x 256 65536) in
+    let g : x / 4294967296 ≡ x / 256 / 256 / 256 / 256 = sym (ap (λ (y : ℕ). y / 256) (sym f) ∙ div-div-eq-div-mul x 16777216 256) in
+    rw (e, f, g)
+    (sum4 x (x / 256) (x / 256 / 256) (x / 256 / 256 / 256) (x / 256 / 256 / 256 / 256) (x % 256) (x / 256 % 256) (x / 256 / 256 % 256) (x / 256 / 256 / 256 % 256)
+    (div-add-mod' x 256) (div-add-mod' (x / 256) 256) (div-add-mod' (x / 256 / 256) 256) (div-add-mod' (x / 256 / 256 / 256) 256))
+
+word-back : (x : ℕ) → x < 2 ^ 32 → num4 (x % 256) (x / 256 % 256) (x / 65536 % 256) (x / 16777216 % 256) ≡ x
+word-back x h = let z : x / 4294967296 ≡ 0 = omega arith in omega (arith, low4 x)
+
+long-back : (x : ℕ) → x < 2 ^ 64
+    → num4 (x % 256) (x / 256 % 256) (x / 65536 % 256) (x / 16777216 % 256)
+    + num4 (x / 4294967296 % 256) (x / 1099511627776 % 256) (x / 281474976710656 % 256) (x / 72057594037927936 % 256) * 4294967296
+    ≡ x
+long-back x h =
+    let y = x / 4294967296 in
+    let e : x / 1099511627776 ≡ y / 256 = sym (div-div-eq-div-mul x 4294967296 256) in
+    let f : x / 281474976710656 ≡ y / 65536 = sym (div-div-eq-div-mul x 4294967296 65536) in
+    let g : x / 72057594037927936 ≡ y / 16777216 = sym (div-div-eq-div-mul x 4294967296 16777216) in
+    rw (e, f, g, word-back y (omega arith)) (low4 x)
+
+-- ---- a part of the bytes: s has at place p the c bytes of q
+
+module _ (s q : List ℕ) (p c : ℕ) (same : (j : ℕ) → j < c → getD s (p + j) 0 ≡ getD q j 0) where
+  at-first : 0 < c → at1 s p ≡ at1 q 0
+  at-first h = ap (at1 s) (sym (add-zero p)) ∙ same 0 h
+
+  at-more : (j k : ℕ) → j + k < c → at1 s (p + j + k) ≡ at1 q (j + k)
+  at-more j k h = ap (at1 s) (add-assoc p j k) ∙ same (j + k) h
+
+  word-at : (j : ℕ) → j + 3 < c → at4 s (p + j) ≡ at4 q j
+  word-at j h = rw (same j (omega arith), at-more j 1 (omega arith), at-more j 2 (omega arith), at-more j 3 h)
+
+  word-first : 3 < c → at4 s p ≡ at4 q 0
+  word-first h = ap (at4 s) (sym (add-zero p)) ∙ word-at 0 h
+
+-- ---- a table filled whole
+
+filled : {A : Type 0} (d : A) (f : ℕ → A) (n : ℕ) (l x : List A) → length l ≡ n → length x ≡ n → ((i : ℕ) → i < n → f i ≡ getD x i d) → front f n l ≡ x
+unfolding front
+filled d f n l x e g h =
+    let t = tabs.length-tab f n in
+    let w : length (tab f n ++ drop n l) ≡ n = length-append (tab f n) (drop n l) ∙ omega (arith, t, length-drop n l) in
+    ext-getD d (tab f n ++ drop n l) x (w ∙ sym g)
+    (λ i p. List·getD-append (tab f n) (drop n l) d i (omega (arith, t, w)) ∙ tabs.getD-tab f n i d (omega (arith, w)) ∙ h i (omega (arith, w)))
+
+module _ (m : Machine) where
+  nodesOf : List ℕ
+  nodesOf = joined (nodePart m) 64
+
+  threadsOf : List ℕ
+  threadsOf = joined (threadPart m) 8
+
+  nodes-length : length nodesOf ≡ 1280
+  unfolding nodesOf
+  nodes-length = tabs.length-joined (nodePart m) 20 64 (laws.node-length m)
+
+  node-byte : (i j : ℕ) → i < 64 → j < 20 → getD (recordBytes m) (20 + i * 20 + j) 0 ≡ getD (nodePart m i) j 0
+  unfolding recordBytes nodesOf
+  node-byte i j p q =
+      ap (λ (k : ℕ). getD (recordBytes m) k 0) (add-assoc 20 (i * 20) j)
+      ∙ getD-append-add (headBytes m) (joined (nodePart m) 64 ++ joined (threadPart m) 8) (i * 20 + j) 0
+      ∙ List·getD-append (joined (nodePart m) 64) (joined (threadPart m) 8) 0 (i * 20 + j) (omega (arith, nodes-length))
+      ∙ tabs.getD-joined (nodePart m) 20 64 i j 0 (laws.node-length m) p q
+
+  thread-byte : (i j : ℕ) → i < 8 → j < 14 → getD (recordBytes m) (1300 + i * 14 + j) 0 ≡ getD (threadPart m i) j 0
+  unfolding recordBytes nodesOf
+  thread-byte i j p q =
+      let e : 1300 + i * 14 + j ≡ 20 + (length (joined (nodePart m) 64) + (i * 14 + j)) = omega (arith, nodes-length) in
+      ap (λ (k : ℕ). getD (recordBytes m) k 0) e
+      ∙ getD-append-add (headBytes m) (joined (nodePart m) 64 ++ joined (threadPart m) 8) (length (joined (nodePart m) 64) + (i * 14 + j)) 0
+      ∙ getD-append-add (joined (nodePart m) 64) (joined (threadPart m) 8) (i * 14 + j) 0
+      ∙ tabs.getD-joined (threadPart m) 14 8 i j 0 (laws.thread-length m) p q
+
+  module _ (w : Whole m) where
+    node-back : (i : ℕ) → i < 64 → nodeIn (recordBytes m) i ≡ node m i
+    unfolding nodeIn nodePart
+    node-back i p =
+        let s = recordBytes m in
+        let q = nodePart m i in
+        let at = 20 + i * 20 in
+        let same : (j : ℕ) → j < 20 → getD s (at + j) 0 ≡ getD q j 0 = λ j h. node-byte i j p h in
+        let a : at4 s at ≡ node m i .item = word-first s q at 20 same (omega arith) ∙ word-back (node m i .item) (w .node-item i) in
+        let b : at4 s (at + 6) ≡ node m i .index = word-at s q at 20 same 6 (omega arith) ∙ word-back (node m i .index) (w .node-index i) in
+        λ k. record { item = a k; next = same 4 (omega arith) k; linked = same 5 (omega arith) k; index = b k; waits = same 10 (omega arith) k }
+
+    kept-back : (i : ℕ) → i < 64 → keptIn (recordBytes m) i ≡ kept m i
+    unfolding keptIn nodePart
+    kept-back i p =
+        let s = recordBytes m in
+        let q = nodePart m i in
+        let at = 20 + i * 20 in
+        let same : (j : ℕ) → j < 20 → getD s (at + j) 0 ≡ getD q j 0 = λ j h. node-byte i j p h in
+        let a : at4 s (at + 12) ≡ kept m i .index = word-at s q at 20 same 12 (omega arith) ∙ word-back (kept m i .index) (w .kept-index i) in
+        let b : at4 s (at + 16) ≡ kept m i .item = word-at s q at 20 same 16 (omega arith) ∙ word-back (kept m i .item) (w .kept-item i) in
+        λ k. record { linked = same 11 (omega arith) k; index = a k; item = b k }
+
+    thread-back : (i : ℕ) → i < 8 → threadIn (recordBytes m) i ≡ thread m i
+    unfolding threadIn threadPart
+    thread-back i p =
+        let s = recordBytes m in
+        let q = threadPart m i in
+        let at = 1300 + i * 14 in
+        let same : (j : ℕ) → j < 14 → getD s (at + j) 0 ≡ getD q j 0 = λ j h. thread-byte i j p h in
+        let a : at4 s (at + 4) ≡ thread m i .index = word-at s q at 14 same 4 (omega arith) ∙ word-back (thread m i .index) (w .thread-index i) in
+        let b : at4 s (at + 9) ≡ thread m i .item = word-at s q at 14 same 9 (omega arith) ∙ word-back (thread m i .item) (w .thread-item i) in
+        let c : at1 s at ≡ thread m i .step = at-first s q at 14 same (omega arith) in
+        λ k. record {
+          step = c k;
+          node = same 1 (omega arith) k;
+          tail = same 2 (omega arith) k;
+          head = same 3 (omega arith) k;
+          index = a k;
+          next = same 8 (omega arith) k;
+          item = b k;
+          held = same 13 (omega arith) k;
+        }
+
+    nodes-back : front (nodeIn (recordBytes m)) 64 blankNodes ≡ m .nodes
+    unfolding blankNodes
+    nodes-back = filled zeroNode (nodeIn (recordBytes m)) 64 blankNodes (m .nodes) refl (w .nodes) node-back
+
+    copies-back : front (keptIn (recordBytes m)) 64 noContents ≡ m .kept
+    unfolding noContents
+    copies-back = filled noContent (keptIn (recordBytes m)) 64 noContents (m .kept) refl (w .copies) kept-back
+
+    threads-back : front (threadIn (recordBytes m)) 8 idleThreads ≡ m .threads
+    unfolding idleThreads
+    threads-back = filled zeroThread (threadIn (recordBytes m)) 8 idleThreads (m .threads) refl (w .threads) thread-back
+
+    index-back : at4 (recordBytes m) 3 ≡ m .index
+    unfolding recordBytes
+    index-back = word-back (m .index) (w .index)
+
+    free-back : at8 (recordBytes m) 8 ≡ m .free
+    unfolding recordBytes
+    free-back = long-back (m .free) (w .free)
+
+    head-back : at4 (recordBytes m) 16 ≡ m .«kept_head»
+    unfolding recordBytes
+    head-back = word-back (m .«kept_head») (w .head)
+
+    record-back : recordIn (recordBytes m) ≡ m
+    unfolding recordIn recordBytes
+    record-back = λ k. record {
+      n = m .n;
+      t = m .t;
+      head = m .head;
+      index = index-back k;
+      tail = m .tail;
+      free = free-back k;
+      nodes = nodes-back k;
+      «kept_head» = head-back k;
+      kept = copies-back k;
+      threads = threads-back k;
+    }
+
+  pub record-length : length (recordBytes m) ≡ 1412
+  unfolding recordBytes
+  record-length =
+      length-append (headBytes m) (joined (nodePart m) 64 ++ joined (threadPart m) 8)
+      ∙ omega (
+        arith,
+        length-append (joined (nodePart m) 64) (joined (threadPart m) 8),
+        tabs.length-joined (nodePart m) 20 64 (laws.node-length m),
+        tabs.length-joined (threadPart m) 14 8 (laws.thread-length m),
+      )
+
+  -- what is written and read again
+  pub back-again : Whole m → readRecord (recordBytes m) ≡ out Taken m
+  unfolding readRecord
+  back-again w = rw (eq-eqb (length (recordBytes m)) 1412 record-length, record-back w)

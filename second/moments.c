@@ -1,0 +1,177 @@
+/* What is printed of machine records: traces, single events, starts, place counts, saved images. */
+#include "second.h"
+
+static void print_moment(const Machine *m, const Reply *reply)
+{
+    u8 record[RECORD_BYTES];
+    record_to_bytes(m, record);
+    put_number(reply->number);
+    put_text(" ");
+    put_number(reply->value);
+    put_text(" ");
+    put_hex(record, RECORD_BYTES);
+    put_text("\n");
+}
+
+/* The record's sum in the place of its bytes. */
+static void print_moment_sum(const Machine *m, const Reply *reply)
+{
+    u8 record[RECORD_BYTES];
+    record_to_bytes(m, record);
+    put_number(reply->number);
+    put_text(" ");
+    put_number(reply->value);
+    put_text(" ");
+    put_sum(add_to_sum(NO_SUM, record, RECORD_BYTES));
+    put_text("\n");
+}
+
+static void trace(const u8 *bytes, u64 length, void (*print)(const Machine *m, const Reply *reply))
+{
+    Schedule schedule;
+    Reply reply = {NOTHING, 0, NO_LINE, 0};
+    Verdict v = read_schedule(bytes, length, &schedule);
+    if (v.number != TAKEN) {
+        print_refusal(v);
+        return;
+    }
+    bench_start(&the_bench, &schedule);
+    print(&the_bench.machine, &reply);
+    for (u32 i = 0; i < schedule.event_count; i++) {
+        Event event = event_at(&schedule, i);
+        v = bench_event(&the_bench, &event, i, &reply);
+        if (v.number != TAKEN) {
+            print_refusal(v);
+            return;
+        }
+        print(&the_bench.machine, &reply);
+    }
+}
+
+void print_trace(const u8 *bytes, u64 length)
+{
+    trace(bytes, length, print_moment);
+}
+
+void print_trace_sums(const u8 *bytes, u64 length)
+{
+    trace(bytes, length, print_moment_sum);
+}
+
+static void print_verdict(Verdict v)
+{
+    put_number(v.number);
+    put_text(" ");
+    put_number(v.place);
+    put_text(" ");
+}
+
+void print_record_item(const u8 *item)
+{
+    Machine machine;
+    Reply reply;
+    const u8 *at = item + RECORD_BYTES;
+    Event event = {at[0], at[1], get4(at + 2)};
+    record_from_bytes(item, &machine);
+    Verdict v = perform(&machine, &event, &reply);
+    print_verdict(v);
+    print_moment(&machine, &reply);
+}
+
+/* An image alone: its verdict and, when taken, the record that a start with one thread makes of it. */
+void print_image(const u8 *bytes, u64 length)
+{
+    Image image;
+    Machine machine;
+    Reply reply = {NOTHING, 0, NO_LINE, 0};
+    Verdict v = read_image(bytes, length, &image);
+    if (v.number != TAKEN) {
+        print_refusal(v);
+        return;
+    }
+    start(&machine, 1, &image);
+    print_moment(&machine, &reply);
+}
+
+
+/* How many nodes are in each of the six places. A record is tested for 18 first; the event behind it does not count. */
+void print_place_counts(const u8 *bytes, u64 length)
+{
+    Machine machine;
+    u32 counts[PLACES] = {0};
+    if (length != RECORD_BYTES + EVENT_BYTES)
+        stop("a record with an event has 1418 bytes");
+    record_from_bytes(bytes, &machine);
+    Verdict v = verdict(in_range(&machine) ? TAKEN : OUT_OF_RANGE, 0);
+    if (v.number == TAKEN)
+        count_places(&machine, counts);
+    print_verdict(v);
+    for (u32 i = 0; i < PLACES; i++) {
+        put_number(counts[i]);
+        put_text(i + 1 < PLACES ? " " : "\n");
+    }
+}
+
+/* The persisted copies of a record as an image: 18, then as contents to be written. The two bytes behind the record give the room. */
+void print_saved(const u8 *bytes, u64 length)
+{
+    static u8 buffer[65536];
+    Machine machine;
+    Image image;
+    if (length != RECORD_BYTES + EVENT_BYTES)
+        stop("a record with an event has 1418 bytes");
+    u64 room = get2(bytes + RECORD_BYTES);
+    record_from_bytes(bytes, &machine);
+    for (u64 i = 0; i < room; i++)
+        buffer[i] = 0xaa; /* so that the bytes that stay can be seen */
+    Verdict v = verdict(OUT_OF_RANGE, 0);
+    if (in_range(&machine)) {
+        persisted_image(&machine, &image);
+        v = write_image(&image, buffer, room);
+    }
+    print_verdict(v);
+    put_hex(buffer, room);
+    put_text("\n");
+}
+
+/* A start from contents: 4, then 3, 6, 7, 8. The last digit of the byte behind the nodes is T. */
+void print_start(const u8 *bytes, u64 length)
+{
+    Machine machine;
+    Image image;
+    Verdict v;
+    Reply reply = {NOTHING, 0, NO_LINE, 0};
+    if (length != CONTENTS_BYTES)
+        stop("an item of contents has 583 bytes");
+    u32 t = bytes[CONTENTS_BYTES - 2] % 10;
+    contents_from_bytes(bytes, &image);
+    v = t < 1 || t > MAX_THREADS ? verdict(WRONG_T, 0) : test_contents(&image);
+    if (v.number != TAKEN) {
+        print_refusal(v);
+        return;
+    }
+    start(&machine, t, &image);
+    print_moment(&machine, &reply);
+}
+
+/* "A fresh machine is the start of the all-zero image." Two bytes: N and T, refused as contents with T are. */
+void print_fresh(const u8 *bytes, u64 length)
+{
+    static const Content zero = {0, 0, 0};
+    Machine machine;
+    Image image;
+    Reply reply = {NOTHING, 0, NO_LINE, 0};
+    if (length != 2)
+        stop("N and T have 2 bytes");
+    image.n = bytes[0];
+    image.head_index = 0;
+    for (u32 i = 0; i < MAX_NODES; i++)
+        image.nodes[i] = zero;
+    Verdict v = bytes[1] < 1 || bytes[1] > MAX_THREADS ? verdict(WRONG_T, 0) : test_contents(&image);
+    if (v.number != TAKEN) {
+        print_refusal(v);
+        return;
+    }
+    start(&machine, bytes[1], &image);
+    print_moment_sum(&machine, &reply);
+}
