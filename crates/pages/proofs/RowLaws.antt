@@ -1,0 +1,140 @@
+-- Rows as a table and its counts.
+use Prim.Native.Nat.{ℕ, zero, suc, _+_, _<_, _≤_}
+use mathlib.Core.Path.{_≡_, refl, sym, ap, ap₂, _∙_}
+use mathlib.Core.Bool.{Bool, true, false}
+use mathlib.Core.List.{List, [], _∷_, _++_, map}
+use native.Mathlib.Omega.{arith}
+use native.Mathlib.Numerals.{add-one}
+use lib.ListN.{length, getD, set, take, drop, List·getD-map}
+use lib.Seq.{take-all}
+use lib.Dec.{ltb}
+use Rattle.lists.specs.Find.{pick}
+use Rattle.lists.specs.Tab.{tab, front}
+use Rattle.lists.proofs.TabLaws as tabs
+use Rattle.image.specs.declared.Content.{Content}
+use Rattle.machine.specs.Line.{cachedAt}
+use Rattle.machine.specs.declared.Machine.{Machine}
+use Rattle.endtable.specs.Rows.{rowAfter, countAfter}
+use Rattle.endtable.specs.Tables.{tableAfter, countsAfter}
+use Rattle.endtable.specs.declared.touch.Touch.{Touch}
+use Rattle.pages.specs.Rows.{atsOf, countsOf, noRow, noRows, rowAt, rowsOf, rowJoined, rowsTouched, noTable, noCounts, atsTo, countsTo}
+use Rattle.pages.specs.declared.rows.Row.{Row}
+
+map-set : {A B : Type 0} (f : A → B) (l : List A) (i : ℕ) (v : A) → map f (set l i v) ≡ set (map f l) i (f v)
+map-set f [] i v = refl
+map-set f (x ∷ l) zero v = refl
+map-set f (x ∷ l) (suc i) v = ap (λ r. f x ∷ r) (map-set f l i v)
+
+map-app : {A B : Type 0} (f : A → B) (l r : List A) → map f (l ++ r) ≡ map f l ++ map f r
+map-app f [] r = refl
+map-app f (x ∷ l) r = ap (λ z. f x ∷ z) (map-app f l r)
+
+map-tab : {A B : Type 0} (f : A → B) (g : ℕ → A) (n : ℕ) → map f (tab g n) ≡ tab (λ i. f (g i)) n
+unfolding tab
+map-tab f g zero = refl
+map-tab f g (suc n) = map-app f (tab g n) (g n ∷ []) ∙ ap (λ r. r ++ (f (g n) ∷ [])) (map-tab f g n)
+
+nil-right : {A : Type 0} (l : List A) → l ++ [] ≡ l
+nil-right [] = refl
+nil-right (x ∷ l) = ap (λ r. x ∷ r) (nil-right l)
+
+pub length-no : length noRows ≡ 65
+unfolding noRows
+length-no = refl
+
+rows-all : (t : List (List Content)) (cs : List ℕ) → rowsOf t cs 65 ≡ tab (rowAt t cs) 65
+unfolding rowsOf front noRows
+rows-all t cs = nil-right (tab (rowAt t cs) 65)
+
+list-tab : {A : Type 0} (l : List A) (d : A) (n : ℕ) → length l ≡ n → tab (λ i. getD l i d) n ≡ l
+list-tab l d n e =
+    tabs.tab-same (λ i. getD l i d) (λ i. getD l (0 + i) d) n (λ i h. ap (λ j. getD l j d) (let z : i ≡ 0 + i = omega arith in z))
+    ∙ sym (tabs.take-drop-tab l d 0 n (omega arith))
+    ∙ take-all n l (omega arith)
+
+pub rows-ats : (t : List (List Content)) (cs : List ℕ) → length t ≡ 65 → atsOf (rowsOf t cs 65) ≡ t
+rows-ats t cs h = ap atsOf (rows-all t cs) ∙ map-tab (λ r. r .at) (rowAt t cs) 65 ∙ list-tab t [] 65 h
+
+pub rows-counts : (t : List (List Content)) (cs : List ℕ) → length cs ≡ 65 → countsOf (rowsOf t cs 65) ≡ cs
+rows-counts t cs h = ap countsOf (rows-all t cs) ∙ map-tab (λ r. r .count) (rowAt t cs) 65 ∙ list-tab cs 0 65 h
+
+at-of : (rows : List Row) (l : ℕ) → getD (atsOf rows) l [] ≡ getD rows l noRow .at
+at-of rows l = List·getD-map (λ (r : Row). r .at) rows l noRow
+
+count-of : (rows : List Row) (l : ℕ) → getD (countsOf rows) l 0 ≡ getD rows l noRow .count
+count-of rows l = List·getD-map (λ (r : Row). r .count) rows l noRow
+
+-- ---- after an event
+
+pub touched-ats : (rows : List Row) (w : Touch) (next : Machine)
+    → atsOf (rowsTouched rows w next) ≡ tableAfter (atsOf rows) (countsOf rows) w (cachedAt next (w .line))
+unfolding tableAfter rowJoined
+touched-ats rows w next = by (ltb (w .line) 65)
+  where
+    by : (b : Bool) → atsOf (pick b (set rows (w .line) (rowJoined (getD rows (w .line) noRow) (cachedAt next (w .line)) (w .persisted))) rows)
+        ≡ pick b (set (atsOf rows) (w .line) (rowAfter (getD (atsOf rows) (w .line) []) (getD (countsOf rows) (w .line) 0) (cachedAt next (w .line)) (w .persisted))) (atsOf rows)
+    by true =
+        map-set (λ (r : Row). r .at) rows (w .line) (rowJoined (getD rows (w .line) noRow) (cachedAt next (w .line)) (w .persisted))
+        ∙ ap₂ (λ (a : List Content) (n : ℕ). set (atsOf rows) (w .line) (rowAfter a n (cachedAt next (w .line)) (w .persisted))) (sym (at-of rows (w .line))) (sym (count-of rows (w .line)))
+    by false = refl
+
+pub touched-counts : (rows : List Row) (w : Touch) (next : Machine)
+    → countsOf (rowsTouched rows w next) ≡ countsAfter (atsOf rows) (countsOf rows) w (cachedAt next (w .line))
+unfolding countsAfter rowJoined
+touched-counts rows w next = by (ltb (w .line) 65)
+  where
+    by : (b : Bool) → countsOf (pick b (set rows (w .line) (rowJoined (getD rows (w .line) noRow) (cachedAt next (w .line)) (w .persisted))) rows)
+        ≡ pick b (set (countsOf rows) (w .line) (countAfter (getD (atsOf rows) (w .line) []) (getD (countsOf rows) (w .line) 0) (cachedAt next (w .line)) (w .persisted))) (countsOf rows)
+    by true =
+        map-set (λ (r : Row). r .count) rows (w .line) (rowJoined (getD rows (w .line) noRow) (cachedAt next (w .line)) (w .persisted))
+        ∙ ap₂ (λ (a : List Content) (n : ℕ). set (countsOf rows) (w .line) (countAfter a n (cachedAt next (w .line)) (w .persisted))) (sym (at-of rows (w .line))) (sym (count-of rows (w .line)))
+    by false = refl
+
+-- the loop that packs them
+pub rows-next : (t : List (List Content)) (cs : List ℕ) (i : ℕ) → i < 65 → set (rowsOf t cs i) i (rowAt t cs i) ≡ rowsOf t cs (i + 1)
+unfolding rowsOf front
+rows-next t cs i h = tabs.tab-set (rowAt t cs) i noRows (omega (arith, length-no))
+
+pub rows-none : (t : List (List Content)) (cs : List ℕ) → noRows ≡ rowsOf t cs 0
+unfolding rowsOf front tab
+rows-none t cs = refl
+
+-- ---- and that unpack them
+
+pub length-no-table : length noTable ≡ 65
+unfolding noTable
+length-no-table = refl
+
+pub length-no-counts : length noCounts ≡ 65
+unfolding noCounts
+length-no-counts = refl
+
+pub ats-none : (rows : List Row) → noTable ≡ atsTo rows 0
+unfolding atsTo front tab
+ats-none rows = refl
+
+pub counts-none : (rows : List Row) → noCounts ≡ countsTo rows 0
+unfolding countsTo front tab
+counts-none rows = refl
+
+pub ats-next : (rows : List Row) (i : ℕ) → i < 65 → set (atsTo rows i) i (getD rows i noRow .at) ≡ atsTo rows (i + 1)
+unfolding atsTo front
+ats-next rows i h = tabs.tab-set (λ l. getD rows l noRow .at) i noTable (omega (arith, length-no-table))
+
+pub counts-next : (rows : List Row) (i : ℕ) → i < 65 → set (countsTo rows i) i (getD rows i noRow .count) ≡ countsTo rows (i + 1)
+unfolding countsTo front
+counts-next rows i h = tabs.tab-set (λ l. getD rows l noRow .count) i noCounts (omega (arith, length-no-counts))
+
+pub ats-all : (rows : List Row) → length rows ≡ 65 → atsTo rows 65 ≡ atsOf rows
+unfolding atsTo front noTable
+ats-all rows h =
+    nil-right (tab (λ l. getD rows l noRow .at) 65)
+    ∙ sym (map-tab (λ (r : Row). r .at) (λ l. getD rows l noRow) 65)
+    ∙ ap atsOf (list-tab rows noRow 65 h)
+
+pub counts-all : (rows : List Row) → length rows ≡ 65 → countsTo rows 65 ≡ countsOf rows
+unfolding countsTo front noCounts
+counts-all rows h =
+    nil-right (tab (λ l. getD rows l noRow .count) 65)
+    ∙ sym (map-tab (λ (r : Row). r .count) (λ l. getD rows l noRow) 65)
+    ∙ ap countsOf (list-tab rows noRow 65 h)
