@@ -1,6 +1,5 @@
 pub mod RisenLaws
 pub mod QueueLaws
-pub mod WordLaws
 pub mod TableLaws
 pub mod AnswerLaws
 pub mod LinkLaws

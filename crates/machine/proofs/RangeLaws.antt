@@ -22,7 +22,7 @@ use Rattle.machine.specs.declared.Node.{Node}
 use Rattle.machine.proofs.AcceptedLaws.{Accepted, accepted-start, any-none}
 use Rattle.machine.proofs.LinkLaws as links
 use Rattle.machine.proofs.StartLaws as starts
-use Rattle.machine.proofs.WordLaws.{wordOf-lt}
+use Rattle.lists.proofs.WordLaws.{wordOf-lt}
 
 all-of : (a b c d e : Bool) → a ≡ true → b ≡ true → c ≡ true → d ≡ true → e ≡ true → both a (both b (both c (both d e))) ≡ true
 all-of a b c d e p q r s t = rw (p, q, r, s, t)

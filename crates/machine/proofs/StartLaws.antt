@@ -28,7 +28,7 @@ use Rattle.machine.proofs.AcceptedLaws.{Accepted, accepted-start, taken
 use Rattle.machine.proofs.AnswerLaws.{start-taken}
 use Rattle.machine.proofs.RisenLaws.{risen-in, risen-all, risen-up, among-getD}
 use Rattle.machine.proofs.LinkLaws as links
-use Rattle.machine.proofs.WordLaws.{has-wordOf, wordOf-lt, has-beyond}
+use Rattle.lists.proofs.WordLaws.{has-wordOf, wordOf-lt, has-beyond}
 
 -- ---- the tables of any start
 

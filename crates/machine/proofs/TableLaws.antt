@@ -22,7 +22,7 @@ use Rattle.machine.specs.Record.{none, blankNodes}
 use Rattle.machine.specs.Start.{behind, lastOf, startNode, spare}
 use Rattle.machine.specs.Laid.{startNodes, startKept, startFree}
 use Rattle.machine.proofs.QueueLaws.{least-le}
-use Rattle.machine.proofs.WordLaws.{wordOf-lt}
+use Rattle.lists.proofs.WordLaws.{wordOf-lt}
 
 -- ---- along the first c places of a table
 

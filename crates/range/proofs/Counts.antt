@@ -9,7 +9,7 @@ use borrow.Author.Tests.{eq-eqb, ne-eqb}
 use lib.Dec.{eqb}
 use Rattle.lists.specs.Find.{pick, any, count}
 use Rattle.lists.specs.Word.{has}
-use Rattle.bits.proofs.WordLaws as words
+use Rattle.lists.proofs.WordLaws as words
 use Rattle.machine.specs.Record.{none, node}
 use Rattle.machine.specs.Place.{reached, inQueue, isWaiting, isHeld, inEnqueue, inDequeue, placesOf}
 use Rattle.machine.specs.declared.Machine.{Machine}

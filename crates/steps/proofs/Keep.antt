@@ -10,7 +10,7 @@ use lib.ListN.{getD, set}
 use lib.Dec.{eqb}
 use Rattle.lists.specs.Find.{pick}
 use Rattle.lists.specs.Word.{with, without}
-use Rattle.bits.proofs.WordLaws as words
+use Rattle.lists.proofs.WordLaws as words
 use Rattle.image.specs.Layout.{noContent}
 use Rattle.image.specs.declared.Content.{Content}
 use Rattle.machine.specs.Record.{zeroNode, zeroThread, node, kept, withWaits, idleThread, putTail, putFree, putKeptHead, putHead, putNode, putKept, putThread}

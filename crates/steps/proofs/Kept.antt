@@ -7,7 +7,7 @@ use lib.Dec.{eqb}
 use borrow.Author.Tests.{eqb-false}
 use Rattle.lists.specs.Find.{pick, both}
 use Rattle.lists.specs.Word.{with, without}
-use Rattle.bits.proofs.WordLaws as words
+use Rattle.lists.proofs.WordLaws as words
 use Rattle.answer.specs.declared.Answer.the-variants.{Full, WornOut}
 use Rattle.machine.specs.Record.{none, top, node, thread, contentOf, ownNode, readTail, readNext, readItem, readHead, atStep, withItem, withNext, withLinked, withIndex, putNode, putTail, putFree, putHead}
 use Rattle.machine.specs.Stage.{Stage, noStep, A1, A2, A3, A4, A5, A6, A7, A8, A9, A10, A11, A12, D1, D2, D3, D4, D5, D6, D7, stageOf, stage}

@@ -8,7 +8,7 @@ use lib.ListN.{List·getD-eq-default}
 use lib.Pow.{pow-mono}
 use Rattle.lists.specs.Find.{least}
 use Rattle.lists.specs.Word.{has, with, wordOf}
-use Rattle.bits.proofs.WordLaws as words
+use Rattle.lists.proofs.WordLaws as words
 use Rattle.machine.specs.Record.{node, contentOf, putKept}
 use Rattle.machine.specs.Stage.{noStep, stages, stageOf}
 use Rattle.machine.specs.Line.{persist}

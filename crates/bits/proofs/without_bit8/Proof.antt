@@ -1,4 +1,4 @@
-use Rattle.bits.proofs.WordLaws as laws
+use Rattle.lists.proofs.WordLaws as laws
 use Rattle.lists.specs.Word.{without}
 use mathlib.Core.Path.{sym, _∙_}
 use borrow.Author.Needs.{needs}

@@ -3,7 +3,7 @@ use mathlib.Core.Path.{sym}
 use native.Mathlib.Omega.{arith}
 use borrow.Author.Tests.{lt-ltb}
 use borrow.Author.Needs.{needs}
-use Rattle.bits.proofs.WordLaws as words
+use Rattle.lists.proofs.WordLaws as words
 use Rattle.range.proofs.set_fits.Statement.{statement}
 use Rattle.range.proofs.set_fits.Tie as tie
 

@@ -1,6 +1,6 @@
 use mathlib.Core.Path.{sym, _∙_}
 use Rattle.machine.proofs.TableLaws as tables
-use Rattle.machine.proofs.WordLaws.{one-shifted}
+use Rattle.lists.proofs.WordLaws.{one-shifted}
 use borrow.Author.Needs.{needs}
 use Rattle.machine.proofs.start.with_spare.Statement.{statement}
 use Rattle.machine.proofs.start.with_spare.Tie as tie
