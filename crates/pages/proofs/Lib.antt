@@ -1,3 +1,4 @@
 pub mod RowLaws
 pub mod GoingLaws
 pub mod PageLaws
+pub mod Unique
