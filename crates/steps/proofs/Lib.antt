@@ -2,3 +2,4 @@ pub mod StepLaws
 pub mod Fit
 pub mod Keep
 pub mod Kept
+pub mod KeptEvent
