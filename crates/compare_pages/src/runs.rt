@@ -1,0 +1,54 @@
+// The sum of many endings out of one run. The public call makes the run again for each ending, which is too slow for thousands.
+ghost use mathlib.Core.Path.{_≡_};
+ghost use mathlib.Core.Bool.{true};
+ghost use Prim.Native.Nat.{_≤_};
+ghost use lib.ListN.{length};
+ghost use Rattle.answer.specs.Answers.{accepted};
+ghost use Rattle.machine.specs.Line.{lineCount};
+ghost use Rattle.endtable.specs.Picks.{Ready};
+ghost use Rattle.pages.specs.Paged.{PageIs};
+use crate::sums::START;
+use crate::sums::sum_front;
+use endtable::ending::ending_image;
+use endtable::ending::ending_picks;
+use image::Content;
+use pages::running::Run;
+
+fn sum_table(t: [[Content; 16]; 65], counts: [u8; 65], n: u8, count: u32, lent: &mut [u8]) -> u64
+    requires { ⌜ (n ≤ 64) × Ready counts (lineCount n) × (586 ≤ length (now lent)) ⌝ }
+{
+    let whole = 10 + (n as usize) * 9;
+    let mut sum = START;
+    let mut k = 0;
+    while k < count {
+        let picks = ending_picks(counts, n, k);
+        let g = ending_image(t, picks, n);
+        codec::put_image(lent, g);
+        let next = sum_front(sum, lent, whole);
+        sum = next;
+        k += 1;
+    }
+    sum
+}
+
+fn sum_run(s: &[u8], r: Run, count: u32) -> u64
+    requires { ⌜ PageIs (now s) r × (accepted (r .answer) ≡ true) ⌝ }
+{
+    let m = r.machine;
+    let n = m.n;
+    let rows = r.rows;
+    let counts = pages::tables::counts_of(rows);
+    let t = pages::tables::table_of(rows);
+    let mut lent = [0u8; 586];
+    sum_table(t, counts, n, count, &mut lent)
+}
+
+// The sum of a schedule's first `count` endings; of no bytes where it is refused.
+pub(crate) fn sum_endings(s: &[u8], count: u32) -> u64 {
+    let r = pages::paging::page_of(s);
+    let a = r.answer;
+    if !codec::is_taken(a) {
+        return START;
+    }
+    sum_run(s, r, count)
+}
