@@ -2,3 +2,4 @@ pub mod Contents
 pub mod Endings
 pub mod Refusals
 pub mod Printed
+pub mod Filled
