@@ -5,3 +5,4 @@ pub mod ReadWrite
 pub mod Same
 pub mod Unique
 pub mod WriteRead
+pub mod Long
