@@ -1,7 +1,7 @@
 // Contents of a memory. An item: N (1 byte), head index (4), 64 nodes of linked (1), index (4) and item (4); more may stand behind.
 ghost use Prim.Native.Nat.{_≤_};
-use crate::input::byte;
-use crate::input::word;
+use stream::byte;
+use stream::word;
 use image::Content;
 use image::Image;
 

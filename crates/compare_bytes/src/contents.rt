@@ -3,7 +3,7 @@ ghost use Prim.Native.Nat.{_≤_};
 ghost use lib.ListN.{length};
 use compare::answers::told_of;
 use compare::contents::contents_of;
-use compare::input::half;
+use stream::half;
 use compare::text::put;
 use compare::text::put_front;
 use compare::text::put_pair;

@@ -7,7 +7,7 @@ mod contents;
 mod images;
 mod schedules;
 
-use compare::input::next_item;
+use stream::next_item;
 use compare::text::finish;
 use contents::answer_contents;
 use images::answer_image;

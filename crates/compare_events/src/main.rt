@@ -11,7 +11,7 @@ mod records;
 mod starts;
 mod traces;
 
-use compare::input::next_item;
+use stream::next_item;
 use compare::text::finish;
 use libc::STDIN_FILENO;
 use records::answer_places;

@@ -3,7 +3,7 @@ use crate::moments::put_moment;
 use crate::moments::put_moment_sum;
 use compare::answers::told_of;
 use compare::contents::contents_of;
-use compare::input::byte;
+use stream::byte;
 use compare::text::put_refusal;
 use machine::Machine;
 

@@ -7,7 +7,7 @@ use crate::sums::put_sum_line;
 use crate::sums::sum_front;
 use answer::Told;
 use compare::answers::told_of;
-use compare::input::byte;
+use stream::byte;
 use compare::text::put;
 use compare::text::put_all;
 use compare::text::put_decimal;

@@ -9,7 +9,7 @@ mod endings;
 mod runs;
 mod sums;
 
-use compare::input::next_item;
+use stream::next_item;
 use compare::text::finish;
 use endings::answer_schedule;
 

@@ -1,6 +1,6 @@
 use native.Mathlib.Omega.{arith}
-use Rattle.compare.proofs.input.pass_over.Statement.{statement}
-use Rattle.compare.proofs.input.pass_over.Tie as tie
+use Rattle.stream.proofs.pass_over.Statement.{statement}
+use Rattle.stream.proofs.pass_over.Tie as tie
 
 abbrev Inv-loop : tie.InvT-loop
 Inv-loop count left₀ left = Unit {0}
@@ -14,6 +14,9 @@ loop-holds c = tt
 pass-some-requires : tie.Need-pass-some-requires Inv-loop μ-loop
 pass-some-requires c κs = omega arith
 
+returns : tie.Need-returns Inv-loop μ-loop
+returns c = tt
+
 sub-left : tie.Need-sub-left Inv-loop μ-loop
 sub-left c = omega arith
 
@@ -26,8 +29,8 @@ loop-again c = tt
 pass-some-requires-2 : tie.Need-pass-some-requires-2 Inv-loop μ-loop
 pass-some-requires-2 c κs = omega arith
 
-returns : tie.Need-returns Inv-loop μ-loop
-returns c = tt
+returns-2 : tie.Need-returns-2 Inv-loop μ-loop
+returns-2 c = tt
 
 pub pass-over-spec : {M : Type 1} → statement M
 pass-over-spec =
@@ -37,8 +40,9 @@ pass-over-spec =
     μ-loop
     loop-holds
     pass-some-requires
+    returns
     sub-left
     loop-less
     loop-again
     pass-some-requires-2
-    returns)
+    returns-2)

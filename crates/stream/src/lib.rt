@@ -1,4 +1,4 @@
-// The stream of items on standard input, each behind its length (4 bytes, little-endian).
+// A stream of items on standard input, each behind its length (4 bytes, little-endian).
 ghost use Prim.Native.Nat.{_≤_};
 ghost use lib.ListN.{length};
 use libc::STDIN_FILENO;
@@ -29,9 +29,10 @@ pub fn word(s: &[u8], at: usize) -> u32
     low + high * 65536
 }
 
-// What came of reading an item: whether there was one, and how many of its bytes were kept.
+// What came of reading an item: whether there was a whole one, whether the input ended within one, how many of its bytes were kept.
 pub struct Next {
     pub there: bool,
+    pub cut: bool,
     pub kept: usize,
 }
 
@@ -43,21 +44,44 @@ fn read_some(buffer: &mut [u8], n: usize) -> usize
     io::read_full(STDIN_FILENO, &mut buffer[..n])
 }
 
-fn pass_some(n: usize)
+fn pass_some(n: usize) -> usize
     requires { ⌜ n ≤ 4096 ⌝ }
 {
     let mut nowhere = [0u8; 4096];
-    read_some(&mut nowhere, n);
+    read_some(&mut nowhere, n)
 }
 
-// Passes over bytes of the input.
-fn pass_over(count: usize) {
+// Passes over bytes of the input; whether they were all there.
+fn pass_over(count: usize) -> bool {
     let mut left = count;
     while left > 4096 {
-        pass_some(4096);
+        let got = pass_some(4096);
+        if got < 4096 {
+            return false;
+        }
         left -= 4096;
     }
-    pass_some(left);
+    let got = pass_some(left);
+    got == left
+}
+
+fn lesser(a: usize, b: usize) -> usize
+    ensures { λ r. ⌜ (r ≤ a) × (r ≤ b) ⌝ }
+{
+    if a <= b {
+        return a;
+    }
+    b
+}
+
+fn ended(cut: bool) -> Next
+    ensures { λ r. ⌜ r .kept ≤ 0 ⌝ }
+{
+    Next {
+        there: false,
+        cut,
+        kept: 0,
+    }
 }
 
 // The next item into the buffer. Of one that is longer than the buffer the first part is kept and the rest passed over.
@@ -67,18 +91,21 @@ pub fn next_item(buffer: &mut [u8]) -> Next
     let mut head = [0u8; 4];
     let got = io::read_full(STDIN_FILENO, &mut head);
     if got < 4 {
-        return Next {
-            there: false,
-            kept: 0,
-        };
+        return ended(got != 0);
     }
     let long = word(&head, 0) as usize;
     let room = buffer.len();
-    if long <= room {
-        let kept = read_some(buffer, long);
-        return Next { there: true, kept };
+    let first = lesser(long, room);
+    let kept = read_some(buffer, first);
+    if kept < first {
+        return ended(true);
     }
-    let kept = read_some(buffer, room);
-    pass_over(long - room);
-    Next { there: true, kept }
+    if !pass_over(long - first) {
+        return ended(true);
+    }
+    Next {
+        there: true,
+        cut: false,
+        kept,
+    }
 }

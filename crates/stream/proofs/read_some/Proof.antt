@@ -3,8 +3,8 @@ use mathlib.Core.Path.{sym}
 use lib.ListN.{length, take}
 use lib.Seq.{length-take-le}
 use borrow.Author.Needs.{needs}
-use Rattle.compare.proofs.input.read_some.Statement.{statement}
-use Rattle.compare.proofs.input.read_some.Tie as tie
+use Rattle.stream.proofs.read_some.Statement.{statement}
+use Rattle.stream.proofs.read_some.Tie as tie
 
 slice-relend-prefix-read-full : tie.Need-slice-relend-prefix-read-full
 slice-relend-prefix-read-full c = search needs
