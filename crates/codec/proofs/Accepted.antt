@@ -42,7 +42,7 @@ pub check-true : (b : Bool) (a rest : Answer) → accepted a ≡ false → accep
 check-true true a rest e h = false-true (sym e ∙ h)
 check-true false a rest e h = (refl, h)
 
-not-passed : (b : Bool) → not b ≡ false → b ≡ true
+pub not-passed : (b : Bool) → not b ≡ false → b ≡ true
 not-passed true e = refl
 not-passed false e = sym e
 

@@ -16,16 +16,12 @@ use Rattle.image.specs.Layout.{marked, isImage, nodePlace, imageIn}
 use Rattle.image.specs.Refusals.{nodesFit, sound, imageAnswer}
 use Rattle.machine.specs.Start.{threadsFit}
 use Rattle.schedule.specs.Layout.{isSchedule, threadsIn, countIn, imagePart, scheduleAnswer}
-use Rattle.codec.proofs.Accepted.{false-true, nodes-most}
+use Rattle.codec.proofs.Accepted.{not-passed, nodes-most}
 
 -- a check is passed, or what follows is not looked at
 under : (b : Bool) (a x y : Answer) → (b ≡ false → x ≡ y) → check b a x ≡ check b a y
 under true a x y h = refl
 under false a x y h = h refl
-
-passed : (b : Bool) → not b ≡ false → b ≡ true
-passed true e = refl
-passed false e = sym e
 
 -- the answer without a look at the length
 unfoldable frontAnswer : List ℕ → Answer
@@ -52,7 +48,7 @@ module _ (s : List ℕ) (h : 25170 < length s) where
       under (not (nodesFit (at1 (imagePart s) 5))) Nodes _ _ (λ n.
       never (eqb (length (imagePart s)) (nodePlace (at1 (imagePart s) 5) + countIn s * 6)) (sound (imageIn (imagePart s)) Taken)
       (λ q. let z = eqb-true (length (imagePart s)) (nodePlace (at1 (imagePart s) 5) + countIn s * 6) q in
-      omega (arith, z, length-drop 8 s, nodes-most (at1 (imagePart s) 5) (passed (nodesFit (at1 (imagePart s) 5)) n)))))
+      omega (arith, z, length-drop 8 s, nodes-most (at1 (imagePart s) 5) (not-passed (nodesFit (at1 (imagePart s) 5)) n)))))
 
   front-is : scheduleAnswer s ≡ frontAnswer s
   unfolding scheduleAnswer frontAnswer

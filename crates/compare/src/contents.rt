@@ -1,9 +1,9 @@
 // Contents of a memory. An item: N (1 byte), head index (4), 64 nodes of linked (1), index (4) and item (4); more may stand behind.
 ghost use Prim.Native.Nat.{_≤_};
-use stream::byte;
-use stream::word;
 use image::Content;
 use image::Image;
+use stream::byte;
+use stream::word;
 
 fn content_of(s: &[u8], at: usize) -> Content
     requires { ⌜ at ≤ 10000 ⌝ }

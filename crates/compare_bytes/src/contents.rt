@@ -3,11 +3,11 @@ ghost use Prim.Native.Nat.{_≤_};
 ghost use lib.ListN.{length};
 use compare::answers::told_of;
 use compare::contents::contents_of;
-use stream::half;
 use compare::text::put;
 use compare::text::put_front;
 use compare::text::put_pair;
 use image::Image;
+use stream::half;
 
 // Lends the buffer's front, and puts number, place and the whole of what was lent.
 fn put_written(out: &mut [u8; 65536], at: usize, g: Image, lent: &mut [u8], room: usize) -> usize

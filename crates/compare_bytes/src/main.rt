@@ -7,12 +7,12 @@ mod contents;
 mod images;
 mod schedules;
 
-use stream::next_item;
 use compare::text::finish;
 use contents::answer_contents;
 use images::answer_image;
 use libc::STDIN_FILENO;
 use schedules::answer_schedule;
+use stream::next_item;
 
 fn answer_one(mode: u8, s: &[u8], out: &mut [u8; 65536], at: usize) -> usize {
     match mode {

@@ -11,7 +11,6 @@ mod records;
 mod starts;
 mod traces;
 
-use stream::next_item;
 use compare::text::finish;
 use libc::STDIN_FILENO;
 use records::answer_places;
@@ -19,6 +18,7 @@ use records::answer_record;
 use records::answer_saved;
 use starts::answer_fresh;
 use starts::answer_start;
+use stream::next_item;
 use traces::answer_trace;
 
 fn answer_one(mode: u8, s: &[u8], out: &mut [u8; 65536], at: usize) -> usize {

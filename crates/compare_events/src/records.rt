@@ -4,14 +4,14 @@ ghost use lib.ListN.{length};
 use crate::moments::put_moment;
 use answer::Told;
 use compare::answers::told_of;
-use stream::byte;
-use stream::half;
-use stream::word;
 use compare::text::put;
 use compare::text::put_front;
 use compare::text::put_pair;
 use machine::Event;
 use machine::Machine;
+use stream::byte;
+use stream::half;
+use stream::word;
 
 // The record in front of the item. One that is too short for a record reads as the blank machine.
 fn record_of(s: &[u8]) -> Machine {

@@ -3,9 +3,9 @@ use crate::moments::put_moment;
 use crate::moments::put_moment_sum;
 use compare::answers::told_of;
 use compare::contents::contents_of;
-use stream::byte;
 use compare::text::put_refusal;
 use machine::Machine;
+use stream::byte;
 
 // The last digit of the byte behind the nodes is T.
 pub(crate) fn answer_start(s: &[u8], out: &mut [u8; 65536], at: usize) -> usize {

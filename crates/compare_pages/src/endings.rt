@@ -7,12 +7,12 @@ use crate::sums::put_sum_line;
 use crate::sums::sum_front;
 use answer::Told;
 use compare::answers::told_of;
-use stream::byte;
 use compare::text::put;
 use compare::text::put_all;
 use compare::text::put_decimal;
 use compare::text::put_front;
 use compare::text::put_refusal;
+use stream::byte;
 
 // Ending k into the buffer's front of `room` bytes.
 fn lend(s: &[u8], k: u64, lent: &mut [u8], room: usize) -> Told

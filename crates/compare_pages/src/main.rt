@@ -9,9 +9,9 @@ mod endings;
 mod runs;
 mod sums;
 
-use stream::next_item;
 use compare::text::finish;
 use endings::answer_schedule;
+use stream::next_item;
 
 // Nothing says that the input ends, so the turns are counted down from a number that no run uses up.
 fn answer_all(item: &mut [u8], out: &mut [u8; 65536]) -> usize {

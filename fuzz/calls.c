@@ -1,0 +1,193 @@
+/* The library's calls beside the second program's functions. */
+#include "fuzz.h"
+
+u64 numbers_seen[NUMBERS];
+
+enum { ROOM = 2048 };
+
+static int differ(const char *call, u64 ours, u64 theirs)
+{
+    put_text("differs: ");
+    put_text(call);
+    put_text(": the library ");
+    put_number(ours);
+    put_text(", the second program ");
+    put_number(theirs);
+    put_text("\n");
+    return 0;
+}
+
+/* number + 256 * place, or 256 * value where it is taken */
+static u64 packed(Verdict v, u64 value)
+{
+    numbers_seen[v.number]++;
+    return v.number == TAKEN ? 256 * value : v.number + 256 * (u64)v.place;
+}
+
+static int same_number(const char *call, u64 ours, u64 theirs)
+{
+    return ours == theirs ? 1 : differ(call, ours, theirs);
+}
+
+static int same_bytes(const char *call, const u8 *ours, const u8 *theirs, u64 length)
+{
+    for (u64 i = 0; i < length; i++)
+        if (ours[i] != theirs[i])
+            return differ(call, ours[i], theirs[i]);
+    return 1;
+}
+
+/* Two buffers with the same bytes in them, so that those that stay can be told. */
+static void fill_both(u8 *a, u8 *b, u64 length)
+{
+    for (u64 i = 0; i < length; i++)
+        a[i] = b[i] = (u8)random_bits();
+}
+
+int agree_on_bytes(const u8 *bytes, u64 length)
+{
+    Schedule schedule;
+    Image image;
+    u64 count = 0;
+    u64 skip = length < SCHEDULE_HEAD ? length : SCHEDULE_HEAD;
+    u64 image_bytes = length - skip;
+    if (length >= SCHEDULE_HEAD + IMAGE_HEAD && chance(80) && image_length(bytes[SCHEDULE_HEAD + 5]) < image_bytes)
+        image_bytes = image_length(bytes[SCHEDULE_HEAD + 5]); /* without the events */
+    return same_number("uq_check_image", uq_check_image(bytes + skip, image_bytes), packed(read_image(bytes + skip, image_bytes, &image), 0))
+        && same_number("uq_check_schedule", uq_check_schedule(bytes, length), packed(read_schedule(bytes, length, &schedule), 0))
+        && same_number("uq_count_endings", uq_count_endings(bytes, length), packed(endings_of(bytes, length, &schedule, &the_bench, &count), count));
+}
+
+int agree_on_ending(const u8 *bytes, u64 length)
+{
+    static u8 ours[ROOM], theirs[ROOM];
+    Schedule schedule;
+    u64 count = 0;
+    u32 taken = endings_of(bytes, length, &schedule, &the_bench, &count).number == TAKEN;
+    u64 whole = taken ? image_length(schedule.image.n) : below(600);
+    u64 k = chance(70) && count > 0 ? below((u32)count) : chance(50) ? count : chance(50) ? count + below(3) : random_bits();
+    u64 room = chance(60) ? whole + below(40) : chance(50) ? whole : chance(50) ? whole - 1 : below(700);
+    fill_both(ours, theirs, ROOM);
+    return same_number("uq_ending", uq_ending(bytes, length, k, ours, room), packed(write_ending(bytes, length, k, theirs, room), 0))
+        && same_bytes("uq_ending, the buffer", ours, theirs, ROOM);
+}
+
+/* The second program's page, cut into lines here: as many as fit from line `first` on. */
+int agree_on_lines(const u8 *bytes, u64 length)
+{
+    enum { PAGE = 1 << 16 };
+    static u8 page[PAGE], ours[ROOM], theirs[ROOM];
+    capture_output(page, PAGE);
+    u32 number = print_page(bytes, length);
+    u64 size = end_capture();
+    u64 count = 0;
+    fill_both(ours, theirs, ROOM);
+    if (number != TAKEN) {
+        u64 result = uq_page_lines(bytes, length, below(3), ours, ROOM), room = chance(70) ? size + below(5) : below((u32)size);
+        if (uq_number(result) != number || !same_bytes("uq_page_lines, a refusal", ours, theirs, ROOM))
+            return differ("uq_page_lines", uq_number(result), number);
+        for (u64 i = 0; i < size && size <= room; i++)
+            theirs[i] = page[i];
+        u64 expected = size <= room ? 4294967296u * size + 256 : BUFFER_TOO_SHORT;
+        return same_number("uq_refusal_line", uq_refusal_line(number, (uint32_t)uq_value(result), ours, room), expected)
+            && same_bytes("uq_refusal_line, the buffer", ours, theirs, ROOM);
+    }
+    if (size == PAGE)
+        return 1; /* too long to be looked at here */
+    for (u64 i = 0; i < size; i++)
+        count += page[i] == '\n';
+    u64 first = chance(80) ? below((u32)count) : count + below(2), room = below(chance(50) ? 60 : ROOM);
+    u64 from = 0, line = 0, taken = 0, used = 0;
+    for (; line < first && from < size; from++)
+        line += page[from] == '\n';
+    for (u64 end = from; end < size; end++)
+        if (page[end] == '\n') {
+            if (end + 1 - from > room)
+                break;
+            used = end + 1 - from;
+            taken++;
+        }
+    for (u64 i = 0; i < used; i++)
+        theirs[i] = page[from + i];
+    u64 expected = first >= count ? NO_SUCH_ENDING : taken == 0 ? BUFFER_TOO_SHORT : 4294967296u * used + 256 * taken;
+    return same_number("uq_page_lines", uq_page_lines(bytes, length, first, ours, room), expected)
+        && same_bytes("uq_page_lines, the buffer", ours, theirs, ROOM);
+}
+
+int agree_on_start(const u8 *bytes, u64 length)
+{
+    static u8 ours[ROOM], theirs[ROOM];
+    Image image;
+    Machine machine;
+    u64 skip = length < SCHEDULE_HEAD ? length : SCHEDULE_HEAD;
+    u64 rest = length - skip, room = chance(90) ? RECORD_BYTES + below(9) : below(RECORD_BYTES);
+    u32 threads = below(chance(80) ? 9 : 256);
+    if (length >= SCHEDULE_HEAD + IMAGE_HEAD && image_length(bytes[SCHEDULE_HEAD + 5]) < rest)
+        rest = image_length(bytes[SCHEDULE_HEAD + 5]);
+    Verdict v = threads < 1 || threads > MAX_THREADS ? verdict(WRONG_T, 0) : read_image(bytes + skip, rest, &image);
+    if (v.number == TAKEN && room < RECORD_BYTES)
+        v = verdict(BUFFER_TOO_SHORT, 0);
+    fill_both(ours, theirs, ROOM);
+    if (v.number == TAKEN) {
+        start(&machine, threads, &image);
+        record_to_bytes(&machine, theirs);
+    }
+    return same_number("uq_start", uq_start(bytes + skip, rest, (uint8_t)threads, ours, room), packed(v, 0))
+        && same_bytes("uq_start, the record", ours, theirs, ROOM);
+}
+
+static int agree_on_places(const u8 *record, const Machine *m)
+{
+    u8 ours[9], theirs[9];
+    u32 counts[PLACES] = {0}, room = below(9);
+    Verdict v = verdict(!in_range(m) ? OUT_OF_RANGE : room < PLACES ? BUFFER_TOO_SHORT : TAKEN, 0);
+    fill_both(ours, theirs, 9);
+    if (v.number == TAKEN) {
+        count_places(m, counts);
+        for (u32 i = 0; i < PLACES; i++)
+            theirs[i] = (u8)counts[i];
+    }
+    return same_number("uq_places", uq_places(record, RECORD_BYTES, ours, room), packed(v, 0))
+        && same_bytes("uq_places, the buffer", ours, theirs, 9);
+}
+
+static int agree_on_save(const u8 *record, const Machine *m)
+{
+    static u8 ours[ROOM], theirs[ROOM];
+    Image image;
+    u64 room = below(700);
+    Verdict v = verdict(OUT_OF_RANGE, 0);
+    fill_both(ours, theirs, ROOM);
+    if (in_range(m)) {
+        persisted_image(m, &image);
+        v = write_image(&image, theirs, room);
+    }
+    return same_number("uq_save", uq_save(record, RECORD_BYTES, ours, room), packed(v, 0))
+        && same_bytes("uq_save, the buffer", ours, theirs, ROOM);
+}
+
+/* One event on a record, most of which no run leads to; a record of another length is refused by 1. */
+int agree_on_record(u64 seed, u64 number)
+{
+    u8 item[RECORD_BYTES + EVENT_BYTES + 8], theirs[RECORD_BYTES];
+    Machine machine;
+    Reply reply;
+    generate_record_item(seed, number, item);
+    if (chance(20)) {
+        u64 length = RECORD_BYTES;
+        spoil(item, &length, RECORD_BYTES);
+    }
+    Event event = {item[RECORD_BYTES], item[RECORD_BYTES + 1], get4(item + RECORD_BYTES + 2)};
+    record_from_bytes(item, &machine);
+    if (!agree_on_places(item, &machine) || !agree_on_save(item, &machine))
+        return 0;
+    for (u32 i = 0; i < RECORD_BYTES; i++)
+        theirs[i] = item[i];
+    u64 length = chance(95) ? RECORD_BYTES : below(RECORD_BYTES);
+    Verdict v = length == RECORD_BYTES ? perform(&machine, &event, &reply) : verdict(WRONG_LENGTH, 0);
+    if (v.number == TAKEN)
+        record_to_bytes(&machine, theirs);
+    u64 value = v.number == TAKEN ? reply.value + 4294967296u * (u64)reply.number : 0;
+    return same_number("uq_event", uq_event(item, length, (uint8_t)event.kind, (uint8_t)event.number, event.item), packed(v, value))
+        && same_bytes("uq_event, the record", item, theirs, RECORD_BYTES);
+}

@@ -1,0 +1,21 @@
+/* Raw bytes through the static library, beside the second program's functions, in one process. */
+#ifndef FUZZ_H
+#define FUZZ_H
+#include "../include/uq.h"
+#include "../second/second.h"
+
+enum { LONGEST = 70000 };
+
+/* inputs.c: input `number` of a run; gives its length, at most LONGEST. The random numbers go on from there. */
+u64 some_input(u64 seed, u64 number, u8 *bytes);
+void spoil(u8 *bytes, u64 *length, u64 room);
+
+/* calls.c: each answers 1 where the library and the second program agree, and 0 and says what differs where they do not. */
+int agree_on_bytes(const u8 *bytes, u64 length);
+int agree_on_ending(const u8 *bytes, u64 length);
+int agree_on_lines(const u8 *bytes, u64 length);
+int agree_on_record(u64 seed, u64 number);
+int agree_on_start(const u8 *bytes, u64 length);
+extern u64 numbers_seen[NUMBERS];
+
+#endif
