@@ -75,7 +75,7 @@ void spoil(u8 *bytes, u64 *length, u64 room)
 
 u64 some_input(u64 seed, u64 number, u8 *bytes)
 {
-    static const char *const shapes[] = {"tiny", "small", "deep", "bursts", "worn", "valid", "refused"};
+    static const char *const shapes[] = {"tiny", "small", "deep", "bursts", "worn", "valid", "refused", "wild"};
     u64 length;
     seed_random(seed, number);
     u32 kind = below(16);
@@ -87,7 +87,7 @@ u64 some_input(u64 seed, u64 number, u8 *bytes)
         return raw_behind_head(bytes, kind == 3, 0);
     if (kind < 9)
         return raw_behind_head(bytes, 1, 1);
-    length = generate_input(seed + 1, number, shapes[below(7)], bytes);
+    length = generate_input(seed + 1, number, shapes[below(8)], bytes);
     if (kind < 14)
         spoil(bytes, &length, LONGEST);
     return length;
