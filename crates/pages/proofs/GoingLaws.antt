@@ -243,27 +243,37 @@ module _ (s : List ℕ) (d : Schedule) (is : d ≡ scheduleIn s) where
   unfolding scheduleIn
   start-is = ap (λ (x : Schedule). startOf (x .image) (getD s 5 0)) is
 
-  module _ (i : ℕ) (m : Machine) (rows : List Row) (g : Going s i m rows) (lt : i < countIn s) (e : Event) (o : Out) (event : e ≡ eventIn s i) (act : o ≡ eventAt i m e) where
-    out-is : o ≡ eventAt i m (eventIn s i)
-    out-is = act ∙ ap (eventAt i m) event
+  -- the code's tests of one event: t says whether it was taken
+  module _ (i : ℕ) (m : Machine) (rows : List Row) (g : Going s i m rows) (below : i < d .count) (e : Event) (o : Out) (t : Bool)
+      (event : e ≡ eventFrom s (eventPlace (d .image .n) i)) (act : o ≡ eventAt i m e) (told : t ≡ accepted (o .answer)) where
+    lt : i < countIn s
+    lt = omega (arith, count-is)
 
-    pub going-on : accepted (o .answer) ≡ true → length (m .kept) ≡ length (m .nodes) → (r : List Row) → r ≡ rowsAfter rows m e (o .machine) → Going s (i + 1) (o .machine) r
-    going-on a even r q =
-        let n = going-next s i m rows g lt (subst (λ (x : Out). accepted (x .answer) ≡ true) out-is a) even in
+    event-in : e ≡ eventIn s i
+    event-in = event ∙ event-is i
+
+    out-is : o ≡ eventAt i m (eventIn s i)
+    out-is = act ∙ ap (eventAt i m) event-in
+
+    pub going-on : not t ≡ false → (r : List Row) → r ≡ rowsAfter rows m e (o .machine) → Going s (i + 1) (o .machine) r
+    going-on h r q =
+        let n = going-next s i m rows g lt (subst (λ (x : Out). accepted (x .answer) ≡ true) out-is (sym told ∙ taken-of t h)) (going-even s i m rows g) in
         subst (λ (x : Out). Going s (i + 1) (x .machine) r) (sym out-is)
         (subst (Going s (i + 1) (eventAt i m (eventIn s i) .machine))
-        (sym (q ∙ ap₂ (λ (y : Event) (x : Out). rowsAfter rows m y (x .machine)) event out-is)) n)
+        (sym (q ∙ ap₂ (λ (y : Event) (x : Out). rowsAfter rows m y (x .machine)) event-in out-is)) n)
 
-    pub going-on-small : accepted (o .answer) ≡ true → length (m .kept) ≡ length (m .nodes) → o .machine .n ≤ 64
-    going-on-small a even = going-small s (i + 1) (o .machine) (rowsAfter rows m e (o .machine)) (going-on a even (rowsAfter rows m e (o .machine)) refl)
+    pub going-on-small : not t ≡ false → o .machine .n ≤ 64
+    going-on-small h = going-small s (i + 1) (o .machine) (rowsAfter rows m e (o .machine)) (going-on h (rowsAfter rows m e (o .machine)) refl)
 
-    pub going-stop : accepted (o .answer) ≡ false → RunIs s (record { answer = o .answer; machine = m; rows = rows })
-    going-stop a = record {
-      answer = ap (λ (x : Out). x .answer) out-is ∙ going-refused s i m rows g lt (subst (λ (x : Out). accepted (x .answer) ≡ false) out-is a);
-      machine = λ t. taken-or (accepted (o .answer)) a t;
-      small = λ t. taken-or (accepted (o .answer)) a t;
-      tables = λ t. taken-or (accepted (o .answer)) a t;
-    }
+    pub going-stop : not t ≡ true → RunIs s (record { answer = o .answer; machine = m; rows = rows })
+    going-stop h =
+        let a = sym told ∙ refused-of t h in
+        record {
+          answer = ap (λ (x : Out). x .answer) out-is ∙ going-refused s i m rows g lt (subst (λ (x : Out). accepted (x .answer) ≡ false) out-is a);
+          machine = λ y. taken-or (accepted (o .answer)) a y;
+          small = λ y. taken-or (accepted (o .answer)) a y;
+          tables = λ y. taken-or (accepted (o .answer)) a y;
+        }
 
 -- ---- the beginning
 

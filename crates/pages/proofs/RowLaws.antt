@@ -8,16 +8,19 @@ use native.Mathlib.Numerals.{add-one}
 use lib.ListN.{length, getD, set, take, drop, List·getD-map}
 use lib.Seq.{take-all}
 use lib.Dec.{ltb}
+use borrow.Author.Tests.{eq-eqb, ne-eqb, lt-ltb, le-ltb}
 use Rattle.lists.specs.Find.{pick}
 use Rattle.lists.specs.Tab.{tab, front}
 use Rattle.lists.proofs.TabLaws as tabs
 use Rattle.image.specs.declared.Content.{Content}
 use Rattle.machine.specs.Line.{cachedAt}
 use Rattle.machine.specs.declared.Machine.{Machine}
+use Rattle.machine.specs.declared.Event.{Event}
 use Rattle.endtable.specs.Rows.{rowAfter, countAfter}
 use Rattle.endtable.specs.Tables.{tableAfter, countsAfter}
+use Rattle.endtable.specs.Touches.{touchIn}
 use Rattle.endtable.specs.declared.touch.Touch.{Touch}
-use Rattle.pages.specs.Rows.{atsOf, countsOf, noRow, noRows, rowAt, rowsOf, rowJoined, rowsTouched, noTable, noCounts, atsTo, countsTo}
+use Rattle.pages.specs.Rows.{atsOf, countsOf, noRow, noRows, rowAt, rowsOf, openedRows, rowJoined, rowsTouched, rowsAfter, noTable, noCounts, atsTo, countsTo}
 use Rattle.pages.specs.declared.rows.Row.{Row}
 
 map-set : {A B : Type 0} (f : A → B) (l : List A) (i : ℕ) (v : A) → map f (set l i v) ≡ set (map f l) i (f v)
@@ -89,6 +92,26 @@ touched-counts rows w next = by (ltb (w .line) 65)
         map-set (λ (r : Row). r .count) rows (w .line) (rowJoined (getD rows (w .line) noRow) (cachedAt next (w .line)) (w .persisted))
         ∙ ap₂ (λ (a : List Content) (n : ℕ). set (countsOf rows) (w .line) (countAfter a n (cachedAt next (w .line)) (w .persisted))) (sym (at-of rows (w .line))) (sym (count-of rows (w .line)))
     by false = refl
+
+-- the three ways of the loop over the events: a crash, no line touched, a line touched
+module _ (rows : List Row) (m : Machine) (e : Event) (next : Machine) where
+  pub after-crash : e .kind ≡ 5 → openedRows next ≡ rowsAfter rows m e next
+  unfolding rowsAfter
+  after-crash h = rw (eq-eqb (e .kind) 5 h)
+
+  module _ (other : e .kind ≡ 5 → ⊥) (w : Touch) (is : w ≡ touchIn m e) where
+    touched-is : rowsTouched rows w next ≡ rowsAfter rows m e next
+    unfolding rowsAfter
+    touched-is = rw (ne-eqb (e .kind) 5 other, ← is)
+
+    pub after-none : 65 ≤ w .line → rows ≡ rowsAfter rows m e next
+    after-none h = sym (rw (le-ltb (w .line) 65 h)) ∙ touched-is
+
+    pub after-touch : w .line < 65 → (c : Content) → c ≡ cachedAt next (w .line) → (r : Row) → r ≡ rowJoined (getD rows (w .line) noRow) c (w .persisted)
+        → set rows (w .line) r ≡ rowsAfter rows m e next
+    after-touch h c cached r joined =
+        ap (set rows (w .line)) (joined ∙ ap (λ (x : Content). rowJoined (getD rows (w .line) noRow) x (w .persisted)) cached)
+        ∙ sym (rw (lt-ltb (w .line) 65 h)) ∙ touched-is
 
 -- the loop that packs them
 pub rows-next : (t : List (List Content)) (cs : List ℕ) (i : ℕ) → i < 65 → set (rowsOf t cs i) i (rowAt t cs i) ≡ rowsOf t cs (i + 1)

@@ -2,15 +2,12 @@
 ghost use mathlib.Core.Path.{_≡_};
 ghost use Prim.Native.Nat.{_≤_, _<_};
 ghost use Rattle.machine.specs.Line.{lineCount};
-ghost use Rattle.pages.specs.Rows.{rowsOf, openedRows, rowJoined, rowsAfter, noRows};
-use endtable::opened::cached_at;
+ghost use Rattle.pages.specs.Rows.{rowsOf, openedRows, rowJoined, noRows};
 use endtable::opened::opened_counts;
 use endtable::opened::opened_table;
 use endtable::row::count_after;
 use endtable::row::row_after;
-use endtable::touch::touched;
 use image::Content;
-use machine::Event;
 use machine::Machine;
 
 pub struct Row {
@@ -60,32 +57,11 @@ pub fn opened_rows(m: Machine) -> [Row; 65]
 }
 
 // A line that was stored to, or persisted, and now has the cached content c.
-fn row_joined(row: Row, c: Content, persisted: bool) -> Row
+pub fn row_joined(row: Row, c: Content, persisted: bool) -> Row
     ensures { λ r. ⌜ r ≡ rowJoined row c persisted ⌝ }
 {
     let old = row.at;
     let count = count_after(old, row.count, c, persisted);
     let at = row_after(old, row.count, c, persisted);
     Row { count, at }
-}
-
-// After a taken event e of the machine m, which left it as `next`. A crash is a start.
-pub fn rows_after(rows: [Row; 65], m: Machine, e: Event, next: Machine) -> [Row; 65]
-    requires { ⌜ next .n ≤ 64 ⌝ }
-    ensures { λ r. ⌜ r ≡ rowsAfter rows m e next ⌝ }
-{
-    if e.kind == 5 {
-        return opened_rows(next);
-    }
-    let w = touched(m, e);
-    let l = w.line;
-    if l < 65 {
-        let c = cached_at(next, l);
-        let row = rows[l];
-        let joined = row_joined(row, c, w.persisted);
-        let mut r = rows;
-        r[l] = joined;
-        return r;
-    }
-    rows
 }

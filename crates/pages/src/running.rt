@@ -6,8 +6,10 @@ ghost use Rattle.schedule.specs.Layout.{scheduleIn, scheduleAnswer};
 ghost use Rattle.pages.specs.Going.{RunIs};
 use crate::rows::Row;
 use crate::rows::opened_rows;
-use crate::rows::rows_after;
+use crate::rows::row_joined;
 use answer::Answer;
+use endtable::opened::cached_at;
+use endtable::touch::touched;
 use machine::Machine;
 use schedule::Schedule;
 
@@ -41,10 +43,19 @@ pub fn run_events(s: &[u8], d: Schedule) -> Run
             };
         }
         let next = out.machine;
-        let kept = rows_after(rows, m, e, next);
-        rows = kept;
+        let w = touched(m, e);
         m = next;
         i += 1;
+        if e.kind == 5 {
+            rows = opened_rows(m);
+            continue;
+        }
+        let l = w.line;
+        if 65 <= l {
+            continue;
+        }
+        let row = rows[l];
+        rows[l] = row_joined(row, cached_at(m, l), w.persisted);
     }
     Run {
         answer: Answer::Taken,

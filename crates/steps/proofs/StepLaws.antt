@@ -1,18 +1,19 @@
 -- Laws that the step functions' proofs use.
 use Prim.Native.Nat.{ℕ, zero, suc, _+_, _-_, _^_, _≤_, _<_}
-use mathlib.Core.Path.{_≡_, refl, sym, ap}
+use mathlib.Core.Path.{_≡_, refl, sym, ap, ap₂, _∙_}
 use mathlib.Core.Logic.{_≢_}
 use native.Mathlib.Nat.{pos-of-ne-zero}
 use native.Mathlib.Omega.{arith}
+use native.Mathlib.Numerals.{add-one}
 use lib.ListN.{List·getD-eq-default}
 use lib.Pow.{pow-mono}
-use Rattle.lists.specs.Find.{least}
-use Rattle.lists.specs.Word.{has, with, wordOf}
+use Rattle.lists.specs.Find.{pick, least}
+use Rattle.lists.specs.Word.{has, with, without, wordOf}
 use Rattle.lists.proofs.WordLaws as words
-use Rattle.machine.specs.Record.{node, contentOf, putKept}
+use Rattle.machine.specs.Record.{node, contentOf, withWaits, putNode, putFree, putKept}
 use Rattle.machine.specs.Stage.{noStep, stages, stageOf}
 use Rattle.machine.specs.Line.{persist}
-use Rattle.machine.specs.Retire.{others, nextFree}
+use Rattle.machine.specs.Retire.{others, nextFree, lastWait, releasedAt, released}
 use Rattle.machine.specs.declared.Machine.{Machine}
 use Rattle.steps.specs.Others.{isOther, joined, othersBelow}
 
@@ -43,6 +44,17 @@ others-is m k = sym (below-is m k (m .t))
 
 pub below-lt : (m : Machine) (k n : ℕ) → othersBelow m k n < 2 ^ n
 below-lt m k n = rw (below-is m k n) (words.wordOf-lt (λ u. isOther m k u) n)
+
+-- ---- one node more no longer waits: its waits and the free set are put in place
+
+pub released-next : (m r : Machine) (k i : ℕ) → r ≡ released m k i → (w f : ℕ) → w ≡ without (node r i .waits) k
+    → f ≡ pick (lastWait (node r i .waits) k) (with (r .free) i) (r .free)
+    → putFree (putNode r i (withWaits (node r i) w)) f ≡ released m k (i + 1)
+unfolding released releasedAt
+released-next m r k i e w f rest free =
+    ap₂ (λ (x y : ℕ). putFree (putNode r i (withWaits (node r i) x)) y) rest free
+    ∙ ap (λ (x : Machine). releasedAt x k i) e
+    ∙ ap (released m k) (sym (add-one i))
 
 -- ---- a node's line, by the line's number
 

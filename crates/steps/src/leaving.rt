@@ -3,28 +3,23 @@ use machine::Machine;
 use machine::Thread;
 ghost use mathlib.Core.Path.{_≡_};
 ghost use Prim.Native.Nat.{ℕ, _<_, _≤_};
-ghost use Rattle.machine.specs.Retire.{releasedAt, left};
+ghost use Rattle.lists.specs.Find.{pick};
+ghost use Rattle.lists.specs.Word.{with};
+ghost use Rattle.machine.specs.Retire.{lastWait, left};
 
-// Node i no longer waits for thread k.
-fn release(m: Machine, k: usize, i: usize) -> Machine
+// The free set, once node i no longer waits for thread k. It waited for the threads w.
+fn free_after(free: u64, w: u8, k: usize, i: usize) -> u64
     requires { ⌜ (k < 8) × (i < 64) ⌝ }
-    ensures { λ r. ⌜ r ≡ releasedAt m k i ⌝ }
+    ensures { λ r. ⌜ r ≡ pick (lastWait w k) (with free i) free ⌝ }
 {
-    let mut r = m;
-    let mut v = r.nodes[i];
-    let w = v.waits;
-    let rest = bits::without_bit8(w, k as u32);
-    v.waits = rest;
-    r.nodes[i] = v;
     if bits::is_in8(w, k as u32) {
+        let rest = bits::without_bit8(w, k as u32);
         if rest == 0 {
-            let f = bits::with_bit(r.free, i as u32);
-            r.free = f;
-            return r;
+            return bits::with_bit(free, i as u32);
         }
-        return r;
+        return free;
     }
-    r
+    free
 }
 
 // Thread k has answered: it has no operation, and holds node x.
@@ -36,8 +31,13 @@ pub fn leave(m: Machine, k: usize, x: u8) -> Machine
     let mut r = m;
     let mut i = 0;
     while i < n {
-        let next = release(r, k, i);
-        r = next;
+        let mut v = r.nodes[i];
+        let w = v.waits;
+        let rest = bits::without_bit8(w, k as u32);
+        let f = free_after(r.free, w, k, i);
+        v.waits = rest;
+        r.nodes[i] = v;
+        r.free = f;
         i += 1;
     }
     r.threads[k] = Thread {
