@@ -1,4 +1,4 @@
--- `Lawful` is not empty talk: four small wrong outcomes that it shuts out.
+-- `Lawful` is not empty talk: six small wrong outcomes that it shuts out.
 use Prim.Native.Nat.{ℕ, zero, suc, _<_}
 use mathlib.Core.Path.{_≡_, refl, sym, ap, subst, _∙_}
 use mathlib.Core.Bool.{Bool, true, false}
@@ -7,7 +7,7 @@ use mathlib.Core.Logic.{_⊎_, inl, inr}
 use mathlib.Core.Option.{Option, none, some}
 use native.Mathlib.Omega.{arith}
 use lib.ListN.{length}
-use Rattle.lawful.specs.Operation.{Operation, Reply, nothing, done, empty, gave, Call, puts, takes}
+use Rattle.lawful.specs.Operation.{Operation, Reply, nothing, done, full, wornOut, empty, gave, Call, puts, takes}
 use Rattle.lawful.specs.Plain.{serveAll}
 use Rattle.lawful.specs.Lawful.{Lawful, at, Timely}
 use Rattle.lawful.proofs.Orders.{one, two}
@@ -24,6 +24,28 @@ unfolding serveAll
 not-lost w =
     let o = one (w .order) (w .within) (w .once) (w .whole 0 (omega arith) refl) in
     let p : serveAll (map (at lost) (0 ∷ [])) [] ≡ some [] = subst (λ r. serveAll (map (at lost) r) [] ≡ some []) o (w .plays) in
+    let z : _≡_ {A = ℕ} 0 1 = cc in absurd (omega arith)
+
+-- an item there that was turned away: an enqueue of 7 was answered Full, the queue has it
+abbrev turnedAway : List Operation
+turnedAway = operation (puts 7) 0 full 1 ∷ []
+
+pub not-full : ¬ Lawful turnedAway [] (7 ∷ [])
+unfolding serveAll
+not-full w =
+    let o = one (w .order) (w .within) (w .once) (w .whole 0 (omega arith) refl) in
+    let p : serveAll (map (at turnedAway) (0 ∷ [])) [] ≡ some (7 ∷ []) = subst (λ r. serveAll (map (at turnedAway) r) [] ≡ some (7 ∷ [])) o (w .plays) in
+    let z : _≡_ {A = ℕ} 0 1 = cc in absurd (omega arith)
+
+-- the same, answered Worn out
+abbrev worn : List Operation
+worn = operation (puts 7) 0 wornOut 7 ∷ []
+
+pub not-worn : ¬ Lawful worn [] (7 ∷ [])
+unfolding serveAll
+not-worn w =
+    let o = one (w .order) (w .within) (w .once) (w .whole 0 (omega arith) refl) in
+    let p : serveAll (map (at worn) (0 ∷ [])) [] ≡ some (7 ∷ []) = subst (λ r. serveAll (map (at worn) r) [] ≡ some (7 ∷ [])) o (w .plays) in
     let z : _≡_ {A = ℕ} 0 1 = cc in absurd (omega arith)
 
 -- one item handed out twice

@@ -8,3 +8,4 @@ pub mod Left
 pub mod Sow
 pub mod Page
 pub mod Holds
+pub mod Longer
