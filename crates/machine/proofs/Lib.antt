@@ -1,5 +1,6 @@
 pub mod RisenLaws
 pub mod QueueLaws
+pub mod BackLaws
 pub mod TableLaws
 pub mod AnswerLaws
 pub mod LinkLaws

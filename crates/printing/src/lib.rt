@@ -6,6 +6,7 @@ ghost use lib.ListN.{length, take};
 ghost use Rattle.lists.specs.Tab.{over};
 ghost use Rattle.lists.specs.Text.{decimal};
 ghost use Rattle.page.specs.Printed.{spaced};
+ghost use Rattle.printing.specs.Digits.{fourDigits, eightDigits};
 
 pub mod items;
 pub mod lines;
@@ -13,18 +14,75 @@ pub mod refused;
 pub mod stretch;
 pub mod whole;
 
-// The number x in decimal from `at` on; gives the place behind it. Twenty bytes are room for every number of 64 bits.
-pub fn put_decimal(b: &mut [u8], at: usize, x: u64) -> usize
-    requires { ⌜ at + length (decimal x) ≤ length (now b) ⌝ }
+// The four digits of x, zeros in front among them. Each is a quotient of its own, so that none waits for another.
+fn put_four(b: &mut [u8], at: usize, x: u32)
+    requires { ⌜ (x < 10000) × (at + 4 ≤ length (now b)) ⌝ }
+    ensures { λ _. ⌜ now (b .exit) ≡ over (now (b .entry)) at (fourDigits x) ⌝ }
+{
+    let h = x / 100;
+    let l = x % 100;
+    b[at] = 48 + ((h / 10) as u8);
+    b[at + 1] = 48 + ((h % 10) as u8);
+    b[at + 2] = 48 + ((l / 10) as u8);
+    b[at + 3] = 48 + ((l % 10) as u8);
+}
+
+// The eight digits of x, zeros in front among them.
+fn put_eight(b: &mut [u8], at: usize, x: u32)
+    requires { ⌜ (x < 100000000) × (at + 8 ≤ length (now b)) ⌝ }
+    ensures { λ _. ⌜ now (b .exit) ≡ over (now (b .entry)) at (eightDigits x) ⌝ }
+{
+    put_four(b, at, x / 10000);
+    put_four(b, at + 4, x % 10000);
+}
+
+// A number of at most four digits.
+fn put_short(b: &mut [u8], at: usize, x: u32) -> usize
+    requires { ⌜ (x < 10000) × (at + length (decimal x) ≤ length (now b)) ⌝ }
     ensures { λ r. ⌜ (r ≡ at + length (decimal x)) × (now (b .exit) ≡ over (now (b .entry)) at (decimal x)) ⌝ }
 {
     if x < 10 {
         b[at] = 48 + (x as u8);
         return at + 1;
     }
-    let p = put_decimal(b, at, x / 10);
-    b[p] = 48 + ((x % 10) as u8);
-    p + 1
+    if x < 100 {
+        b[at] = 48 + ((x / 10) as u8);
+        b[at + 1] = 48 + ((x % 10) as u8);
+        return at + 2;
+    }
+    if x < 1000 {
+        b[at] = 48 + ((x / 100) as u8);
+        b[at + 1] = 48 + ((x / 10 % 10) as u8);
+        b[at + 2] = 48 + ((x % 10) as u8);
+        return at + 3;
+    }
+    put_four(b, at, x);
+    at + 4
+}
+
+// The number x in decimal from `at` on; gives the place behind it. Twenty bytes are room for every number of 64 bits.
+// The digits go in groups of four; only a number of more than twelve, which no page has, takes a further turn.
+pub fn put_decimal(b: &mut [u8], at: usize, x: u64) -> usize
+    requires { ⌜ at + length (decimal x) ≤ length (now b) ⌝ }
+    ensures { λ r. ⌜ (r ≡ at + length (decimal x)) × (now (b .exit) ≡ over (now (b .entry)) at (decimal x)) ⌝ }
+{
+    if x < 10000 {
+        return put_short(b, at, x as u32);
+    }
+    if x < 100000000 {
+        let p = put_short(b, at, (x / 10000) as u32);
+        put_four(b, p, (x % 10000) as u32);
+        return p + 4;
+    }
+    let l = (x % 100000000) as u32;
+    if x < 1000000000000 {
+        let p = put_short(b, at, (x / 100000000) as u32);
+        put_eight(b, p, l);
+        return p + 8;
+    }
+    let p = put_decimal(b, at, x / 100000000);
+    put_eight(b, p, l);
+    p + 8
 }
 
 // The bytes of s from `at` on; gives the place behind them.
