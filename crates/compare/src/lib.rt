@@ -1,5 +1,4 @@
-// What the comparing programs share: their output, and the numbers of an answer. No promise of the bench rests on it.
-pub mod answers;
+// What the comparing programs share: their output, and contents read from bytes. No promise of the bench rests on it.
 pub mod contents;
 pub mod sums;
 pub mod text;

@@ -1,7 +1,7 @@
 // Contents to be written as an image. An item is contents and the lent buffer's room (2 bytes).
 ghost use Prim.Native.Nat.{_≤_};
 ghost use lib.ListN.{length};
-use compare::answers::told_of;
+use answer::told_of;
 use compare::contents::contents_of;
 use compare::text::put;
 use compare::text::put_front;

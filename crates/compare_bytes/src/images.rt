@@ -1,5 +1,5 @@
 // Images read, and written again.
-use compare::answers::told_of;
+use answer::told_of;
 use compare::text::put;
 use compare::text::put_front;
 use compare::text::put_refusal;

@@ -1,6 +1,6 @@
 // Schedules read up to their events, and each event.
 use crate::images::put_image;
-use compare::answers::told_of;
+use answer::told_of;
 use compare::text::put;
 use compare::text::put_all;
 use compare::text::put_hex;

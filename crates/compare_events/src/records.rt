@@ -3,7 +3,7 @@ ghost use Prim.Native.Nat.{_≤_};
 ghost use lib.ListN.{length};
 use crate::moments::put_moment;
 use answer::Told;
-use compare::answers::told_of;
+use answer::told_of;
 use compare::text::put;
 use compare::text::put_front;
 use compare::text::put_pair;

@@ -1,7 +1,7 @@
 // Starts from contents, and fresh machines.
 use crate::moments::put_moment;
 use crate::moments::put_moment_sum;
-use compare::answers::told_of;
+use answer::told_of;
 use compare::contents::contents_of;
 use compare::text::put_refusal;
 use machine::Machine;

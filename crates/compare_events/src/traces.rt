@@ -1,7 +1,7 @@
 // A schedule, moment by moment.
 use crate::moments::put_moment_sum;
 use answer::Told;
-use compare::answers::told_of;
+use answer::told_of;
 use compare::text::put_refusal;
 use machine::Machine;
 

@@ -6,7 +6,7 @@ use crate::sums::START;
 use crate::sums::put_sum_line;
 use crate::sums::sum_front;
 use answer::Told;
-use compare::answers::told_of;
+use answer::told_of;
 use compare::text::put;
 use compare::text::put_all;
 use compare::text::put_decimal;

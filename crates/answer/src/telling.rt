@@ -1,8 +1,8 @@
 // The numbers of an answer.
 ghost use mathlib.Core.Path.{_≡_};
 ghost use Rattle.answer.specs.Answers.{told, refusal, replied};
-use answer::Answer;
-use answer::Told;
+use super::Answer;
+use super::Told;
 
 fn refused(number: u8, place: u32) -> Told
     ensures { λ r. ⌜ r ≡ refusal number place ⌝ }
@@ -26,6 +26,7 @@ fn taken(reply: u8, item: u32) -> Told
     }
 }
 
+// An answer's number and place, or its reply and item.
 pub fn told_of(a: Answer) -> Told
     ensures { λ r. ⌜ r ≡ told a ⌝ }
 {

@@ -1,7 +1,7 @@
 use mathlib.Core.Path.{refl}
 use borrow.Author.Needs.{needs}
-use Rattle.compare.proofs.answers.told_of.Statement.{statement}
-use Rattle.compare.proofs.answers.told_of.Tie as tie
+use Rattle.answer.proofs.telling.told_of.Statement.{statement}
+use Rattle.answer.proofs.telling.told_of.Tie as tie
 
 enum-told : tie.Need-enum-told
 enum-told c = search needs

@@ -1,0 +1,37 @@
+-- A returned number taken apart, as include/uq.h does it: the answer's number, its place, its reply and item come back.
+use Prim.Native.Nat.{ℕ, _+_, _*_, _/_, _%_, _<_}
+use mathlib.Core.Path.{_≡_, refl, sym, ap, _∙_}
+use mathlib.Core.Bool.{Bool, true, false}
+use native.Mathlib.Omega.{arith}
+use lib.Dec.{eqb}
+use borrow.Author.Tests.{eqb-true}
+use Rattle.lists.specs.Find.{pick}
+use Rattle.answer.specs.Answers.{told, accepted}
+use Rattle.answer.specs.declared.Told.{Told}
+use Rattle.library.specs.Packed.{packed, replyOf}
+
+number-by : (x : Bool) (n p v : ℕ) → eqb n 0 ≡ x → n < 256 → pick x (v * 256) (n + p * 256) % 256 ≡ n
+number-by true n p v e h = omega (arith, eqb-true n 0 e)
+number-by false n p v e h = omega arith
+
+-- the number, of every answer: 0 where it is taken
+pub number-back : (t : Told) (v : ℕ) → t .number < 256 → packed t v % 256 ≡ t .number
+unfolding packed
+number-back t v h = number-by (eqb (t .number) 0) (t .number) (t .place) v refl h
+
+-- the value, where it is taken
+pub value-back : (t : Told) (v : ℕ) → eqb (t .number) 0 ≡ true → packed t v / 256 ≡ v
+unfolding packed
+value-back t v e = ap (λ x. pick x (v * 256) (t .number + t .place * 256) / 256) e ∙ omega arith
+
+-- the place, where it is refused
+pub place-back : (t : Told) (v : ℕ) → t .number < 256 → eqb (t .number) 0 ≡ false → packed t v / 256 ≡ t .place
+unfolding packed
+place-back t v h e = ap (λ x. pick x (v * 256) (t .number + t .place * 256) / 256) e ∙ omega arith
+
+-- what an event answered
+pub item-back : (t : Told) → t .item < 4294967296 → replyOf t % 4294967296 ≡ t .item
+item-back t h = omega arith
+
+pub reply-back : (t : Told) → t .item < 4294967296 → replyOf t / 4294967296 ≡ t .reply
+reply-back t h = omega arith

@@ -1,0 +1,4 @@
+pub mod Apart
+pub mod Laws
+pub mod Refused
+pub mod Unique

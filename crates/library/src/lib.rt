@@ -1,0 +1,5 @@
+// The static library: the public calls on bytes, under C's names. include/uq.h declares them and says how the returned number is taken apart.
+// Each call takes numbers and lent bytes only, returns one number, and has no `requires`.
+mod packing;
+mod records;
+mod schedules;

@@ -1,0 +1,28 @@
+// An answer as one number, so that every call returns one.
+ghost use mathlib.Core.Path.{_≡_};
+ghost use Prim.Native.Nat.{_<_};
+ghost use Rattle.answer.specs.Answers.{told};
+ghost use Rattle.library.specs.Packed.{packed, replyOf};
+use answer::Answer;
+use answer::told_of;
+
+// Number and place of a refusal; where the call is taken, the value v.
+pub fn packed_of(a: Answer, v: u64) -> u64
+    requires { ⌜ v < 72057594037927936 ⌝ }
+    ensures { λ r. ⌜ r ≡ packed (told a) v ⌝ }
+{
+    let t = told_of(a);
+    let number = t.number;
+    if number == 0 {
+        return v * 256;
+    }
+    (number as u64) + (t.place as u64) * 256
+}
+
+// What an operation answered with an event that was taken.
+pub fn reply_of(a: Answer) -> u64
+    ensures { λ r. ⌜ (r ≡ replyOf (told a)) × (r < 72057594037927936) ⌝ }
+{
+    let t = told_of(a);
+    (t.item as u64) + (t.reply as u64) * 4294967296
+}

@@ -1,0 +1,47 @@
+// Images and schedules as bytes: whether they are taken, how many endings there are, and each ending.
+ghost use mathlib.Core.Path.{_≡_};
+ghost use lib.ListN.{length};
+ghost use Rattle.page.specs.Refusals.{endingWritten};
+ghost use Rattle.library.specs.Calls.{imageChecked, scheduleChecked, endingsCounted, endingGiven};
+use crate::packing::packed_of;
+
+// Whether the bytes are an image.
+#[no_mangle]
+pub extern "C" fn uq_check_image(image: &[u8]) -> u64
+    ensures { λ r. ⌜ r ≡ imageChecked (now (image .entry)) ⌝ }
+{
+    let read = codec::read_image(image);
+    let a = read.answer;
+    packed_of(a, 0)
+}
+
+// Whether the bytes are a schedule, up to its events.
+#[no_mangle]
+pub extern "C" fn uq_check_schedule(schedule: &[u8]) -> u64
+    ensures { λ r. ⌜ r ≡ scheduleChecked (now (schedule .entry)) ⌝ }
+{
+    let opened = codec::read_schedule(schedule);
+    let b = opened.answer;
+    packed_of(b, 0)
+}
+
+// How many endings the schedule has: the value.
+#[no_mangle]
+pub extern "C" fn uq_count_endings(schedule: &[u8]) -> u64
+    ensures { λ r. ⌜ r ≡ endingsCounted (now (schedule .entry)) ⌝ }
+{
+    let page = pages::count_endings(schedule);
+    let c = page.answer;
+    let count = page.count as u64;
+    packed_of(c, count)
+}
+
+// Ending k as an image into the buffer's first 10 + 9N bytes.
+#[no_mangle]
+pub extern "C" fn uq_ending(schedule: &[u8], k: u64, buffer: &mut [u8]) -> u64
+    ensures answers { λ r. ⌜ r ≡ endingGiven (now (schedule .entry)) k (length (now (buffer .entry))) ⌝ }
+    ensures bytes { λ r. ⌜ now (buffer .exit) ≡ endingWritten (now (schedule .entry)) k (now (buffer .entry)) ⌝ }
+{
+    let given = pages::ending_of(schedule, k, buffer);
+    packed_of(given, 0)
+}

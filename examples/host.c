@@ -1,0 +1,224 @@
+/* A C host of the library: P1 of document 01 as a schedule's bytes and event by event on a record, some refusals, and the answers
+   of operations. Every result is compared with what document 01 says; the exit status is 0 only where all agree. */
+#include "../include/uq.h"
+
+int printf(const char *format, ...);
+
+enum { NODES = 2, IMAGE = 10 + 9 * NODES, P1_EVENTS = 10, P1_BYTES = 8 + IMAGE + 6 * P1_EVENTS };
+
+static int passed, failed;
+
+static void expect(const char *what, uint64_t got, uint64_t wanted) {
+    if (got == wanted) {
+        passed++;
+        return;
+    }
+    failed++;
+    printf("%s: %lu, and not %lu\n", what, got, wanted);
+}
+
+static uint64_t refusal(uint64_t number, uint64_t place) { return number + 256 * place; }
+
+static void put_word(uint8_t *at, uint32_t x) {
+    for (int i = 0; i < 4; i++) at[i] = (uint8_t)(x >> (8 * i));
+}
+
+/* An image of two nodes, the second of them with a content of its own. */
+static void put_image(uint8_t *at, uint32_t head, uint8_t linked, uint32_t index, uint32_t item) {
+    static const uint8_t mark[6] = {'U', 'Q', 'I', 1, 0, NODES};
+    for (int i = 0; i < IMAGE; i++) at[i] = 0;
+    for (int i = 0; i < 6; i++) at[i] = mark[i];
+    put_word(at + 6, head);
+    at[19] = linked;
+    put_word(at + 20, index);
+    put_word(at + 24, item);
+}
+
+static void put_event(uint8_t *at, uint8_t kind, uint8_t number, uint32_t item) {
+    at[0] = kind;
+    at[1] = number;
+    put_word(at + 2, item);
+}
+
+/* P1: N = 2, T = 1, all-zero image, one begin of an enqueue of 7, nine steps. */
+static void put_p1(uint8_t *at) {
+    static const uint8_t mark[8] = {'U', 'Q', 'S', 1, 0, 1, P1_EVENTS, 0};
+    for (int i = 0; i < 8; i++) at[i] = mark[i];
+    put_image(at + 8, 0, 0, 0, 0);
+    put_event(at + 8 + IMAGE, UQ_ENQUEUE, 0, 7);
+    for (int i = 1; i < P1_EVENTS; i++) put_event(at + 8 + IMAGE + 6 * i, UQ_STEP, 0, 0);
+}
+
+static int same(const uint8_t *a, const uint8_t *b, int n) {
+    for (int i = 0; i < n; i++) {
+        if (a[i] != b[i]) return 0;
+    }
+    return 1;
+}
+
+static void show(uint64_t k, const uint8_t *bytes, int n) {
+    printf("%lu ", k);
+    for (int i = 0; i < n; i++) printf("%02x", bytes[i]);
+    printf("\n");
+}
+
+/* The four endings of P1: they differ in the new node's line alone. */
+static void endings(void) {
+    static const uint8_t linked[4] = {0, 0, 0, 1};
+    static const uint32_t index[4] = {0, 0, 1, 1};
+    static const uint32_t item[4] = {0, 7, 7, 7};
+    uint8_t schedule[P1_BYTES], wanted[IMAGE], buffer[IMAGE + 1];
+    put_p1(schedule);
+    expect("P1 is a schedule", uq_check_schedule(schedule, P1_BYTES), UQ_TAKEN);
+    uint64_t count = uq_count_endings(schedule, P1_BYTES);
+    expect("count of P1", count, 256 * 4);
+    printf("P1: %lu endings\n", uq_value(count));
+    for (uint64_t k = 0; k < uq_value(count) && k < 4; k++) {
+        buffer[IMAGE] = 99;
+        expect("ending", uq_ending(schedule, P1_BYTES, k, buffer, sizeof buffer), UQ_TAKEN);
+        show(k, buffer, IMAGE);
+        put_image(wanted, 0, linked[k], index[k], item[k]);
+        expect("bytes of an ending", same(buffer, wanted, IMAGE), 1);
+        expect("the byte behind it", buffer[IMAGE], 99);
+        expect("an ending is an image", uq_check_image(buffer, IMAGE), UQ_TAKEN);
+    }
+}
+
+/* Each names its number and place, and writes nothing. */
+static void refusals(void) {
+    uint8_t schedule[P1_BYTES], buffer[IMAGE] = {0};
+    put_p1(schedule);
+    uint64_t none = uq_ending(schedule, P1_BYTES, 4, buffer, IMAGE);
+    printf("ending 4 of P1: refused %u at %lu\n", uq_number(none), uq_value(none));
+    expect("ending 4", none, refusal(UQ_NO_ENDING, 0));
+    expect("a short buffer", uq_ending(schedule, P1_BYTES, 1, buffer, IMAGE - 1), refusal(UQ_ROOM, 0));
+    for (int i = 0; i < IMAGE; i++) expect("a byte after a refusal", buffer[i], 0);
+    expect("no bytes", uq_count_endings(schedule, 0), refusal(UQ_LENGTH, 0));
+    expect("a byte too few", uq_count_endings(schedule, P1_BYTES - 1), refusal(UQ_LENGTH, 0));
+    schedule[8 + IMAGE + 6 * 3] = 6;
+    expect("an unknown kind", uq_count_endings(schedule, P1_BYTES), refusal(UQ_KIND, 3));
+    expect("events are not looked at", uq_check_schedule(schedule, P1_BYTES), UQ_TAKEN);
+    schedule[8 + 19] = 2;
+    expect("a linked byte of 2", uq_check_schedule(schedule, P1_BYTES), refusal(UQ_LINKED, 1));
+    expect("the same in an image", uq_check_image(schedule + 8, IMAGE), refusal(UQ_LINKED, 1));
+    schedule[5] = 9;
+    expect("nine threads", uq_check_schedule(schedule, P1_BYTES), refusal(UQ_THREADS, 0));
+}
+
+/* The machine of an image of two nodes whose head index is `head`. */
+static void start(uint8_t *record, uint32_t head) {
+    uint8_t image[IMAGE];
+    put_image(image, head, 0, 0, 0);
+    expect("start", uq_start(image, IMAGE, 1, record, UQ_RECORD), UQ_TAKEN);
+}
+
+static uint64_t event(uint8_t *record, uint8_t kind, uint32_t item) { return uq_event(record, UQ_RECORD, kind, 0, item); }
+
+/* Steps of thread 0 that answer nothing yet, then one that answers. */
+static uint64_t steps(uint8_t *record, int silent) {
+    for (int i = 0; i < silent; i++) expect("a step", event(record, UQ_STEP, 0), UQ_TAKEN);
+    return event(record, UQ_STEP, 0);
+}
+
+static void places(const uint8_t *record, const char *what, const uint8_t *wanted) {
+    uint8_t got[UQ_PLACES];
+    expect(what, uq_places(record, UQ_RECORD, got, UQ_PLACES), UQ_TAKEN);
+    expect(what, same(got, wanted, UQ_PLACES), 1);
+}
+
+static void saved(const uint8_t *record, const char *what, uint32_t head, uint8_t linked, uint32_t index, uint32_t item) {
+    uint8_t got[IMAGE], wanted[IMAGE];
+    put_image(wanted, head, linked, index, item);
+    expect(what, uq_save(record, UQ_RECORD, got, IMAGE), UQ_TAKEN);
+    expect(what, same(got, wanted, IMAGE), 1);
+}
+
+/* P1 to P5 on a record: the places are queue, free, waiting, held, owned by an enqueue, owned by a dequeue. */
+static void run(void) {
+    static const uint8_t fresh[6] = {1, 1, 0, 0, 0, 0}, owned[6] = {1, 0, 0, 0, 1, 0}, queued[6] = {2, 0, 0, 0, 0, 0};
+    static const uint8_t taken[6] = {1, 0, 0, 0, 0, 1}, held[6] = {1, 0, 0, 1, 0, 0};
+    uint8_t record[UQ_RECORD];
+    start(record, 0);
+    places(record, "places at the start", fresh);
+    expect("begin of an enqueue", event(record, UQ_ENQUEUE, 7), UQ_TAKEN);
+    expect("A1 to A7", steps(record, 6), UQ_TAKEN);
+    places(record, "places before A8", owned);
+    expect("A8, A9", steps(record, 1), UQ_TAKEN);
+    places(record, "places after P1", queued);
+    saved(record, "P1 persisted", 0, 0, 0, 0);
+    expect("A10", event(record, UQ_STEP, 0), UQ_TAKEN);
+    saved(record, "P2 persisted", 0, 1, 1, 7);
+    uint64_t done = event(record, UQ_STEP, 0);
+    printf("A11 of P1's enqueue: reply %u\n", uq_reply(done));
+    expect("A11 answers Done", uq_reply(done), UQ_DONE);
+    expect("begin of a dequeue", event(record, UQ_DEQUEUE, 0), UQ_TAKEN);
+    expect("D1, D2, D4", steps(record, 2), UQ_TAKEN);
+    places(record, "places after P3", taken);
+    expect("D5, D6", steps(record, 1), UQ_TAKEN);
+    saved(record, "P4 persisted", 1, 1, 1, 7);
+    uint64_t item = event(record, UQ_STEP, 0);
+    printf("D7 of the dequeue: reply %u, item %u\n", uq_reply(item), uq_item(item));
+    expect("D7 answers an item", uq_reply(item), UQ_ITEM);
+    expect("the item", uq_item(item), 7);
+    places(record, "places after the dequeue", held);
+    expect("begin of P5", event(record, UQ_ENQUEUE, 8), UQ_TAKEN);
+    expect("P5 answers Full", uq_reply(event(record, UQ_STEP, 0)), UQ_FULL);
+    expect("crash", event(record, UQ_CRASH, 0), UQ_TAKEN);
+    places(record, "places after a crash", fresh);
+    expect("begin after a crash", event(record, UQ_DEQUEUE, 0), UQ_TAKEN);
+    expect("an empty queue", uq_reply(steps(record, 2)), UQ_EMPTY);
+}
+
+/* P10. */
+static void worn_out(void) {
+    uint8_t record[UQ_RECORD];
+    start(record, 4294967295u);
+    expect("begin of P10", event(record, UQ_ENQUEUE, 3), UQ_TAKEN);
+    expect("P10 answers Worn out", uq_reply(steps(record, 6)), UQ_WORN_OUT);
+}
+
+/* What is refused of an event changes nothing. */
+static void event_refusals(void) {
+    uint8_t record[UQ_RECORD], before[UQ_RECORD];
+    start(record, 0);
+    expect("a step of an idle thread", event(record, UQ_STEP, 0), refusal(UQ_IDLE, 0));
+    expect("begin", event(record, UQ_ENQUEUE, 3), UQ_TAKEN);
+    for (int i = 0; i < UQ_RECORD; i++) before[i] = record[i];
+    expect("a second begin", event(record, UQ_ENQUEUE, 3), refusal(UQ_BUSY, 0));
+    expect("thread 1 of one", uq_event(record, UQ_RECORD, UQ_STEP, 1, 0), refusal(UQ_NUMBER, 0));
+    expect("a step with an item", event(record, UQ_STEP, 1), refusal(UQ_NOT_ZERO, 0));
+    expect("kind 6", event(record, 6, 0), refusal(UQ_KIND, 0));
+    expect("a record too short", uq_event(record, UQ_RECORD - 1, UQ_STEP, 0, 0), refusal(UQ_LENGTH, 0));
+    expect("the record stays", same(record, before, UQ_RECORD), 1);
+    record[0] = 65;
+    expect("65 nodes", event(record, UQ_CRASH, 0), refusal(UQ_RANGE, 0));
+}
+
+/* The other calls on records: T before the image, a record out of range before a short buffer. */
+static void record_refusals(void) {
+    uint8_t image[IMAGE], record[UQ_RECORD], buffer[IMAGE] = {0};
+    put_image(image, 0, 2, 0, 0);
+    expect("no threads", uq_start(image, IMAGE, 0, record, UQ_RECORD), refusal(UQ_THREADS, 0));
+    expect("a linked byte of 2", uq_start(image, IMAGE, 1, record, 0), refusal(UQ_LINKED, 1));
+    put_image(image, 0, 0, 0, 0);
+    expect("no room for a record", uq_start(image, IMAGE, 1, record, UQ_RECORD - 1), refusal(UQ_ROOM, 0));
+    start(record, 0);
+    expect("no room for an image", uq_save(record, UQ_RECORD, buffer, IMAGE - 1), refusal(UQ_ROOM, 0));
+    expect("no room for six", uq_places(record, UQ_RECORD, buffer, UQ_PLACES - 1), refusal(UQ_ROOM, 0));
+    expect("no record to save", uq_save(record, 0, buffer, IMAGE), refusal(UQ_LENGTH, 0));
+    record[1] = 0;
+    expect("a record of no threads", uq_save(record, UQ_RECORD, buffer, 0), refusal(UQ_RANGE, 0));
+    expect("its places", uq_places(record, UQ_RECORD, buffer, 0), refusal(UQ_RANGE, 0));
+    for (int i = 0; i < IMAGE; i++) expect("a byte after a refusal", buffer[i], 0);
+}
+
+int main(void) {
+    endings();
+    refusals();
+    run();
+    worn_out();
+    event_refusals();
+    record_refusals();
+    printf("%d passed, %d failed\n", passed, failed);
+    return failed != 0;
+}

@@ -1,0 +1,147 @@
+/* How much stack each call touches: the call runs on a thread whose stack is an area filled with one byte value, and what differs
+   from it afterwards was used; with another value once more, so that no byte hides. A thread that calls nothing is taken off.
+   Standard input is a schedule. */
+#include "../include/uq.h"
+
+int printf(const char *format, ...);
+long read(int file, void *bytes, size_t length);
+int pthread_attr_init(void *attributes);
+int pthread_attr_setstack(void *attributes, void *area, size_t length);
+int pthread_create(uint64_t *thread, const void *attributes, void *(*body)(void *), void *argument);
+int pthread_join(uint64_t thread, void **result);
+
+enum { AREA = 8 * 1024 * 1024 };
+
+static uint8_t area[AREA] __attribute__((aligned(4096)));
+static uint8_t schedule[UQ_MAX_SCHEDULE + 1], record[UQ_RECORD], begun[UQ_RECORD], buffer[UQ_RECORD];
+static size_t length;
+static uint64_t result, count;
+
+static void *nothing(void *unused) { return unused; }
+
+static void *check_image(void *unused) {
+    result = uq_check_image(schedule + 8, 10 + 9 * (size_t)schedule[13]);
+    return unused;
+}
+
+static void *check_schedule(void *unused) {
+    result = uq_check_schedule(schedule, length);
+    return unused;
+}
+
+static void *count_endings(void *unused) {
+    result = uq_count_endings(schedule, length);
+    count = uq_value(result);
+    return unused;
+}
+
+/* The last one. */
+static void *ending(void *unused) {
+    result = uq_ending(schedule, length, count - 1, buffer, sizeof buffer);
+    return unused;
+}
+
+static void *start(void *unused) {
+    result = uq_start(schedule + 8, 10 + 9 * (size_t)schedule[13], schedule[5], begun, sizeof begun);
+    return unused;
+}
+
+static void again(void) {
+    for (int i = 0; i < UQ_RECORD; i++) record[i] = begun[i];
+    result = 0;
+}
+
+/* An event, where none was refused before it. */
+static void event(uint8_t kind, uint8_t number, uint32_t item) {
+    if (uq_number(result) == 0) result = uq_event(record, sizeof record, kind, number, item);
+}
+
+/* Every event of the schedule. */
+static void *events(void *unused) {
+    const uint8_t *at = schedule + 18 + 9 * (size_t)schedule[13];
+    again();
+    for (; at + 6 <= schedule + length; at += 6) {
+        event(at[0], at[1], at[2] + ((uint32_t)at[3] << 8) + ((uint32_t)at[4] << 16) + ((uint32_t)at[5] << 24));
+    }
+    return unused;
+}
+
+/* Three dequeues of each thread, one after the other: they give items, and retire nodes. */
+static void *dequeues(void *unused) {
+    again();
+    for (int i = 0; i < 3 * schedule[5]; i++) {
+        event(UQ_DEQUEUE, (uint8_t)(i % schedule[5]), 0);
+        do event(UQ_STEP, (uint8_t)(i % schedule[5]), 0);
+        while (uq_number(result) == 0 && uq_reply(result) == UQ_NO_REPLY);
+    }
+    return unused;
+}
+
+static void *write_backs(void *unused) {
+    again();
+    for (int i = 0; i <= schedule[13]; i++) event(UQ_WRITE_BACK, (uint8_t)i, 0);
+    return unused;
+}
+
+static void *crash(void *unused) {
+    again();
+    event(UQ_CRASH, 0, 0);
+    return unused;
+}
+
+static void *save(void *unused) {
+    result = uq_save(record, sizeof record, buffer, sizeof buffer);
+    return unused;
+}
+
+static void *places(void *unused) {
+    result = uq_places(record, sizeof record, buffer, sizeof buffer);
+    return unused;
+}
+
+/* The bytes of the area that a thread with this body changes, from the lowest to the area's end. */
+static long touched_over(void *(*body)(void *), uint8_t fill) {
+    static uint64_t attributes[32];
+    uint64_t thread;
+    long low = 0;
+    for (long i = 0; i < AREA; i++) area[i] = fill;
+    if (pthread_attr_init(attributes) || pthread_attr_setstack(attributes, area, AREA)) return -1;
+    if (pthread_create(&thread, attributes, body, 0) || pthread_join(thread, 0)) return -1;
+    while (low < AREA && area[low] == fill) low++;
+    return AREA - low;
+}
+
+static long touched(void *(*body)(void *)) {
+    long a = touched_over(body, 165), b = touched_over(body, 90);
+    return a < 0 || b < 0 ? -1 : a < b ? b : a;
+}
+
+static int bad;
+
+static void measure(const char *name, void *(*body)(void *), long base) {
+    long used = touched(body) - base;
+    printf("%-22s %7ld bytes\n", name, used);
+    if (base <= 0 || used <= 0 || used > AREA / 2 || uq_number(result) != 0) {
+        printf("%s: not measured, or refused %u at %lu\n", name, uq_number(result), uq_value(result));
+        bad = 1;
+    }
+}
+
+int main(void) {
+    long got;
+    while (length < sizeof schedule && (got = read(0, schedule + length, sizeof schedule - length)) > 0) length += (size_t)got;
+    long base = touched(nothing);
+    measure("uq_check_image", check_image, base);
+    measure("uq_check_schedule", check_schedule, base);
+    measure("uq_count_endings", count_endings, base);
+    printf("(%lu endings)\n", count);
+    measure("uq_ending", ending, base);
+    measure("uq_start", start, base);
+    measure("uq_event, the schedule", events, base);
+    measure("uq_event, dequeues", dequeues, base);
+    measure("uq_event, write-backs", write_backs, base);
+    measure("uq_event, a crash", crash, base);
+    measure("uq_save", save, base);
+    measure("uq_places", places, base);
+    return bad;
+}

@@ -1,0 +1,135 @@
+/* The crash bench for UnlinkedQ, as a static library: link target/staticlib/liblibrary.a (`rt staticlib library`), an x86-64 archive.
+
+   Images, schedules and machine records are bytes, as document 01 and docs/DECISIONS.md lay them out. Every call is a function of
+   the bytes it is handed and nothing else: it keeps no state, calls nothing but memcpy, always returns, and is proved to give what
+   its definition in crates/library/specs says, for every input. Calls may run on several threads at once.
+
+   What a caller owes, since nothing here can test it: each pointer is not null (not even with a length of 0) and has that many
+   bytes behind it, bytes that a call writes do not overlap those it reads, and no length is above 2^63 - 1. uq_count_endings and
+   uq_ending touch up to 160 KB of stack, the others up to 25 KB (bench/stack measures it).
+
+   Every call returns number + 256 * value. Number 0: taken. 1 to 18: refused, as document 01's table has it, and then the value is the
+   place and no lent byte is changed. uq_number, uq_value, uq_reply and uq_item take a result apart. */
+#ifndef UQ_H
+#define UQ_H
+
+/* A build without any system header, as with -nostdinc, has the four types from here. clang sees that by itself; for another
+   compiler define UQ_OWN_TYPES. */
+#if defined(__clang__) && !defined(UQ_OWN_TYPES)
+#if !__has_include(<stdint.h>)
+#define UQ_OWN_TYPES
+#endif
+#endif
+#ifdef UQ_OWN_TYPES
+typedef unsigned char uint8_t;
+typedef unsigned int uint32_t;
+typedef unsigned long uint64_t;
+typedef unsigned long size_t;
+#else
+#include <stddef.h>
+#include <stdint.h>
+#endif
+
+#ifdef __cplusplus
+extern "C" {
+#endif
+
+/* Limits, and the lengths that follow from them. */
+enum {
+    UQ_MIN_NODES = 2,
+    UQ_MAX_NODES = 64,
+    UQ_MAX_THREADS = 8,
+    UQ_MAX_EVENTS = 4096,
+    UQ_MAX_ENDINGS = 65536,
+    UQ_MAX_IMAGE = 586,      /* 10 + 9N */
+    UQ_MAX_SCHEDULE = 25170, /* 8 + 10 + 9N, and 6 for each event */
+    UQ_RECORD = 1412,
+    UQ_PLACES = 6
+};
+
+/* Numbers given back, as document 01's table has them. */
+enum {
+    UQ_TAKEN = 0,
+    UQ_LENGTH = 1,     /* length wrong */
+    UQ_MARK = 2,       /* mark or version wrong */
+    UQ_NODES = 3,      /* N not 2 to 64 */
+    UQ_THREADS = 4,    /* T not 1 to 8 */
+    UQ_EVENTS = 5,     /* more than 4,096 events */
+    UQ_LINKED = 6,     /* linked byte above 1 */
+    UQ_TWIN = 7,       /* two recovered nodes with one index */
+    UQ_NO_DUMMY = 8,   /* every node is recovered */
+    UQ_KIND = 9,       /* unknown kind */
+    UQ_NUMBER = 10,    /* thread or line number too large */
+    UQ_BUSY = 11,      /* begin on a thread that has an operation */
+    UQ_IDLE = 12,      /* step on a thread that has none */
+    UQ_NOT_ZERO = 13,  /* a field that should be zero is not */
+    UQ_CONTENTS = 14,  /* a line has more than 16 contents */
+    UQ_ENDINGS = 15,   /* more than 65,536 endings */
+    UQ_NO_ENDING = 16, /* no ending of that number */
+    UQ_ROOM = 17,      /* lent buffer too short */
+    UQ_RANGE = 18      /* a machine record is outside its ranges */
+};
+
+/* Kinds of events. */
+enum { UQ_ENQUEUE = 1, UQ_DEQUEUE = 2, UQ_STEP = 3, UQ_WRITE_BACK = 4, UQ_CRASH = 5 };
+
+/* What an operation answered with an event that was taken. */
+enum { UQ_NO_REPLY = 0, UQ_DONE = 1, UQ_FULL = 2, UQ_WORN_OUT = 3, UQ_ITEM = 4, UQ_EMPTY = 5 };
+
+/* Whether `image` is an image. Value 0 where it is taken.
+   Nothing is written.
+   A refusal has number 1, 2, 3, 6, 7 or 8 and its place. */
+uint64_t uq_check_image(const uint8_t *image, size_t length);
+
+/* Whether `schedule` is a schedule, looked at up to its events: those are tested by a run. Value 0 where it is taken.
+   Nothing is written.
+   A refusal has number 1 to 8 and its place. */
+uint64_t uq_check_schedule(const uint8_t *schedule, size_t length);
+
+/* How many endings the schedule has: the value, 1 to 65,536.
+   Nothing is written.
+   A refusal has number 1 to 15 and its place. */
+uint64_t uq_count_endings(const uint8_t *schedule, size_t length);
+
+/* Ending k of the schedule. Value 0 where it is taken.
+   Its image is written into the first 10 + 9N bytes of `buffer`; the bytes after them stay.
+   A refusal has number 1 to 17 and its place, and writes nothing. */
+uint64_t uq_ending(const uint8_t *schedule, size_t length, uint64_t k, uint8_t *buffer, size_t room);
+
+/* The machine at the start of an image with `threads` threads. Value 0 where it is taken.
+   The record is written into the first 1,412 bytes of `record`; the bytes after them stay.
+   A refusal has number 4, then those of the image, then 17, and writes nothing. */
+uint64_t uq_start(const uint8_t *image, size_t length, uint8_t threads, uint8_t *record, size_t room);
+
+/* One event on a record of exactly 1,412 bytes. The value where it is taken: uq_reply says what an operation answered, uq_item which item.
+   The record is changed in place.
+   A refusal has number 1, 18, 9, 10, 13, 11, 12, and of a crash 7 or 8, with place 0 (of 7: the node); the record stays. */
+uint64_t uq_event(uint8_t *record, size_t length, uint8_t kind, uint8_t number, uint32_t item);
+
+/* What a crash would leave of a record: its persisted copies. Value 0 where it is taken.
+   They are written as an image into the first 10 + 9N bytes of `buffer`; the bytes after them stay.
+   A refusal has number 1, 18, 7, 8 or 17 and its place, and writes nothing. */
+uint64_t uq_save(const uint8_t *record, size_t length, uint8_t *buffer, size_t room);
+
+/* How many of a record's nodes are in each place. Value 0 where it is taken.
+   The first 6 bytes of `buffer` get: queue with its dummy, free, waiting, held, owned by an enqueue, owned by a dequeue; the rest stays.
+   A refusal has number 1, 18 or 17 and place 0, and writes nothing. */
+uint64_t uq_places(const uint8_t *record, size_t length, uint8_t *buffer, size_t room);
+
+/* The number: 0 where the call was taken. */
+static inline uint32_t uq_number(uint64_t result) { return (uint32_t)(result % 256); }
+
+/* The place of a refusal, or the count that uq_count_endings gives. */
+static inline uint64_t uq_value(uint64_t result) { return result / 256; }
+
+/* Of an event that was taken: what an operation answered, UQ_NO_REPLY where none did. */
+static inline uint32_t uq_reply(uint64_t result) { return (uint32_t)(result / 256 / 4294967296u); }
+
+/* Of an event whose reply is UQ_ITEM: the item. */
+static inline uint32_t uq_item(uint64_t result) { return (uint32_t)(result / 256 % 4294967296u); }
+
+#ifdef __cplusplus
+}
+#endif
+
+#endif
