@@ -84,6 +84,31 @@ static void endings(void) {
     }
 }
 
+/* P1's page, whole and piece by piece, and the line of a refusal. */
+static void text(void) {
+    static const uint8_t page[] = "UQS 1 threads 1 nodes 2 events 10 endings 4\n0 0 -\n1 0 -\n2 0 -\n3 0 7\n";
+    enum { PAGE = sizeof page - 1, FIRST = PAGE - 4 * 6 };
+    uint8_t schedule[P1_BYTES], buffer[PAGE + 1] = {0};
+    put_p1(schedule);
+    uint64_t all = uq_page_lines(schedule, P1_BYTES, 0, buffer, sizeof buffer);
+    printf("%.*s", (int)uq_bytes(all), (const char *)buffer);
+    expect("number of a page", uq_number(all), UQ_TAKEN);
+    expect("lines of a page", uq_lines(all), 5);
+    expect("bytes of a page", uq_bytes(all), PAGE);
+    expect("the page", same(buffer, page, PAGE), 1);
+    expect("the byte behind it", buffer[PAGE], 0);
+    uint64_t some = uq_page_lines(schedule, P1_BYTES, 2, buffer, 13);
+    expect("lines in 13 bytes", uq_lines(some), 2);
+    expect("their bytes", uq_bytes(some), 12);
+    expect("lines 2 and 3", same(buffer, page + FIRST + 6, 12), 1);
+    expect("no room for line 0", uq_page_lines(schedule, P1_BYTES, 0, buffer, FIRST - 1), refusal(UQ_ROOM, 0));
+    expect("no line 5", uq_page_lines(schedule, P1_BYTES, 5, buffer, PAGE), refusal(UQ_NO_ENDING, 0));
+    uint64_t line = uq_refusal_line(9, 3, buffer, PAGE);
+    expect("bytes of a refusal", uq_bytes(line), 15);
+    expect("the line of a refusal", same(buffer, (const uint8_t *)"refused 9 at 3\n", 15), 1);
+    expect("no room for it", uq_refusal_line(9, 3, buffer, 14), refusal(UQ_ROOM, 0));
+}
+
 /* Each names its number and place, and writes nothing. */
 static void refusals(void) {
     uint8_t schedule[P1_BYTES], buffer[IMAGE] = {0};
@@ -214,6 +239,7 @@ static void record_refusals(void) {
 
 int main(void) {
     endings();
+    text();
     refusals();
     run();
     worn_out();

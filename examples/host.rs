@@ -8,6 +8,8 @@ mod uq {
         fn uq_check_schedule(schedule: *const u8, length: usize) -> u64;
         fn uq_count_endings(schedule: *const u8, length: usize) -> u64;
         fn uq_ending(schedule: *const u8, length: usize, k: u64, buffer: *mut u8, room: usize) -> u64;
+        fn uq_page_lines(schedule: *const u8, length: usize, k: u64, buffer: *mut u8, room: usize) -> u64;
+        fn uq_refusal_line(number: u32, place: u32, buffer: *mut u8, room: usize) -> u64;
         fn uq_start(image: *const u8, length: usize, threads: u8, record: *mut u8, room: usize) -> u64;
         fn uq_event(record: *mut u8, length: usize, kind: u8, number: u8, item: u32) -> u64;
         fn uq_save(record: *const u8, length: usize, buffer: *mut u8, room: usize) -> u64;
@@ -55,6 +57,17 @@ mod uq {
 
     pub fn ending(schedule: &[u8], k: u64, buffer: &mut [u8]) -> Result<(), Refusal> {
         taken(unsafe { uq_ending(schedule.as_ptr(), schedule.len(), k, buffer.as_mut_ptr(), buffer.len()) }).map(|_| ())
+    }
+
+    // How many lines were written, and their bytes.
+    pub fn page_lines<'a>(schedule: &[u8], k: u64, buffer: &'a mut [u8]) -> Result<(u64, &'a [u8]), Refusal> {
+        let value = taken(unsafe { uq_page_lines(schedule.as_ptr(), schedule.len(), k, buffer.as_mut_ptr(), buffer.len()) })?;
+        Ok((value & 0xff_ffff, &buffer[..(value >> 24) as usize]))
+    }
+
+    pub fn refusal_line<'a>(refusal: &Refusal, buffer: &'a mut [u8]) -> Result<&'a [u8], Refusal> {
+        let value = taken(unsafe { uq_refusal_line(refusal.number as u32, refusal.place, buffer.as_mut_ptr(), buffer.len()) })?;
+        Ok(&buffer[..(value >> 24) as usize])
     }
 
     pub fn start(image: &[u8], threads: u8, record: &mut [u8]) -> Result<(), Refusal> {
@@ -143,6 +156,15 @@ fn endings(t: &mut Tally) {
     }
 }
 
+fn text(t: &mut Tally) {
+    let page: &[u8] = b"UQS 1 threads 1 nodes 2 events 10 endings 4\n0 0 -\n1 0 -\n2 0 -\n3 0 7\n";
+    let mut buffer = [0; 100];
+    t.expect("the page", uq::page_lines(&p1(), 0, &mut buffer), Ok((5, page)));
+    t.expect("no line 5", uq::page_lines(&p1(), 5, &mut buffer), Err(Refusal { number: 16, place: 0 }));
+    let line: &[u8] = b"refused 9 at 3\n";
+    t.expect("the line of a refusal", uq::refusal_line(&Refusal { number: 9, place: 3 }, &mut buffer), Ok(line));
+}
+
 fn refusals(t: &mut Tally) {
     let mut schedule = p1();
     let mut buffer = [0; 28];
@@ -182,6 +204,7 @@ fn run(t: &mut Tally) {
 fn main() {
     let mut t = Tally { passed: 0, failed: 0 };
     endings(&mut t);
+    text(&mut t);
     refusals(&mut t);
     run(&mut t);
     println!("{} passed, {} failed", t.passed, t.failed);

@@ -1,6 +1,6 @@
 /* How much stack each call touches: the call runs on a thread whose stack is an area filled with one byte value, and what differs
-   from it afterwards was used; with another value once more, so that no byte hides. A thread that calls nothing is taken off.
-   Standard input is a schedule. */
+   from it afterwards was used; with another value once more, so that no byte hides. The ending of the thread itself touches what
+   stands at "(no call)". Standard input is a schedule. */
 #include "../include/uq.h"
 
 int printf(const char *format, ...);
@@ -13,37 +13,41 @@ int pthread_join(uint64_t thread, void **result);
 enum { AREA = 8 * 1024 * 1024 };
 
 static uint8_t area[AREA] __attribute__((aligned(4096)));
-static uint8_t schedule[UQ_MAX_SCHEDULE + 1], record[UQ_RECORD], begun[UQ_RECORD], buffer[UQ_RECORD];
+static uint8_t schedule[UQ_MAX_SCHEDULE + 1], record[UQ_RECORD], begun[UQ_RECORD], buffer[UQ_RECORD], text[65536];
 static size_t length;
 static uint64_t result, count;
 
-static void *nothing(void *unused) { return unused; }
+static void nothing(void) {}
 
-static void *check_image(void *unused) {
+static void check_image(void) {
     result = uq_check_image(schedule + 8, 10 + 9 * (size_t)schedule[13]);
-    return unused;
 }
 
-static void *check_schedule(void *unused) {
+static void check_schedule(void) {
     result = uq_check_schedule(schedule, length);
-    return unused;
 }
 
-static void *count_endings(void *unused) {
+static void count_endings(void) {
     result = uq_count_endings(schedule, length);
     count = uq_value(result);
-    return unused;
 }
 
 /* The last one. */
-static void *ending(void *unused) {
+static void ending(void) {
     result = uq_ending(schedule, length, count - 1, buffer, sizeof buffer);
-    return unused;
 }
 
-static void *start(void *unused) {
+/* The first line and as many of the endings' as the buffer takes. */
+static void page_lines(void) {
+    result = uq_page_lines(schedule, length, 0, text, sizeof text);
+}
+
+static void refusal_line(void) {
+    result = uq_refusal_line(18, 4294967295u, text, sizeof text);
+}
+
+static void start(void) {
     result = uq_start(schedule + 8, 10 + 9 * (size_t)schedule[13], schedule[5], begun, sizeof begun);
-    return unused;
 }
 
 static void again(void) {
@@ -57,50 +61,53 @@ static void event(uint8_t kind, uint8_t number, uint32_t item) {
 }
 
 /* Every event of the schedule. */
-static void *events(void *unused) {
+static void events(void) {
     const uint8_t *at = schedule + 18 + 9 * (size_t)schedule[13];
     again();
     for (; at + 6 <= schedule + length; at += 6) {
         event(at[0], at[1], at[2] + ((uint32_t)at[3] << 8) + ((uint32_t)at[4] << 16) + ((uint32_t)at[5] << 24));
     }
-    return unused;
 }
 
 /* Three dequeues of each thread, one after the other: they give items, and retire nodes. */
-static void *dequeues(void *unused) {
+static void dequeues(void) {
     again();
     for (int i = 0; i < 3 * schedule[5]; i++) {
         event(UQ_DEQUEUE, (uint8_t)(i % schedule[5]), 0);
         do event(UQ_STEP, (uint8_t)(i % schedule[5]), 0);
         while (uq_number(result) == 0 && uq_reply(result) == UQ_NO_REPLY);
     }
-    return unused;
 }
 
-static void *write_backs(void *unused) {
+static void write_backs(void) {
     again();
     for (int i = 0; i <= schedule[13]; i++) event(UQ_WRITE_BACK, (uint8_t)i, 0);
-    return unused;
 }
 
-static void *crash(void *unused) {
+static void crash(void) {
     again();
     event(UQ_CRASH, 0, 0);
-    return unused;
 }
 
-static void *save(void *unused) {
+static void save(void) {
     result = uq_save(record, sizeof record, buffer, sizeof buffer);
-    return unused;
 }
 
-static void *places(void *unused) {
+static void places(void) {
     result = uq_places(record, sizeof record, buffer, sizeof buffer);
+}
+
+static void (*call)(void);
+static uint8_t *entry;
+
+static void *body(void *unused) {
+    entry = __builtin_frame_address(0);
+    call();
     return unused;
 }
 
-/* The bytes of the area that a thread with this body changes, from the lowest to the area's end. */
-static long touched_over(void *(*body)(void *), uint8_t fill) {
+/* How far below its own frame a thread that makes this call has changed the area. */
+static long touched_over(uint8_t fill) {
     static uint64_t attributes[32];
     uint64_t thread;
     long low = 0;
@@ -108,20 +115,21 @@ static long touched_over(void *(*body)(void *), uint8_t fill) {
     if (pthread_attr_init(attributes) || pthread_attr_setstack(attributes, area, AREA)) return -1;
     if (pthread_create(&thread, attributes, body, 0) || pthread_join(thread, 0)) return -1;
     while (low < AREA && area[low] == fill) low++;
-    return AREA - low;
+    return entry - (area + low);
 }
 
-static long touched(void *(*body)(void *)) {
-    long a = touched_over(body, 165), b = touched_over(body, 90);
+static long touched(void (*made)(void)) {
+    call = made;
+    long a = touched_over(165), b = touched_over(90);
     return a < 0 || b < 0 ? -1 : a < b ? b : a;
 }
 
 static int bad;
 
-static void measure(const char *name, void *(*body)(void *), long base) {
-    long used = touched(body) - base;
+static void measure(const char *name, void (*made)(void)) {
+    long used = touched(made);
     printf("%-22s %7ld bytes\n", name, used);
-    if (base <= 0 || used <= 0 || used > AREA / 2 || uq_number(result) != 0) {
+    if (used < 0 || used > AREA / 2 || uq_number(result) != 0) {
         printf("%s: not measured, or refused %u at %lu\n", name, uq_number(result), uq_value(result));
         bad = 1;
     }
@@ -130,18 +138,20 @@ static void measure(const char *name, void *(*body)(void *), long base) {
 int main(void) {
     long got;
     while (length < sizeof schedule && (got = read(0, schedule + length, sizeof schedule - length)) > 0) length += (size_t)got;
-    long base = touched(nothing);
-    measure("uq_check_image", check_image, base);
-    measure("uq_check_schedule", check_schedule, base);
-    measure("uq_count_endings", count_endings, base);
+    measure("(no call)", nothing);
+    measure("uq_check_image", check_image);
+    measure("uq_check_schedule", check_schedule);
+    measure("uq_count_endings", count_endings);
     printf("(%lu endings)\n", count);
-    measure("uq_ending", ending, base);
-    measure("uq_start", start, base);
-    measure("uq_event, the schedule", events, base);
-    measure("uq_event, dequeues", dequeues, base);
-    measure("uq_event, write-backs", write_backs, base);
-    measure("uq_event, a crash", crash, base);
-    measure("uq_save", save, base);
-    measure("uq_places", places, base);
+    measure("uq_ending", ending);
+    measure("uq_page_lines", page_lines);
+    measure("uq_refusal_line", refusal_line);
+    measure("uq_start", start);
+    measure("uq_event, the schedule", events);
+    measure("uq_event, dequeues", dequeues);
+    measure("uq_event, write-backs", write_backs);
+    measure("uq_event, a crash", crash);
+    measure("uq_save", save);
+    measure("uq_places", places);
     return bad;
 }

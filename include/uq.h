@@ -5,11 +5,12 @@
    its definition in crates/library/specs says, for every input. Calls may run on several threads at once.
 
    What a caller owes, since nothing here can test it: each pointer is not null (not even with a length of 0) and has that many
-   bytes behind it, bytes that a call writes do not overlap those it reads, and no length is above 2^63 - 1. uq_count_endings and
-   uq_ending touch up to 160 KB of stack, the others up to 25 KB (bench/stack measures it).
+   bytes behind it, bytes that a call writes do not overlap those it reads, and no length is above 2^63 - 1. uq_count_endings,
+   uq_ending and uq_page_lines touch up to 161 KB of stack, the others up to 27 KB (bench/stack measures it).
 
    Every call returns number + 256 * value. Number 0: taken. 1 to 18: refused, as document 01's table has it, and then the value is the
-   place and no lent byte is changed. uq_number, uq_value, uq_reply and uq_item take a result apart. */
+   place and no lent byte is changed. uq_number, uq_value, uq_lines, uq_bytes, uq_reply and uq_item take a result
+   apart. */
 #ifndef UQ_H
 #define UQ_H
 
@@ -96,6 +97,16 @@ uint64_t uq_count_endings(const uint8_t *schedule, size_t length);
    A refusal has number 1 to 17 and its place, and writes nothing. */
 uint64_t uq_ending(const uint8_t *schedule, size_t length, uint64_t k, uint8_t *buffer, size_t room);
 
+/* Lines of the schedule's printed page: line 0 is its first line, line k + 1 that of ending k, each with its line end.
+   As many whole lines as fit, from line k on, are written into the front of `buffer`, uq_lines of them, uq_bytes in all; the rest stays.
+   A refusal has number 1 to 15 and its place, 16 where there is no line k, 17 where line k alone does not fit, and writes nothing. */
+uint64_t uq_page_lines(const uint8_t *schedule, size_t length, uint64_t k, uint8_t *buffer, size_t room);
+
+/* The line that the program prints for a refusal, `refused NUMBER at PLACE` with its line end; it has at most 33 bytes.
+   It is written into the front of `buffer`, uq_bytes of it; the bytes after them stay.
+   A refusal has number 17 and writes nothing. */
+uint64_t uq_refusal_line(uint32_t number, uint32_t place, uint8_t *buffer, size_t room);
+
 /* The machine at the start of an image with `threads` threads. Value 0 where it is taken.
    The record is written into the first 1,412 bytes of `record`; the bytes after them stay.
    A refusal has number 4, then those of the image, then 17, and writes nothing. */
@@ -124,6 +135,10 @@ static inline uint64_t uq_value(uint64_t result) { return result / 256; }
 
 /* Of an event that was taken: what an operation answered, UQ_NO_REPLY where none did. */
 static inline uint32_t uq_reply(uint64_t result) { return (uint32_t)(result / 256 / 4294967296u); }
+
+/* Of a call that writes text: how many lines, and how many bytes they have. */
+static inline uint32_t uq_lines(uint64_t result) { return (uint32_t)(result / 256 % 16777216); }
+static inline uint64_t uq_bytes(uint64_t result) { return result / 4294967296u; }
 
 /* Of an event whose reply is UQ_ITEM: the item. */
 static inline uint32_t uq_item(uint64_t result) { return (uint32_t)(result / 256 % 4294967296u); }

@@ -1,4 +1,5 @@
 pub mod Digits
+pub mod Turns
 pub mod RowLaws
 pub mod TouchLaws
 pub mod Openings

@@ -1,8 +1,8 @@
 -- An ending's number as a choice for each line, and the image picked by it. Counts are those of the lines, line 0 first.
 use Prim.Native.Nat.{ℕ, zero, suc, _*_, _/_, _%_, _<_, _≤_}
-use mathlib.Core.Bool.{Bool}
+use mathlib.Core.Bool.{Bool, true, false}
 use mathlib.Core.List.{List, [], _∷_, _++_}
-use lib.ListN.{getD, drop}
+use lib.ListN.{getD, set, drop}
 use lib.Dec.{ltb}
 use Rattle.lists.specs.Find.{pick, least}
 use Rattle.lists.specs.Tab.{front}
@@ -53,6 +53,15 @@ Ready cs n = Counted cs n × ((l : ℕ) → l < n → getD cs l 0 ≤ 16)
 unfoldable pub digits : List ℕ → ℕ → ℕ → List ℕ
 digits cs zero k = []
 digits cs (suc n) k = digits cs n (k / getD cs n 0) ++ (k % getD cs n 0 ∷ [])
+
+-- the choices of the ending behind: of the first n lines the last that has a content left takes its next one, and those behind it
+-- begin again
+unfoldable pub turnedOf : List ℕ → ℕ → List ℕ → List ℕ
+turnedOf cs zero ps = ps
+turnedOf cs (suc n) ps = elim (ltb (suc (getD ps n 0)) (getD cs n 0)) [
+  | true ↦ set ps n (suc (getD ps n 0))
+  | false ↦ turnedOf cs n (set ps n 0)
+]
 
 -- the entry of line l that the picks name
 unfoldable pub pickedAt : List (List Content) → List ℕ → ℕ → Content

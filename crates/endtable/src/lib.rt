@@ -3,3 +3,4 @@ pub mod ending;
 pub mod opened;
 pub mod row;
 pub mod touch;
+pub mod turn;

@@ -8,7 +8,7 @@ use borrow.Author.Tests.{eqb-true}
 use Rattle.lists.specs.Find.{pick}
 use Rattle.answer.specs.Answers.{told, accepted}
 use Rattle.answer.specs.declared.Told.{Told}
-use Rattle.library.specs.Packed.{packed, replyOf}
+use Rattle.library.specs.Packed.{packed, replyOf, linesOf}
 
 number-by : (x : Bool) (n p v : ℕ) → eqb n 0 ≡ x → n < 256 → pick x (v * 256) (n + p * 256) % 256 ≡ n
 number-by true n p v e h = omega (arith, eqb-true n 0 e)
@@ -35,3 +35,10 @@ item-back t h = omega arith
 
 pub reply-back : (t : Told) → t .item < 4294967296 → replyOf t / 4294967296 ≡ t .reply
 reply-back t h = omega arith
+
+-- what a call that writes text has written
+pub lines-back : (lines bytes : ℕ) → lines < 16777216 → linesOf lines bytes % 16777216 ≡ lines
+lines-back lines bytes h = omega arith
+
+pub bytes-back : (lines bytes : ℕ) → bytes < 4294967296 → linesOf lines bytes / 16777216 ≡ bytes
+bytes-back lines bytes h = omega arith

@@ -3,14 +3,14 @@
 use Prim.Native.Nat.{ℕ, _*_, _%_}
 use mathlib.Core.Path.{_≡_, refl, sym, ap, _∙_}
 use mathlib.Core.Bool.{Bool, true, false}
-use mathlib.Core.List.{List}
+use mathlib.Core.List.{List, []}
 use contract.Lifetimes.{Lfts}
 use denote.Ref.{RefT, now}
 use native.Mathlib.Omega.{arith}
 use lib.ListN.{length}
 use lib.Dec.{eqb, ltb}
 use Rattle.lists.specs.Find.{pick}
-use Rattle.lists.specs.Tab.{over}
+use Rattle.lists.specs.Tab.{joined, over}
 use Rattle.answer.specs.Answers.{told, check, accepted}
 use Rattle.answer.specs.declared.Answer.{Answer}
 use Rattle.answer.specs.declared.Answer.the-variants.{Taken, Room}
@@ -21,12 +21,17 @@ use Rattle.machine.specs.Saved.{saveAnswer, saved}
 use Rattle.machine.specs.Start.{threadsFit}
 use Rattle.machine.specs.declared.Machine.{Machine}
 use Rattle.page.specs.Refusals.{endingAnswer, endingWritten}
+use Rattle.page.specs.Filled.{linesOn, linesAnswer, linesTaken, linesBytes, linesWritten}
+use Rattle.printing.specs.Lines.{refusedText, ifFits}
+use Rattle.filling.specs.Lines.{refusalAnswer, refusalBytes, refusalWritten}
 use Rattle.record.specs.Layout.{readRecord, recordIn, recordAnswer, recordWritten, recordBytes}
 use Rattle.codec.proofs.Accepted as codec
 use Rattle.library.specs.Packed.{packed, replyOf}
 use Rattle.library.specs.Calls.{eventGiven, startAnswered, startWritten, eventAnswered, saveAnswered, saveWritten, placesAnswered}
 use Rattle.library.proofs.Laws as laws
 use Rattle.library.proofs.schedules.uq_ending.Reads as ending
+use Rattle.library.proofs.texts.uq_page_lines.Reads as page-lines
+use Rattle.library.proofs.texts.uq_refusal_line.Reads as refusal-line
 use Rattle.library.proofs.records.uq_start.Reads as start
 use Rattle.library.proofs.records.uq_event.Reads as event
 use Rattle.library.proofs.records.uq_save.Reads as save
@@ -51,6 +56,23 @@ not-taken a v r p n = by (accepted a) refl
 ending-stays : (s : List ℕ) (k : ℕ) (b : List ℕ) → accepted (endingAnswer s k (length b)) ≡ false → endingWritten s k b ≡ b
 unfolding endingWritten
 ending-stays s k b h = rw (h, endingWritten)
+
+none-over : (b : List ℕ) → over b 0 [] ≡ b
+unfolding over
+none-over b = refl
+
+lines-stay : (s : List ℕ) (k : ℕ) (b : List ℕ) → accepted (linesAnswer s k (length b)) ≡ false → linesWritten s k b ≡ b
+unfolding linesWritten linesBytes linesTaken linesOn joined
+lines-stay s k b h = rw (h, linesTaken) (none-over b)
+
+line-by : (l b : List ℕ) (x : Bool) → ltb (length b) (length l) ≡ x → accepted (check x Room Taken) ≡ false → over b 0 (ifFits (length b) l) ≡ b
+unfolding ifFits
+line-by l b true e h = rw (e, ifFits) (none-over b)
+line-by l b false e h = codec.false-true (sym h)
+
+line-stays : (n p : ℕ) (b : List ℕ) → accepted (refusalAnswer n p (length b)) ≡ false → refusalWritten n p b ≡ b
+unfolding refusalAnswer refusalBytes refusalWritten
+line-stays n p b h = line-by (refusedText n p) b (ltb (length b) (length (refusedText n p))) refl h
 
 record-by : (m : Machine) (b : List ℕ) (x : Bool) → accepted (check x Room Taken) ≡ false → pick x b (over b 0 (recordBytes m)) ≡ b
 record-by m b true h = refl
@@ -95,6 +117,18 @@ pub ending-refused :
     ending.Post κs (s, (k, (b, tt))) r (s, (k, (z, tt))) → Refused r → now z ≡ now b
 ending-refused κs s k b z r p n =
     p .1 ∙ ending-stays (now s) k (now b) (not-taken (endingAnswer (now s) k (length (now b))) 0 r (p .0) n)
+
+pub page-lines-refused :
+    (κs : Lfts 2) (s : RefT (List ℕ)) (k : ℕ) (b z : RefT (List ℕ)) (r : ℕ) →
+    page-lines.Post κs (s, (k, (b, tt))) r (s, (k, (z, tt))) → Refused r → now z ≡ now b
+page-lines-refused κs s k b z r p n =
+    p .1 ∙ lines-stay (now s) k (now b) (not-taken (linesAnswer (now s) k (length (now b))) _ r (p .0) n)
+
+pub refusal-line-refused :
+    (κs : Lfts 1) (i v : ℕ) (b z : RefT (List ℕ)) (r : ℕ) →
+    refusal-line.Post κs (i, (v, (b, tt))) r (i, (v, (z, tt))) → Refused r → now z ≡ now b
+refusal-line-refused κs i v b z r p n =
+    p .1 ∙ line-stays i v (now b) (not-taken (refusalAnswer i v (length (now b))) _ r (p .0) n)
 
 pub start-refused :
     (κs : Lfts 2) (s : RefT (List ℕ)) (t : ℕ) (b z : RefT (List ℕ)) (r : ℕ) →

@@ -8,6 +8,8 @@ use Rattle.library.proofs.schedules.uq_check_image.Reads as check-image
 use Rattle.library.proofs.schedules.uq_check_schedule.Reads as check-schedule
 use Rattle.library.proofs.schedules.uq_count_endings.Reads as count-endings
 use Rattle.library.proofs.schedules.uq_ending.Reads as ending
+use Rattle.library.proofs.texts.uq_page_lines.Reads as page-lines
+use Rattle.library.proofs.texts.uq_refusal_line.Reads as refusal-line
 use Rattle.library.proofs.records.uq_start.Reads as start
 use Rattle.library.proofs.records.uq_event.Reads as event
 use Rattle.library.proofs.records.uq_save.Reads as save
@@ -32,6 +34,16 @@ pub ending-one :
     (κs : Lfts 2) (s : RefT (List ℕ)) (k : ℕ) (b z z′ : RefT (List ℕ)) (r r′ : ℕ) →
     ending.Post κs (s, (k, (b, tt))) r (s, (k, (z, tt))) → ending.Post κs (s, (k, (b, tt))) r′ (s, (k, (z′, tt))) → (r ≡ r′) × (now z ≡ now z′)
 ending-one κs s k b z z′ r r′ p q = (p .0 ∙ sym (q .0), p .1 ∙ sym (q .1))
+
+pub page-lines-one :
+    (κs : Lfts 2) (s : RefT (List ℕ)) (k : ℕ) (b z z′ : RefT (List ℕ)) (r r′ : ℕ) →
+    page-lines.Post κs (s, (k, (b, tt))) r (s, (k, (z, tt))) → page-lines.Post κs (s, (k, (b, tt))) r′ (s, (k, (z′, tt))) → (r ≡ r′) × (now z ≡ now z′)
+page-lines-one κs s k b z z′ r r′ p q = (p .0 ∙ sym (q .0), p .1 ∙ sym (q .1))
+
+pub refusal-line-one :
+    (κs : Lfts 1) (n p : ℕ) (b z z′ : RefT (List ℕ)) (r r′ : ℕ) →
+    refusal-line.Post κs (n, (p, (b, tt))) r (n, (p, (z, tt))) → refusal-line.Post κs (n, (p, (b, tt))) r′ (n, (p, (z′, tt))) → (r ≡ r′) × (now z ≡ now z′)
+refusal-line-one κs n p b z z′ r r′ x y = (x .0 ∙ sym (y .0), x .1 ∙ sym (y .1))
 
 pub start-one :
     (κs : Lfts 2) (s : RefT (List ℕ)) (t : ℕ) (b z z′ : RefT (List ℕ)) (r r′ : ℕ) →

@@ -1,2 +1,3 @@
 pub mod Packed
 pub mod Calls
+pub mod Texts

@@ -3,3 +3,4 @@
 mod packing;
 mod records;
 mod schedules;
+mod texts;

@@ -2,7 +2,7 @@
 ghost use mathlib.Core.Path.{_≡_};
 ghost use Prim.Native.Nat.{_<_};
 ghost use Rattle.answer.specs.Answers.{told};
-ghost use Rattle.library.specs.Packed.{packed, replyOf};
+ghost use Rattle.library.specs.Packed.{packed, replyOf, linesOf};
 use answer::Answer;
 use answer::told_of;
 
@@ -25,4 +25,12 @@ pub fn reply_of(a: Answer) -> u64
 {
     let t = told_of(a);
     (t.item as u64) + (t.reply as u64) * 4294967296
+}
+
+// How many lines were written, and how many bytes.
+pub fn lines_of(lines: u32, bytes: usize) -> u64
+    ensures { λ r. ⌜ (r ≡ linesOf lines bytes) × (r < 72057594037927936) ⌝ }
+{
+    let more = bytes as u64;
+    ((lines % 16777216) as u64) + more % 4294967296 * 16777216
 }

@@ -124,9 +124,10 @@ first-short t n events count p q r s =
       decimal-short 5 count (omega arith) (omega arith),
     )
 
-pub refused-short : (n p : ℕ) → n < 100 → p < 4294967296 → length (refusedText n p) ≤ refusedRoom
+-- a refusal's line whose number has at most d digits
+refused-digits : (d n p : ℕ) → length (decimal n) ≤ d → p < 4294967296 → length (refusedText n p) ≤ 8 + d + 4 + 10 + 1
 unfolding refusedText text
-refused-short n p q r =
+refused-digits d n p q r =
     let a = text "refused " ++ decimal n in
     omega (
       arith,
@@ -134,9 +135,18 @@ refused-short n p q r =
       length-append (a ++ text " at ") (decimal p),
       length-append a (text " at "),
       length-append (text "refused ") (decimal n),
-      decimal-short 2 n (omega arith) (omega arith),
       small p r,
     )
+
+pub refused-short : (n p : ℕ) → n < 100 → p < 4294967296 → length (refusedText n p) ≤ refusedRoom
+refused-short n p q r = refused-digits 2 n p (decimal-short 2 n (omega arith) (omega arith)) r
+
+pub refused-wide : (n p : ℕ) → n < 4294967296 → p < 4294967296 → length (refusedText n p) ≤ 33
+refused-wide n p q r = refused-digits 10 n p (small n q) r
+
+pub refused-some : (n p : ℕ) → 0 < length (refusedText n p)
+unfolding refusedText
+refused-some n p = omega (arith, length-append (text "refused " ++ decimal n ++ text " at " ++ decimal p) newline)
 
 -- the numbers are 0 to 18
 pub number-small : (a : Answer) → told a .number < 19

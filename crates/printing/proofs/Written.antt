@@ -94,6 +94,17 @@ then-two l at s t d {m} {p} {n} {q} a b = subst (λ r. Put l at r n q) (sym (app
 pub same-room : (l : List ℕ) (at : ℕ) (s : List ℕ) {m : List ℕ} → m ≡ over l at s → length m ≡ length l
 same-room l at s e = ap length e ∙ tabs.length-over l at s
 
+take-front : (s r : List ℕ) → take (length s) (s ++ r) ≡ s
+take-front [] r = refl
+take-front (x ∷ s) r = ap (λ l. x ∷ l) (take-front s r)
+
+-- a text written to the front, and read from there
+pub front-is : (l : List ℕ) (n : ℕ) (m s : List ℕ) → length s ≤ length l → n ≡ 0 + length s → m ≡ over l 0 s → take n m ≡ s
+front-is l n m s h e f =
+    let n′ : n ≡ length s = omega (arith, e) in
+    let m′ : m ≡ s ++ drop (0 + length s) l = f ∙ tabs.over-is l 0 s (omega arith) in
+    ap₂ take n′ m′ ∙ take-front s (drop (0 + length s) l)
+
 -- where there is room for both, there is room for the first, and then for the second
 pub room-first : (n at : ℕ) (s t : List ℕ) → at + length (s ++ t) ≤ n → at + length s ≤ n
 room-first n at s t h = omega (arith, length-append s t)

@@ -8,6 +8,7 @@ ghost use Rattle.lists.specs.Text.{decimal};
 ghost use Rattle.page.specs.Printed.{spaced};
 ghost use Rattle.printing.specs.Digits.{fourDigits, eightDigits};
 
+pub mod fitting;
 pub mod items;
 pub mod lines;
 pub mod refused;

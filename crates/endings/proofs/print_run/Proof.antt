@@ -1,6 +1,8 @@
-use native.Mathlib.Omega.{arith}
+use Prim.Native.Nat.{_≤_}
+use lib.ListN.{length}
 use Rattle.pages.proofs.PageLaws as pages
-use Rattle.endings.proofs.Laws as laws
+use Rattle.filling.proofs.Numbers as numbers
+use native.Mathlib.Omega.{arith}
 use borrow.Author.Needs.{needs}
 use Rattle.endings.proofs.print_run.Statement.{statement}
 use Rattle.endings.proofs.print_run.Tie as tie
@@ -21,13 +23,8 @@ ending-count-requires c κs =
       rw (c .counts-of .ensures) (pages.page-counted (z .args .s .now) (z .args .r) (z .pre .0) (z .pre .1)),
     )
 
-print-first-requires : tie.Need-print-first-requires
-print-first-requires c κs =
-    let z = c .before .before .before .before .before in (
-      laws.schedule-taken (z .args .s .now) (z .args .r) (z .pre .0) (z .pre .1),
-      pages.page-small (z .args .s .now) (z .args .r) (z .pre .0) (z .pre .1),
-      rw (c .ending-count .ensures, c .before .counts-of .ensures) (laws.count-limit (z .args .s .now) (z .args .r) (z .pre .0) (z .pre .1)),
-    )
+open-schedule-requires : tie.Need-open-schedule-requires
+open-schedule-requires c κs = search needs
 
 table-of-requires : tie.Need-table-of-requires
 table-of-requires c κs = search needs
@@ -35,17 +32,21 @@ table-of-requires c κs = search needs
 large-buffer-requires : tie.Need-large-buffer-requires
 large-buffer-requires c κs = search needs
 
-slice-aggregate-print-endings : tie.Need-slice-aggregate-print-endings
-slice-aggregate-print-endings c = search needs
+slice-aggregate-print-lines : tie.Need-slice-aggregate-print-lines
+slice-aggregate-print-lines c = search needs
 
-print-endings-requires : tie.Need-print-endings-requires
-print-endings-requires c κs =
-    let z = c .before .before .before .before .before .before .before .before .before in
-    let counts = c .before .before .before .before .before .counts-of in (
+print-lines-requires : tie.Need-print-lines-requires
+print-lines-requires c κs =
+    let z = c .before .before .before .before .before .before .before .before .before .before in
+    let o = c .before .before .before .before .open-schedule in
+    let l = numbers.opened-limits (z .args .s .now) (o .result) (o .ensures) (numbers.schedule-yes (z .args .s .now) (z .args .r) (z .pre .0) (z .pre .1)) in
+    let g : 721 ≤ length (c .before .large-buffer .result) = search needs in (
       pages.page-small (z .args .s .now) (z .args .r) (z .pre .0) (z .pre .1),
-      rw (counts .ensures) (pages.page-ready (z .args .s .now) (z .args .r) (z .pre .0) (z .pre .1)),
-      rw (c .before .before .before .before .ending-count .ensures, counts .ensures) (laws.count-limit (z .args .s .now) (z .args .r) (z .pre .0) (z .pre .1)),
-      omega (arith, c .before .large-buffer .ensures),
+      rw (c .before .before .before .before .before .before .counts-of .ensures) (pages.page-ready (z .args .s .now) (z .args .r) (z .pre .0) (z .pre .1)),
+      l .0,
+      l .1,
+      rw (c .before .before .before .before .before .ending-count .ensures, c .before .before .before .before .before .before .counts-of .ensures) (numbers.count-limit (z .args .s .now) (z .args .r) (z .pre .0) (z .pre .1)),
+      g,
     )
 
 returns : tie.Need-returns
@@ -59,9 +60,9 @@ print-run-spec =
     cast-ending-count
     add-ending-count
     ending-count-requires
-    print-first-requires
+    open-schedule-requires
     table-of-requires
     large-buffer-requires
-    slice-aggregate-print-endings
-    print-endings-requires
+    slice-aggregate-print-lines
+    print-lines-requires
     returns)

@@ -1,142 +1,217 @@
-use native.Mathlib.Omega.{arith}
-use Prim.Native.Nat.{_+_, _-_, _≤_}
+use Prim.Native.Nat.{_+_, _-_, _≤_, _<_}
 use mathlib.Core.Path.{_≡_, refl, sym, ap, subst, _∙_}
-use lib.ListN.{length, drop}
-use Rattle.lists.specs.Tab.{over}
+use lib.ListN.{length}
+use Rattle.lists.specs.Tab.{over, front}
+use Rattle.image.specs.Layout.{noContents}
 use Rattle.machine.specs.Line.{lineCount}
-use Rattle.page.specs.Printed.{endingLine}
-use Rattle.endtable.specs.Opened.{blankCounts}
-use Rattle.endtable.specs.Picks.{endingFrom, pickedImage, picksOf, Filled}
-use Rattle.endtable.proofs.Digits as digits
-use Rattle.printing.specs.Lines.{linesBy, stretchOf}
+use Rattle.page.specs.Filled.{linesOn, fitting}
+use Rattle.endtable.specs.Picks.{picksOf, pickedNode, turnedOf}
+use Rattle.endtable.proofs.Turns as turns
+use Rattle.endtable.proofs.Openings as openings
+use Rattle.printing.specs.Lines.{lineFrom}
 use Rattle.printing.proofs.Written as written
-use Rattle.printing.proofs.PageLaws as laws
-use Rattle.printing.proofs.Stretches as stretches
+use Rattle.printing.proofs.Fittings as laws
+use Rattle.printing.proofs.Picked as picked
+use native.Mathlib.Omega.{arith}
 use Rattle.printing.proofs.stretch.write_endings.Statement.{statement}
 use Rattle.printing.proofs.stretch.write_endings.Tie as tie
 
+abbrev Inv-loop2 : tie.InvT-loop2
+Inv-loop2 b at counts n from to t count picks k p nodes₀ i₀ nodes i = (i ≤ count) × (nodes ≡ front (pickedNode t picks) i noContents)
+
+abbrev μ-loop2 : tie.MeasureT-loop2
+μ-loop2 b at counts n from to t count picks k p nodes₀ i₀ nodes i = count - i
+
 abbrev Inv-loop : tie.InvT-loop
-Inv-loop b₀ at t counts n from to k₀ p₀ b k p =
-    (from ≤ k) × (k ≤ to) × (p ≤ length b₀) × (p ≡ at + length (linesBy (endingFrom t counts n) from (k - from)))
-    × (b ≡ over b₀ at (linesBy (endingFrom t counts n) from (k - from)))
-    × (stretchOf (endingFrom t counts n) (length b₀) (to - from) from at ≡ stretchOf (endingFrom t counts n) (length b₀) (to - k) k p)
+Inv-loop b₀ at counts n from to t count picks₀ k₀ p₀ b picks k p =
+    (from ≤ k) × (k ≤ to) × (p ≤ length b₀) × (p ≡ at + length (linesOn (lineFrom t counts n) from (k - from)))
+    × (b ≡ over b₀ at (linesOn (lineFrom t counts n) from (k - from)))
+    × (from + fitting (lineFrom t counts n) from (to - from) (length b₀ - at) ≡ k + fitting (lineFrom t counts n) k (to - k) (length b₀ - p))
+    × (picks ≡ picksOf counts n k) × (from < k → length (lineFrom t counts n from) ≤ 721)
 
 abbrev μ-loop : tie.MeasureT-loop
-μ-loop b₀ at t counts n from to k₀ p₀ b k p = to - k
+μ-loop b₀ at counts n from to t count picks₀ k₀ p₀ b picks k p = to - k
 
-loop-holds : tie.Need-loop-holds Inv-loop μ-loop
+ending-picks-requires : tie.Need-ending-picks-requires Inv-loop2 μ-loop2 Inv-loop μ-loop
+ending-picks-requires c κs = (omega arith, c .before .pre .1 .0)
+
+loop-holds : tie.Need-loop-holds Inv-loop2 μ-loop2 Inv-loop μ-loop
 loop-holds c =
-    let a = c .before .args in
-    let s = laws.by-start (endingFrom (a .t) (a .counts) (a .n)) (a .from) (a .b .now) (a .at) in
-    (omega arith, omega arith, omega arith, s .0, s .1, refl)
+    let a = c .before .before .args in
+    let s = laws.on-start (lineFrom (a .t3) (a .counts) (a .n)) (a .from) (a .b .now) (a .at) in
+    (omega arith, omega arith, omega arith, s .0, s .1, refl, c .ending-picks .ensures, λ h. absurd (omega arith))
 
-sub-if1 : tie.Need-sub-if1 Inv-loop μ-loop
-sub-if1 c =
-    let a = c .before .before .before .args in
-    let p = c .before .loop in
-    omega (arith, written.same-room (a .b .now) (a .at) (linesBy (endingFrom (a .t) (a .counts) (a .n)) (a .from) (p .k - a .from)) (p .inv .4))
+no-contents-requires : tie.Need-no-contents-requires Inv-loop2 μ-loop2 Inv-loop μ-loop
+no-contents-requires c κs = tt
 
-same-length : tie.Need-same-length Inv-loop μ-loop
+loop2-holds : tie.Need-loop2-holds Inv-loop2 μ-loop2 Inv-loop μ-loop
+loop2-holds c =
+    let a = c .before .before .before .before .before .args in
+    (omega arith, c .no-contents .ensures ∙ sym (openings.front-none (pickedNode (a .t3) (c .before .before .loop .picks)) noContents))
+
+add-j : tie.Need-add-j Inv-loop2 μ-loop2 Inv-loop μ-loop
+add-j c = omega arith
+
+array-read-j : tie.Need-array-read-j Inv-loop2 μ-loop2 Inv-loop μ-loop
+array-read-j c = omega arith
+
+cast-j : tie.Need-cast-j Inv-loop2 μ-loop2 Inv-loop μ-loop
+cast-j c = omega (arith, picked.picks-filled (c .before .before .before .before .before .before .before .args .counts) (c .before .before .before .before .before .before .before .args .n) (c .before .before .before .before .loop .k) (c .before .before .before .before .loop .picks) (c .before .before .before .before .before .before .before .pre .1) (c .before .before .before .before .loop .inv .6) (c .before .loop2 .i + 1) (omega arith))
+
+add-nodes : tie.Need-add-nodes Inv-loop2 μ-loop2 Inv-loop μ-loop
+add-nodes c = omega arith
+
+mul-nodes : tie.Need-mul-nodes Inv-loop2 μ-loop2 Inv-loop μ-loop
+mul-nodes c = omega arith
+
+mul-nodes-2 : tie.Need-mul-nodes-2 Inv-loop2 μ-loop2 Inv-loop μ-loop
+mul-nodes-2 c = omega (arith, picked.picks-filled (c .before .before .before .before .before .before .before .args .counts) (c .before .before .before .before .before .before .before .args .n) (c .before .before .before .before .loop .k) (c .before .before .before .before .loop .picks) (c .before .before .before .before .before .before .before .pre .1) (c .before .before .before .before .loop .inv .6) (c .before .loop2 .i + 1) (omega arith))
+
+index-1-nodes : tie.Need-index-1-nodes Inv-loop2 μ-loop2 Inv-loop μ-loop
+index-1-nodes c = omega arith
+
+index-2-nodes : tie.Need-index-2-nodes Inv-loop2 μ-loop2 Inv-loop μ-loop
+index-2-nodes c = picked.picks-filled (c .before .before .before .before .before .before .before .args .counts) (c .before .before .before .before .before .before .before .args .n) (c .before .before .before .before .loop .k) (c .before .before .before .before .loop .picks) (c .before .before .before .before .before .before .before .pre .1) (c .before .before .before .before .loop .inv .6) (c .before .loop2 .i + 1) (omega arith)
+
+mul-nodes-3 : tie.Need-mul-nodes-3 Inv-loop2 μ-loop2 Inv-loop μ-loop
+mul-nodes-3 c = omega arith
+
+array-set-from-nodes : tie.Need-array-set-from-nodes Inv-loop2 μ-loop2 Inv-loop μ-loop
+array-set-from-nodes c = omega arith
+
+add-i : tie.Need-add-i Inv-loop2 μ-loop2 Inv-loop μ-loop
+add-i c = omega arith
+
+loop2-less : tie.Need-loop2-less Inv-loop2 μ-loop2 Inv-loop μ-loop
+loop2-less c = omega arith
+
+loop2-again : tie.Need-loop2-again Inv-loop2 μ-loop2 Inv-loop μ-loop
+loop2-again c =
+    let a = c .before .before .before .before .before .before .before .before .args in
+    let p = c .before .before .loop2 in
+    (omega arith, rw (p .inv .1) (openings.picked-next (a .t3) (c .before .before .before .before .before .loop .picks) (p .i) (omega arith)))
+
+array-read-h : tie.Need-array-read-h Inv-loop2 μ-loop2 Inv-loop μ-loop
+array-read-h c = omega arith
+
+cast-h : tie.Need-cast-h Inv-loop2 μ-loop2 Inv-loop μ-loop
+cast-h c = omega (arith, picked.picks-filled (c .before .before .before .before .before .before .before .args .counts) (c .before .before .before .before .before .before .before .args .n) (c .before .before .before .before .loop .k) (c .before .before .before .before .loop .picks) (c .before .before .before .before .before .before .before .pre .1) (c .before .before .before .before .loop .inv .6) 0 (omega arith))
+
+mul-head : tie.Need-mul-head Inv-loop2 μ-loop2 Inv-loop μ-loop
+mul-head c = omega (arith, picked.picks-filled (c .before .before .before .before .before .before .before .args .counts) (c .before .before .before .before .before .before .before .args .n) (c .before .before .before .before .loop .k) (c .before .before .before .before .loop .picks) (c .before .before .before .before .before .before .before .pre .1) (c .before .before .before .before .loop .inv .6) 0 (omega arith))
+
+index-1-head : tie.Need-index-1-head Inv-loop2 μ-loop2 Inv-loop μ-loop
+index-1-head c = omega arith
+
+index-2-head : tie.Need-index-2-head Inv-loop2 μ-loop2 Inv-loop μ-loop
+index-2-head c = picked.picks-filled (c .before .before .before .before .before .before .before .args .counts) (c .before .before .before .before .before .before .before .args .n) (c .before .before .before .before .loop .k) (c .before .before .before .before .loop .picks) (c .before .before .before .before .before .before .before .pre .1) (c .before .before .before .before .loop .inv .6) 0 (omega arith)
+
+fit-ending-requires : tie.Need-fit-ending-requires Inv-loop2 μ-loop2 Inv-loop μ-loop
+fit-ending-requires c κs =
+    let a = c .before .before .before .before .before .before .before .before .before .args in
+    let p = c .before .before .before .before .before .before .loop in
+    (omega arith, omega arith, omega (arith, written.same-room (a .b .now) (a .at) (linesOn (lineFrom (a .t3) (a .counts) (a .n)) (a .from) (p .k - a .from)) (p .inv .4)))
+
+same-length : tie.Need-same-length Inv-loop2 μ-loop2 Inv-loop μ-loop
 same-length c =
-    let a = c .before .before .before .before .args in
-    let p = c .before .before .loop in
-    written.same-room (a .b .now) (a .at) (linesBy (endingFrom (a .t) (a .counts) (a .n)) (a .from) (p .k - a .from)) (p .inv .4)
+    let a = c .before .before .before .before .before .before .before .before .before .before .before .before .before .args in
+    let p = c .before .before .before .before .before .before .before .before .before .before .loop in
+    c .before .before .before .fit-ending .kept .0 ∙ written.same-room (a .b .now) (a .at) (linesOn (lineFrom (a .t3) (a .counts) (a .n)) (a .from) (p .k - a .from)) (p .inv .4)
 
-returns : tie.Need-returns Inv-loop μ-loop
+returns : tie.Need-returns Inv-loop2 μ-loop2 Inv-loop μ-loop
 returns c =
-    let a = c .before .before .before .before .args in
-    let p = c .before .before .loop in
-    let m = written.same-room (a .b .now) (a .at) (linesBy (endingFrom (a .t) (a .counts) (a .n)) (a .from) (p .k - a .from)) (p .inv .4) in
-    let f = endingFrom (a .t) (a .counts) (a .n) in (
-      sym (p .inv .5 ∙ stretches.stretch-full f (length (a .b .now)) (p .k) (a .to) (p .p) (omega arith) (omega (arith, m, c .if1 .taken))),
-      (
-        record { from = omega arith; below = omega arith; behind = p .inv .3; within = omega arith; full = λ h. omega (arith, m, c .if1 .taken) },
-        p .inv .4,
-      ),
-    )
+    let a = c .before .before .before .before .before .before .before .before .before .before .before .before .before .args in
+    let p = c .before .before .before .before .before .before .before .before .before .before .loop in
+    let i = c .before .before .before .before .before .before .before .loop2 in
+    let w = c .before .before .before .fit-ending in
+    let f = lineFrom (a .t3) (a .counts) (a .n) in
+    let m = written.same-room (a .b .now) (a .at) (linesOn (lineFrom (a .t3) (a .counts) (a .n)) (a .from) (p .k - a .from)) (p .inv .4) in
+    let e = picked.picked-line (a .t3) (a .counts) (a .n) (p .k) (p .picks) (i .nodes) (i .i) (omega arith) (i .inv .1) (p .inv .6) in
+    let l = laws.put-left (p .b) (p .p) (length (p .b) - p .p) _ (w .ensures .0, w .ensures .1 .0) (c .if1 .taken) (picked.line-some (p .k) _) in
+    let h : length (f (p .k)) ≤ 721 = omega (arith, w .ensures .1 .1, ap length e) in
+    (omega (arith, p .inv .5, laws.fit-full f (p .k) (a .to) (length (a .b .now) - p .p) (omega arith) (omega (arith, l .0, m, ap length e))), (p .inv .3, (l .1 ∙ p .inv .4, λ q. picked.first-known (λ j. length (f j) ≤ 721) (a .from) (p .k) (p .inv .7) (omega arith) h (omega arith))))
 
-ending-picks-requires : tie.Need-ending-picks-requires Inv-loop μ-loop
-ending-picks-requires c κs =
-    let s = c .before .before .before .before in
-    (omega arith, s .pre .1 .0)
+turned-requires : tie.Need-turned-requires Inv-loop2 μ-loop2 Inv-loop μ-loop
+turned-requires c κs = (c .before .before .before .before .before .before .before .before .before .before .before .before .before .pre .0, c .before .before .before .before .before .before .before .before .before .before .before .before .before .pre .1 .0)
 
-ending-image-requires : tie.Need-ending-image-requires Inv-loop μ-loop
-unfolding picksOf
-ending-image-requires c κs =
-    let s = c .before .before .before .before .before in
-    let a = s .args in
-    let p = c .before .before .before .loop in (
-      omega arith,
-      subst (λ ps. Filled ps (lineCount (a .n))) (sym (c .ending-picks .ensures))
-          (digits.digits-front (a .counts) (lineCount (a .n)) (p .k) (drop (lineCount (a .n)) blankCounts) (s .pre .1)),
-    )
-
-write-ending-requires : tie.Need-write-ending-requires Inv-loop μ-loop
-unfolding pickedImage
-write-ending-requires c κs =
-    let a = c .before .before .before .before .before .before .before .args in
-    let p = c .before .before .before .before .before .loop in
-    let m = written.same-room (a .b .now) (a .at) (linesBy (endingFrom (a .t) (a .counts) (a .n)) (a .from) (p .k - a .from)) (p .inv .4) in
-    (subst (λ g. g .n ≤ 64) (sym (c .before .ending-image .ensures)) (c .before .before .before .before .before .before .before .pre .0), omega arith, omega (arith, m, c .before .before .before .if1 .left))
-
-add-k : tie.Need-add-k Inv-loop μ-loop
+add-k : tie.Need-add-k Inv-loop2 μ-loop2 Inv-loop μ-loop
 add-k c = omega arith
 
-loop-less : tie.Need-loop-less Inv-loop μ-loop
+loop-less : tie.Need-loop-less Inv-loop2 μ-loop2 Inv-loop μ-loop
 loop-less c = omega arith
 
-loop-again : tie.Need-loop-again Inv-loop μ-loop
-unfolding endingFrom
+loop-again : tie.Need-loop-again Inv-loop2 μ-loop2 Inv-loop μ-loop
 loop-again c =
-    let a = c .before .before .before .before .before .before .before .before .before .before .args in
-    let p = c .before .before .before .before .before .before .before .before .loop in
-    let i = c .before .before .before .before .ending-image in
-    let w = c .before .before .write-ending in
-    let m = written.same-room (a .b .now) (a .at) (linesBy (endingFrom (a .t) (a .counts) (a .n)) (a .from) (p .k - a .from)) (p .inv .4) in
-    let f = endingFrom (a .t) (a .counts) (a .n) in
-    let g = i .ensures ∙ ap (λ ps. pickedImage (a .t) ps (a .n)) (c .before .before .before .before .before .ending-picks .ensures) in
-    let s = laws.by-more f (a .from) (p .k) (i .result) (a .b .now) (a .at) (omega arith) g (p .inv .3, p .inv .4) (w .ensures .0 .0, w .ensures .1) in (
+    let z = c .before .before .before .before .before .before .before .before .before .before .before .before .before .before in
+    let a = z .args in
+    let p = c .before .before .before .before .before .before .before .before .before .before .before .loop in
+    let i = c .before .before .before .before .before .before .before .before .loop2 in
+    let w = c .before .before .before .before .fit-ending in
+    let f = lineFrom (a .t3) (a .counts) (a .n) in
+    let m = written.same-room (a .b .now) (a .at) (linesOn (lineFrom (a .t3) (a .counts) (a .n)) (a .from) (p .k - a .from)) (p .inv .4) in
+    let e = picked.picked-line (a .t3) (a .counts) (a .n) (p .k) (p .picks) (i .nodes) (i .i) (omega arith) (i .inv .1) (p .inv .6) in
+    let l = laws.put-taken (p .b) (p .p) (length (p .b) - p .p) _ (w .ensures .0, w .ensures .1 .0) (c .before .if1 .left) in
+    let y = subst (λ s. written.Put (p .b) (p .p) s (w .last .0) (w .result)) e (l .1) in
+    let s = laws.on-put f (a .from) (p .k) (a .b .now) (a .at) (omega arith) (p .inv .3, p .inv .4) y in
+    let h : length (f (p .k)) ≤ length (a .b .now) - p .p = omega (arith, l .0, m, ap length e) in
+    let r : length (a .b .now) - p .p - length (f (p .k)) ≡ length (a .b .now) - w .result = omega (arith, y .0) in (
       omega arith,
       omega arith,
-      omega (arith, m, w .ensures .0 .1, c .before .before .before .before .before .before .if1 .left),
+      omega (arith, h, y .0),
       s .0,
       s .1,
-      p .inv .5
-          ∙ stretches.stretch-next f (length (a .b .now)) (p .k) (a .to) (p .p) (omega arith) (omega (arith, m, c .before .before .before .before .before .before .if1 .left))
-          ∙ ap (stretchOf f (length (a .b .now)) (a .to - (p .k + 1)) (p .k + 1)) (sym (w .ensures .0 .0 ∙ ap (λ g. p .p + length (endingLine (p .k) g)) g)),
+      p .inv .5 ∙ laws.fit-next f (p .k) (a .to) (length (a .b .now) - p .p) (omega arith) h ∙ ap (λ x. p .k + 1 + fitting f (p .k + 1) (a .to - (p .k + 1)) x) r,
+      c .turned .ensures ∙ ap (turnedOf (a .counts) (lineCount (a .n))) (p .inv .6) ∙ turns.turn-picks (a .counts) (a .n) (p .k) (z .pre .1 .0),
+      picked.first-known (λ j. length (f j) ≤ 721) (a .from) (p .k) (p .inv .7) (omega arith) (omega (arith, w .ensures .1 .1, ap length e)),
     )
 
-same-length-2 : tie.Need-same-length-2 Inv-loop μ-loop
+same-length-2 : tie.Need-same-length-2 Inv-loop2 μ-loop2 Inv-loop μ-loop
 same-length-2 c =
-    let a = c .before .before .before .args in
+    let a = c .before .before .before .before .args in
     let p = c .before .loop in
-    written.same-room (a .b .now) (a .at) (linesBy (endingFrom (a .t) (a .counts) (a .n)) (a .from) (p .k - a .from)) (p .inv .4)
+    written.same-room (a .b .now) (a .at) (linesOn (lineFrom (a .t3) (a .counts) (a .n)) (a .from) (p .k - a .from)) (p .inv .4)
 
-returns-2 : tie.Need-returns-2 Inv-loop μ-loop
+returns-2 : tie.Need-returns-2 Inv-loop2 μ-loop2 Inv-loop μ-loop
 returns-2 c =
-    let a = c .before .before .before .args in
+    let a = c .before .before .before .before .args in
     let p = c .before .loop in
-    let f = endingFrom (a .t) (a .counts) (a .n) in (
-      sym (p .inv .5 ∙ stretches.stretch-end f (length (a .b .now)) (p .k) (a .to) (p .p) (omega arith)),
-      (
-        record { from = omega arith; below = omega arith; behind = p .inv .3; within = omega arith; full = λ h. absurd (omega arith) },
-        p .inv .4,
-      ),
-    )
+    let f = lineFrom (a .t3) (a .counts) (a .n) in
+    (omega (arith, p .inv .5, laws.fit-end f (p .k) (a .to) (length (a .b .now) - p .p) (omega arith)), (p .inv .3, (p .inv .4, λ q. p .inv .7 (omega arith))))
 
 pub write-endings-spec : {M : Type 1} → statement M
 write-endings-spec =
     tie.close
     (tie.spec
+    Inv-loop2
+    μ-loop2
     Inv-loop
     μ-loop
+    ending-picks-requires
     loop-holds
-    sub-if1
+    no-contents-requires
+    loop2-holds
+    add-j
+    array-read-j
+    cast-j
+    add-nodes
+    mul-nodes
+    mul-nodes-2
+    index-1-nodes
+    index-2-nodes
+    mul-nodes-3
+    array-set-from-nodes
+    add-i
+    loop2-less
+    loop2-again
+    array-read-h
+    cast-h
+    mul-head
+    index-1-head
+    index-2-head
+    fit-ending-requires
     same-length
     returns
-    ending-picks-requires
-    ending-image-requires
-    write-ending-requires
+    turned-requires
     add-k
     loop-less
     loop-again

@@ -1,0 +1,204 @@
+-- Every line of a page of bytes goes into 721 bytes.
+use Prim.Native.Nat.{ℕ, zero, suc, _+_, _≤_, _<_}
+use mathlib.Core.Path.{_≡_, refl, sym, ap, subst, _∙_}
+use mathlib.Core.Bool.{Bool, true, false}
+use mathlib.Core.List.{List, [], _∷_, _++_, map}
+use mathlib.Core.Logic.{_⊎_, inl, inr}
+use native.Mathlib.Omega.{arith}
+use lib.ListN.{length, getD, drop}
+use lib.Seq.{getD-drop}
+use Rattle.lists.specs.Tab.{tab, front}
+use Rattle.answer.specs.Answers.{accepted}
+use Rattle.answer.specs.declared.Answer.{Answer}
+use Rattle.image.specs.Bytes.{at4}
+use Rattle.image.specs.Layout.{noContent, noContents, contentAt, readContent, readNodes, nodePlace, imageIn}
+use Rattle.image.specs.declared.Content.{Content}
+use Rattle.image.specs.declared.Image.{Image}
+use Rattle.machine.specs.Line.{lineCount, cachedAt, persistedAt}
+use Rattle.machine.specs.Event.{Deed, unknown, enqueues, dequeues, steps, writesBack, crashes, deedOf}
+use Rattle.machine.specs.declared.Machine.{Machine}
+use Rattle.machine.specs.declared.Event.{Event}
+use Rattle.machine.proofs.AnswerLaws as starts
+use Rattle.schedule.specs.Layout.{scheduleIn, eventIn, eventsIn, threadsIn, nodesIn, countIn}
+use Rattle.schedule.specs.Run.{Bench, Ran, run, ran, turned, opened}
+use Rattle.page.specs.Contents.{sameContent, joins, gathered, contentsOf, tableOf}
+use Rattle.page.specs.Endings.{choices, product, imageOf, ending}
+use Rattle.page.specs.Printed.{firstLine, endingLine}
+use Rattle.page.specs.Refusals.{tableIn, tableAnswer, pageAnswer, endingCount, endingIn}
+use Rattle.page.specs.Filled.{pageLine}
+use Rattle.lawful.specs.Demand3.{Bytes}
+use Rattle.endtable.proofs.Moments as moments
+use Rattle.codec.proofs.Accepted as codec
+use Rattle.pageproof.proofs.Among.{Among, choice-in}
+use Rattle.pageproof.proofs.Events.{onto}
+use Rattle.pageproof.proofs.Runs as runs
+use Rattle.pageproof.proofs.Holds as holds
+use Rattle.pages.proofs.PageLaws as laws
+use Rattle.printing.specs.Bounds.{lineRoom}
+use Rattle.printing.proofs.Short as short
+use Rattle.filling.proofs.Numbers as numbers
+use Rattle.filling.proofs.Small.{Little, Small, front-all, no-content, small-start, small-done}
+
+-- ---- a run
+
+abbrev SmallAll : List Machine → Type 0
+SmallAll [] = Unit {0}
+SmallAll (m ∷ l) = Small m × SmallAll l
+
+all-append : (l : List Machine) (m : Machine) → SmallAll l → Small m → SmallAll (l ++ (m ∷ []))
+all-append [] m h s = (s, tt)
+all-append (x ∷ l) m h s = (h .0, all-append l m (h .1) s)
+
+all-drop : (n : ℕ) (l : List Machine) → SmallAll l → SmallAll (drop n l)
+all-drop zero l h = h
+all-drop (suc n) [] h = tt
+all-drop (suc n) (m ∷ l) h = all-drop n l (h .1)
+
+record SmallBench (b : Bench) : Type 0 where
+  pub machine : Small (b .machine)
+  pub past : SmallAll (b .past)
+
+small-turned : (b : Bench) (m : Machine) (e : Event) (d : Deed) → SmallBench b → Small m → SmallBench (turned b m e d)
+small-turned b m e unknown h s = h
+small-turned b m e enqueues h s = record { machine = s; past = all-append (b .past) m (h .past) s }
+small-turned b m e dequeues h s = record { machine = s; past = all-append (b .past) m (h .past) s }
+small-turned b m e steps h s = record { machine = s; past = all-append (b .past) m (h .past) s }
+small-turned b m e writesBack h s = record { machine = s; past = all-append (b .past) m (h .past) s }
+small-turned b m e crashes h s = record { machine = s; past = (s, tt) }
+
+abbrev SmallItems : List Event → Type 0
+SmallItems [] = Unit {0}
+SmallItems (e ∷ l) = (e .item < 4294967296) × SmallItems l
+
+small-run : (l : List Event) (p : ℕ) (b : Bench) → SmallItems l → SmallBench b → runs.Accepts p b l → SmallBench (run p b l .bench)
+small-run [] p b i g h = rw (runs.run-nothing p b) g
+small-run (e ∷ l) p b i g h =
+    let t = runs.run-first p b e l h in
+    rw (runs.run-bench p b e l t)
+    (small-run l (suc p) (onto b e) (i .1) (small-turned b _ e (deedOf (e .kind)) g (small-done (b .machine) e (deedOf (e .kind)) (i .0) (g .machine))) (runs.run-rest p b e l h))
+
+-- ---- what the bytes hold
+
+word-small : (s : List ℕ) → Bytes s → (i : ℕ) → at4 s i < 4294967296
+word-small s y i = omega (arith, y i, y (i + 1), y (i + 2), y (i + 3))
+
+items-append : (l : List Event) (e : Event) → SmallItems l → e .item < 4294967296 → SmallItems (l ++ (e ∷ []))
+items-append [] e h p = (p, tt)
+items-append (x ∷ l) e h p = (h .0, items-append l e (h .1) p)
+
+items-tab : (f : ℕ → Event) → ((i : ℕ) → f i .item < 4294967296) → (n : ℕ) → SmallItems (tab f n)
+unfolding tab
+items-tab f h zero = tt
+items-tab f h (suc n) = items-append (tab f n) (f n) (items-tab f h n) (h n)
+
+bytes-drop : (s : List ℕ) (n : ℕ) → Bytes s → Bytes (drop n s)
+bytes-drop s n y i = subst (λ x. x < 256) (sym (getD-drop n s i 0)) (y (n + i))
+
+contents-small : (s : List ℕ) → Bytes s → (i : ℕ) → Little (contentAt (imageIn s .nodes) i)
+unfolding imageIn readNodes
+contents-small s y i =
+    front-all Little (λ i. readContent s (nodePlace i)) (getD s 5 0) noContents noContent
+    (λ j p. (word-small s y (nodePlace j + 1), word-small s y (nodePlace j + 5))) no-content i
+
+head-small : (s : List ℕ) → Bytes s → imageIn s .head < 4294967296
+unfolding imageIn
+head-small s y = word-small s y 6
+
+ran-small : (s : List ℕ) → Bytes s → accepted (ran s .answer) ≡ true → SmallBench (ran s .bench)
+unfolding ran eventsIn scheduleIn
+ran-small s y h =
+    let d = bytes-drop s 8 y in
+    let g = small-start (imageIn (drop 8 s)) (threadsIn s) (contents-small (drop 8 s) d) (head-small (drop 8 s) d) in
+    small-run (eventsIn s) 0 (opened (scheduleIn s)) (items-tab (eventIn s) (λ i. word-small s y _) (countIn s)) (record { machine = g; past = (g, tt) }) h
+
+-- ---- the contents of a line
+
+abbrev AllLittle : List Content → Type 0
+AllLittle [] = Unit {0}
+AllLittle (c ∷ l) = Little c × AllLittle l
+
+joins-by : (a c : Content) (l r : List Content) (t : Bool) → AllLittle (a ∷ l) → AllLittle (a ∷ r)
+    → AllLittle (elim t as (λ _. List Content) [ true ↦ a ∷ l | false ↦ a ∷ r ])
+joins-by a c l r true p q = p
+joins-by a c l r false p q = q
+
+joins-all : (l : List Content) (c : Content) → AllLittle l → Little c → AllLittle (joins l c)
+unfolding joins
+joins-all [] c h p = (p, tt)
+joins-all (a ∷ l) c h p = joins-by a c l (joins l c) (sameContent a c) h (h .0, joins-all l c (h .1) p)
+
+gathered-all : (l seen : List Content) → AllLittle seen → AllLittle l → AllLittle (gathered seen l)
+unfolding gathered
+gathered-all [] seen h p = h
+gathered-all (c ∷ l) seen h p = gathered-all l (joins seen c) (joins-all seen c h (p .0)) (p .1)
+
+cached-little : (m : Machine) → Small m → (l : ℕ) → Little (cachedAt m l)
+cached-little m s zero = (s .mark, omega arith)
+cached-little m s (suc i) = s .cached i
+
+persisted-little : (m : Machine) → Small m → (l : ℕ) → Little (persistedAt m l)
+persisted-little m s zero = (s .savedMark, omega arith)
+persisted-little m s (suc i) = s .saved i
+
+map-all : (l : ℕ) (ms : List Machine) → SmallAll ms → AllLittle (map (λ m. cachedAt m l) ms)
+map-all l [] h = tt
+map-all l (m ∷ ms) h = (cached-little m (h .0) l, map-all l ms (h .1))
+
+contents-all : (b : Bench) → SmallBench b → (l : ℕ) → AllLittle (contentsOf b l)
+unfolding contentsOf
+contents-all b h l =
+    gathered-all _ (persistedAt (b .machine) l ∷ []) (persisted-little (b .machine) (h .machine) l, tt)
+    (map-all l (drop (getD (b .from) l 0) (b .past)) (all-drop (getD (b .from) l 0) (b .past) (h .past)))
+
+among-little : (l : List Content) (c : Content) → AllLittle l → Among c l → Little c
+among-little [] c h a = absurd a
+among-little (d ∷ l) c h (inl e) = subst Little (sym e) (h .0)
+among-little (d ∷ l) c h (inr a) = among-little l c (h .1) a
+
+-- ---- an ending
+
+module _ (b : Bench) (h : SmallBench b) (k : ℕ) (lt : k < product (tableOf b)) where
+  abbrev chosen : List Content
+  chosen = getD (choices (tableOf b)) k []
+
+  chosen-little : (j : ℕ) → j < lineCount (b .machine .n) → Little (contentAt chosen j)
+  chosen-little j p =
+      among-little (contentsOf b j) (contentAt chosen j) (contents-all b h j)
+      (subst (λ (x : List Content). Among (contentAt chosen j) x) (moments.table-at b j p) (choice-in (tableOf b) k lt j (omega (arith, moments.table-length b))))
+
+  ending-short : k < 65536 → b .machine .n ≤ 64 → length (endingLine k (imageOf (b .machine .n) chosen)) ≤ lineRoom 64
+  unfolding imageOf
+  ending-short q n =
+      short.image-short 64 k _ (omega arith) q (chosen-little 0 (omega arith) .0)
+      (short.items-small _ (λ i. front-all Little (λ i. contentAt chosen (suc i)) (b .machine .n) noContents noContent (λ j p. chosen-little (suc j) (omega arith)) no-content i .1))
+      n
+
+-- ---- a line
+
+module _ (s : List ℕ) (y : Bytes s) (a : accepted (pageAnswer s) ≡ true) where
+  schedule-yes : codec.ScheduleTaken s
+  schedule-yes = codec.schedule-taken s (numbers.schedule-first s a)
+
+  nodes-few : ran s .bench .machine .n ≤ 64
+  nodes-few =
+      omega (arith, numbers.ran-nodes s (holds.page-ran s a), starts.nodes-range (nodesIn s) (schedule-yes .part .nodes) .1)
+
+  first-fits : length (firstLine (threadsIn s) (nodesIn s) (countIn s) (endingCount s)) ≤ lineRoom 64
+  first-fits =
+      let n = starts.nodes-range (nodesIn s) (schedule-yes .part .nodes) in
+      let t = starts.threads-range (threadsIn s) (schedule-yes .threads) in
+      omega (
+        arith,
+        short.first-short (threadsIn s) (nodesIn s) (countIn s) (endingCount s) (omega (arith, t .1)) (omega (arith, n .1))
+            (omega (arith, schedule-yes .count)) (omega (arith, numbers.count-few s a)),
+      )
+
+  line-fits : (k : ℕ) → k < endingCount s → length (endingLine k (endingIn s k)) ≤ lineRoom 64
+  unfolding endingIn ending tableIn endingCount
+  line-fits k h =
+      ending-short (ran s .bench) (ran-small s y (holds.page-ran s a)) k h (omega (arith, numbers.count-few s a)) nodes-few
+
+  pub lines-short : (k : ℕ) → k ≤ endingCount s → length (pageLine s k) ≤ lineRoom 64
+  unfolding pageLine
+  lines-short zero h = first-fits
+  lines-short (suc k) h = line-fits k (omega arith)

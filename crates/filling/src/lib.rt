@@ -1,0 +1,7 @@
+// The printed page's lines, as many as fit, into a lent buffer; and the line of a refusal.
+pub mod calls;
+pub mod table;
+
+pub use calls::page_lines;
+pub use calls::refusal_line;
+pub use table::fill;
