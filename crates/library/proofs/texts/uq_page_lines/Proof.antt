@@ -18,7 +18,7 @@ same-length c = search needs
 returns : tie.Need-returns
 returns c =
     let e = c .before .before .before .before .page-lines .ensures in
-    (c .packed-of .ensures ∙ rw (c .before .lines-of .ensures .0, e .0, e .1 .0, e .1 .1 .0), e .1 .1 .1)
+    (c .packed-of .ensures ∙ rw (c .before .lines-of .ensures .0, e .0, e .1 .0, e .1 .1 .0), e .1 .1 .1 .0)
 
 pub uq-page-lines-spec : {M : Type 1} → statement M
 uq-page-lines-spec =

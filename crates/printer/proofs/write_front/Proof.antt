@@ -1,8 +1,8 @@
 use mathlib.Core.Path.{sym}
 use lib.Seq.{length-take-le}
 use borrow.Author.Needs.{needs}
-use Rattle.endings.proofs.write_front.Statement.{statement}
-use Rattle.endings.proofs.write_front.Tie as tie
+use Rattle.printer.proofs.write_front.Statement.{statement}
+use Rattle.printer.proofs.write_front.Tie as tie
 
 slice-aggregate-write-all : tie.Need-slice-aggregate-write-all
 slice-aggregate-write-all c = let a = c .before .before .args in sym (length-take-le (a .n) (a .b .now) (c .before .before .pre))

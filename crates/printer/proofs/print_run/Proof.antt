@@ -1,11 +1,10 @@
 use Prim.Native.Nat.{_≤_}
-use lib.ListN.{length}
 use Rattle.pages.proofs.PageLaws as pages
 use Rattle.filling.proofs.Numbers as numbers
 use native.Mathlib.Omega.{arith}
 use borrow.Author.Needs.{needs}
-use Rattle.endings.proofs.print_run.Statement.{statement}
-use Rattle.endings.proofs.print_run.Tie as tie
+use Rattle.printer.proofs.print_run.Statement.{statement}
+use Rattle.printer.proofs.print_run.Tie as tie
 
 counts-of-requires : tie.Need-counts-of-requires
 counts-of-requires c κs = search needs
@@ -18,7 +17,7 @@ add-ending-count c = search needs
 
 ending-count-requires : tie.Need-ending-count-requires
 ending-count-requires c κs =
-    let z = c .before .before .before .before in (
+    let z = c .before .before .before .before .before in (
       omega (arith, pages.page-small (z .args .s .now) (z .args .r) (z .pre .0) (z .pre .1)),
       rw (c .counts-of .ensures) (pages.page-counted (z .args .s .now) (z .args .r) (z .pre .0) (z .pre .1)),
     )
@@ -29,25 +28,21 @@ open-schedule-requires c κs = search needs
 table-of-requires : tie.Need-table-of-requires
 table-of-requires c κs = search needs
 
-large-buffer-requires : tie.Need-large-buffer-requires
-large-buffer-requires c κs = search needs
-
-slice-aggregate-print-lines : tie.Need-slice-aggregate-print-lines
-slice-aggregate-print-lines c = search needs
-
 print-lines-requires : tie.Need-print-lines-requires
 print-lines-requires c κs =
     let z = c .before .before .before .before .before .before .before .before .before .before in
-    let o = c .before .before .before .before .open-schedule in
-    let l = numbers.opened-limits (z .args .s .now) (o .result) (o .ensures) (numbers.schedule-yes (z .args .s .now) (z .args .r) (z .pre .0) (z .pre .1)) in
-    let g : 721 ≤ length (c .before .large-buffer .result) = search needs in (
+    let o = c .before .before .before .open-schedule in
+    let l = numbers.opened-limits (z .args .s .now) (o .result) (o .ensures) (numbers.schedule-yes (z .args .s .now) (z .args .r) (z .pre .0) (z .pre .1)) in (
       pages.page-small (z .args .s .now) (z .args .r) (z .pre .0) (z .pre .1),
-      rw (c .before .before .before .before .before .before .counts-of .ensures) (pages.page-ready (z .args .s .now) (z .args .r) (z .pre .0) (z .pre .1)),
+      rw (c .before .before .before .before .before .counts-of .ensures) (pages.page-ready (z .args .s .now) (z .args .r) (z .pre .0) (z .pre .1)),
       l .0,
       l .1,
-      rw (c .before .before .before .before .before .ending-count .ensures, c .before .before .before .before .before .before .counts-of .ensures) (numbers.count-limit (z .args .s .now) (z .args .r) (z .pre .0) (z .pre .1)),
-      g,
+      rw (c .before .before .before .before .ending-count .ensures, c .before .before .before .before .before .counts-of .ensures) (numbers.count-limit (z .args .s .now) (z .args .r) (z .pre .0) (z .pre .1)),
+      z .pre .2,
     )
+
+same-length : tie.Need-same-length
+same-length c = search needs
 
 returns : tie.Need-returns
 returns c = search needs
@@ -62,7 +57,6 @@ print-run-spec =
     ending-count-requires
     open-schedule-requires
     table-of-requires
-    large-buffer-requires
-    slice-aggregate-print-lines
     print-lines-requires
+    same-length
     returns)
