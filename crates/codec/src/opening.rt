@@ -7,6 +7,7 @@ use crate::bytes::is_marked;
 use crate::reading::read_part;
 use crate::taken::is_taken;
 use answer::Answer;
+use machine::Machine;
 use schedule::Opened;
 use schedule::Schedule;
 
@@ -44,7 +45,7 @@ pub fn open_schedule(s: &[u8]) -> Opened
         return refused(Answer::Threads);
     }
     let count = half_at(s, 6);
-    if 4096 < count {
+    if Machine::EVENTS < count {
         return refused(Answer::Events);
     }
     let r = read_part(&s[8..], (count as usize) * 6);

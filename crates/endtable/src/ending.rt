@@ -9,6 +9,7 @@ use answer::Answer;
 use image::Content;
 use image::Image;
 use image::no_contents;
+use machine::Machine;
 
 // The first line with more than 16 contents, and the number of lines where none has.
 pub fn first_crowded(counts: [u8; 65], lines: usize) -> usize
@@ -35,7 +36,7 @@ pub fn ending_count(counts: [u8; 65], lines: usize) -> u32
     while i < lines {
         let c = counts[i] as u32;
         p = p * c;
-        if 65536 < p {
+        if Machine::ENDINGS < p {
             return 65537;
         }
         i += 1;
@@ -53,7 +54,7 @@ pub fn counts_answer(counts: [u8; 65], lines: usize) -> Answer
         return Answer::Contents(crowded as u32);
     }
     let count = ending_count(counts, lines);
-    if 65536 < count {
+    if Machine::ENDINGS < count {
         return Answer::Endings;
     }
     Answer::Taken

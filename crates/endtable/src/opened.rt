@@ -51,14 +51,14 @@ fn blank_table() -> [[Content; 16]; 65]
         index: 0,
         item: 0,
     };
-    let row = [zero; 16];
-    [row; 65]
+    let row = [zero; Machine::CONTENTS];
+    [row; Machine::LINES]
 }
 
 fn blank_counts() -> [u8; 65]
     ensures { λ r. ⌜ r ≡ blankCounts ⌝ }
 {
-    [0; 65]
+    [0; Machine::LINES]
 }
 
 // The row of a line whose persisted content is p and whose cached content is c. The count says whether c is one of its own.

@@ -2,3 +2,4 @@ pub mod Apart
 pub mod Laws
 pub mod Refused
 pub mod Unique
+pub mod Whole

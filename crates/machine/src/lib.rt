@@ -61,9 +61,9 @@ impl Machine {
     // At most so many contents of a line, endings, and events of a schedule.
     pub const CONTENTS: usize = 16;
 
-    pub const ENDINGS: usize = 65536;
+    pub const ENDINGS: u32 = 65536;
 
-    pub const EVENTS: usize = 4096;
+    pub const EVENTS: u16 = 4096;
 
     // The fresh machine of N nodes and T threads: the start of the all-zero image. Public: every input is answered.
     pub fn fresh(n: u8, t: u8) -> Out
