@@ -1,6 +1,6 @@
 // The static library: the public calls on bytes, under C's names. include/uq.h declares them and says how the returned number is taken apart.
 // Each call takes numbers and lent bytes only, returns one number, and has no `requires`.
 mod packing;
-mod records;
-mod schedules;
-mod texts;
+pub mod records;
+pub mod schedules;
+pub mod texts;

@@ -30,7 +30,7 @@ count-none : (s : List ℕ) → accepted (pageAnswer s) ≡ false → countOf s 
 unfolding countOf
 count-none s h = rw h
 
-count-all : (s : List ℕ) → accepted (pageAnswer s) ≡ true → countOf s ≡ endingCount s
+pub count-all : (s : List ℕ) → accepted (pageAnswer s) ≡ true → countOf s ≡ endingCount s
 unfolding countOf
 count-all s h = rw h
 
@@ -39,13 +39,13 @@ yes-of : {A : Type 0} (a b : A) (x : Bool) → x ≡ true → elim x as (λ _. A
 yes-of a b x e = rw e
 
 module _ (s : List ℕ) (h : accepted (pageAnswer s) ≡ true) (k : ℕ) (lt : k < endingCount s) where
-  ending-taken : (room : ℕ) → endingSize s ≤ room → endingAnswer s k room ≡ Taken
+  pub ending-taken : (room : ℕ) → endingSize s ≤ room → endingAnswer s k room ≡ Taken
   unfolding endingAnswer
   ending-taken room l =
       yes-of _ (pageAnswer s) (accepted (pageAnswer s)) h
       ∙ rw (lt-leb (endingCount s) k lt, le-ltb room (endingSize s) l)
 
-  ending-held : (b : List ℕ) → endingSize s ≤ length b → endingWritten s k b ≡ over b 0 (imageBytes (endingIn s k))
+  pub ending-held : (b : List ℕ) → endingSize s ≤ length b → endingWritten s k b ≡ over b 0 (imageBytes (endingIn s k))
   unfolding endingWritten
   ending-held b l = yes-of (over b 0 (imageBytes (endingIn s k))) b (accepted (endingAnswer s k (length b))) (ap accepted (ending-taken (length b) l))
 
