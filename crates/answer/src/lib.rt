@@ -1,7 +1,9 @@
 // What a call answers. The definition `told` in specs/ gives document 01's number, place and values for each case.
 
+mod taken;
 mod telling;
 
+pub use taken::is_taken;
 pub use telling::told_of;
 
 // A case for each refusal, with its place where it has one; and one for each answer of an operation.

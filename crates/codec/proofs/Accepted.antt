@@ -4,10 +4,10 @@ use mathlib.Core.Path.{_≡_, refl, sym, ap, _∙_}
 use mathlib.Core.Bool.{Bool, true, false, not}
 use mathlib.Core.List.{List}
 use native.Mathlib.Omega.{arith}
-use borrow.Author.Tests.{eqb-true, ltb-false, leb-true, lt-ltb, le-ltb}
+use borrow.Author.Tests.{eqb-true, ltb-false, leb-true, lt-ltb, le-ltb, not-false}
 use lib.ListN.{length, drop, length-drop}
 use lib.Dec.{eqb, ltb, leb}
-use Rattle.lists.specs.Find.{both}
+use Rattle.lists.proofs.BoolLaws.{false-true, both-true}
 use Rattle.answer.specs.Answers.{check, accepted}
 use Rattle.answer.specs.declared.Answer.{Answer}
 use Rattle.answer.specs.declared.Answer.the-variants.{Taken, Length, Mark, Nodes, Threads, Events, Linked, Twin, NoDummy, Room}
@@ -18,17 +18,6 @@ use Rattle.image.specs.Refusals.{nodesFit, startable, sound, imageAnswer, write
 use Rattle.image.specs.declared.Image.{Image}
 use Rattle.machine.specs.Start.{threadsFit}
 use Rattle.schedule.specs.Layout.{isSchedule, threadsIn, countIn, imagePart, nodesIn, eventPlace, scheduleIn, scheduleAnswer, readSchedule}
-
-abbrev asNat : Bool → ℕ
-asNat true = 1
-asNat false = 0
-
-pub false-true : {A : Type 0} → false ≡ true → A
-false-true e = let z : _≡_ {A = ℕ} 0 1 = ap asNat e in absurd (omega arith)
-
-pub both-true : (b c : Bool) → both b c ≡ true → (b ≡ true) × (c ≡ true)
-both-true true c h = (refl, h)
-both-true false c h = false-true h
 
 pub nodes-least : (n : ℕ) → nodesFit n ≡ true → 2 ≤ n
 nodes-least n h = leb-true 2 n (both-true (leb 2 n) (leb n 64) h .0)
@@ -42,12 +31,8 @@ pub check-true : (b : Bool) (a rest : Answer) → accepted a ≡ false → accep
 check-true true a rest e h = false-true (sym e ∙ h)
 check-true false a rest e h = (refl, h)
 
-pub not-passed : (b : Bool) → not b ≡ false → b ≡ true
-not-passed true e = refl
-not-passed false e = sym e
-
 check-not : (b : Bool) (a rest : Answer) → accepted a ≡ false → accepted (check (not b) a rest) ≡ true → (b ≡ true) × (accepted rest ≡ true)
-check-not b a rest e h = let p = check-true (not b) a rest e h in (not-passed b (p .0), p .1)
+check-not b a rest e h = let p = check-true (not b) a rest e h in (not-false b (p .0), p .1)
 
 -- ---- 6, 7, 8
 

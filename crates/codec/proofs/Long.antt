@@ -4,7 +4,7 @@ use mathlib.Core.Path.{_≡_, refl, sym, ap, _∙_}
 use mathlib.Core.Bool.{Bool, true, false, not}
 use mathlib.Core.List.{List}
 use native.Mathlib.Omega.{arith}
-use borrow.Author.Tests.{eqb-true, ltb-false, le-ltb}
+use borrow.Author.Tests.{eqb-true, ltb-false, le-ltb, not-false}
 use lib.ListN.{length, getD, take, drop, length-drop}
 use lib.Seq.{getD-take, getD-drop, length-take-le}
 use lib.Dec.{eqb, ltb}
@@ -16,7 +16,7 @@ use Rattle.image.specs.Layout.{marked, isImage, nodePlace, imageIn}
 use Rattle.image.specs.Refusals.{nodesFit, sound, imageAnswer}
 use Rattle.machine.specs.Start.{threadsFit}
 use Rattle.schedule.specs.Layout.{isSchedule, threadsIn, countIn, imagePart, scheduleAnswer}
-use Rattle.codec.proofs.Accepted.{not-passed, nodes-most}
+use Rattle.codec.proofs.Accepted.{nodes-most}
 
 -- a check is passed, or what follows is not looked at
 under : (b : Bool) (a x y : Answer) → (b ≡ false → x ≡ y) → check b a x ≡ check b a y
@@ -48,7 +48,7 @@ module _ (s : List ℕ) (h : 25170 < length s) where
       under (not (nodesFit (at1 (imagePart s) 5))) Nodes _ _ (λ n.
       never (eqb (length (imagePart s)) (nodePlace (at1 (imagePart s) 5) + countIn s * 6)) (sound (imageIn (imagePart s)) Taken)
       (λ q. let z = eqb-true (length (imagePart s)) (nodePlace (at1 (imagePart s) 5) + countIn s * 6) q in
-      omega (arith, z, length-drop 8 s, nodes-most (at1 (imagePart s) 5) (not-passed (nodesFit (at1 (imagePart s) 5)) n)))))
+      omega (arith, z, length-drop 8 s, nodes-most (at1 (imagePart s) 5) (not-false (nodesFit (at1 (imagePart s) 5)) n)))))
 
   front-is : scheduleAnswer s ≡ frontAnswer s
   unfolding scheduleAnswer frontAnswer

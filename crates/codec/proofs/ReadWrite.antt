@@ -6,10 +6,11 @@ use mathlib.Core.List.{List, [], _∷_, _++_}
 use native.Mathlib.Omega.{arith}
 use native.Mathlib.Nat.{add-assoc, add-zero, zero-add}
 use borrow.Author.Tests.{eqb-true}
-use lib.ListN.{length, getD, take, drop, List·getD-append}
+use lib.ListN.{length, getD, take, drop}
 use lib.Seq.{take-all, take-add, drop-drop}
 use lib.Dec.{eqb}
-use Rattle.lists.specs.Tab.{tab, front, over}
+use Rattle.lists.specs.Tab.{tab, over}
+use Rattle.lists.proofs.BoolLaws.{both-true}
 use Rattle.lists.proofs.TabLaws as tabs
 use Rattle.answer.specs.Answers.{accepted}
 use Rattle.answer.specs.declared.Answer.the-variants.{Taken}
@@ -30,10 +31,10 @@ node-there s p b h =
 head-there : (s : List ℕ) → num.Bytes s → im.isImage s ≡ true → 10 ≤ length s → im.headBytes (at1 s 5) (at4 s 6) ≡ take 10 s
 unfolding im.marked im.headBytes tab
 head-there s b m h =
-    let m0 = acc.both-true (eqb (getD s 0 0) 85) _ m in
-    let m1 = acc.both-true (eqb (getD s 1 0) 81) _ (m0 .1) in
-    let m2 = acc.both-true (eqb (getD s 2 0) 73) _ (m1 .1) in
-    let m3 = acc.both-true (eqb (getD s 3 0) 1) _ (m2 .1) in
+    let m0 = both-true (eqb (getD s 0 0) 85) _ m in
+    let m1 = both-true (eqb (getD s 1 0) 81) _ (m0 .1) in
+    let m2 = both-true (eqb (getD s 2 0) 73) _ (m1 .1) in
+    let m3 = both-true (eqb (getD s 3 0) 1) _ (m2 .1) in
     let e0 : getD s 0 0 ≡ 85 = eqb-true _ _ (m0 .0) in
     let e1 : getD s 1 0 ≡ 81 = eqb-true _ _ (m1 .0) in
     let e2 : getD s 2 0 ≡ 73 = eqb-true _ _ (m2 .0) in
@@ -43,14 +44,12 @@ head-there s b m h =
     ∙ sym (rw (e0, e1, e2, e3, e4) at (tabs.take-drop-tab s 0 0 10 h))
 
 body-there : (s : List ℕ) (n : ℕ) → num.Bytes s → im.nodePlace n ≤ length s → im.bodyBytes (im.readNodes s n) n ≡ take (n * 9) (drop 10 s)
-unfolding im.bodyBytes im.readNodes front
+unfolding im.bodyBytes im.readNodes
 body-there s n b e =
     tabs.joined-same (λ i. im.nodeBytes (im.contentAt (im.readNodes s n) i)) (λ i. take 9 (drop (i * 9) (drop 10 s))) n
     (λ i p.
     ap im.nodeBytes
-    (List·getD-append (tab (λ k. im.readContent s (im.nodePlace k)) n) (drop n im.noContents) im.noContent i
-    (omega (arith, tabs.length-tab (λ k. im.readContent s (im.nodePlace k)) n))
-    ∙ tabs.getD-tab (λ k. im.readContent s (im.nodePlace k)) n i im.noContent p)
+    (tabs.front-at (λ k. im.readContent s (im.nodePlace k)) n im.noContents i im.noContent p)
     ∙ node-there s (im.nodePlace i) b (omega arith)
     ∙ ap (take 9) (sym (drop-drop (i * 9) 10 s)))
     ∙ tabs.joined-parts (drop 10 s) 9 n

@@ -1,27 +1,17 @@
 -- The tests 6, 7 and 8 look at the nodes of an image only, not at those beyond.
-use Prim.Native.Nat.{ℕ, zero, suc, _+_, _≤_, _<_}
-use mathlib.Core.Path.{_≡_, refl, ap, ap₂, _∙_}
-use mathlib.Core.Bool.{Bool, not}
+use Prim.Native.Nat.{ℕ, _<_}
+use mathlib.Core.Path.{_≡_, ap, ap₂, _∙_}
+use mathlib.Core.Bool.{not}
 use native.Mathlib.Omega.{arith}
 use lib.Dec.{ltb}
-use Rattle.lists.specs.Find.{least, any}
+use Rattle.lists.specs.Find.{least}
+use Rattle.lists.proofs.FindLaws.{least-same, any-same}
 use Rattle.answer.specs.declared.Answer.{Answer}
 use Rattle.image.specs.Layout.{contentAt}
 use Rattle.image.specs.Recovered.{recovered, recoveredAt, twins, hasTwin, firstTwin, dummyOf, firstUnclear}
 use Rattle.image.specs.Refusals.{startable, sound}
 use Rattle.image.specs.declared.Content.{Content}
 use Rattle.image.specs.declared.Image.{Image}
-
--- two searches by tests that agree where they look
-pub least-same : (f g : ℕ → Bool) (k s : ℕ) → ((i : ℕ) → s ≤ i → i < s + k → f i ≡ g i) → least f k s ≡ least g k s
-unfolding least
-least-same f g zero s h = refl
-least-same f g (suc k) s h = rw (h s (omega arith) (omega arith), least-same f g k (suc s) (λ i p q. h i (omega arith) (omega arith)))
-
-pub any-same : (f g : ℕ → Bool) (n : ℕ) → ((i : ℕ) → i < n → f i ≡ g i) → any f n ≡ any g n
-unfolding any
-any-same f g zero h = refl
-any-same f g (suc n) h = rw (h n (omega arith), any-same f g n (λ i p. h i (omega arith)))
 
 -- one node count, one head index, and the same contents below that count
 pub record Alike (g g′ : Image) : Type 0 where

@@ -6,7 +6,7 @@ use mathlib.Core.List.{List, _++_}
 use native.Mathlib.Omega.{arith}
 use native.Mathlib.Nat.{add-assoc, add-zero, zero-add}
 use borrow.Author.Tests.{eq-eqb, le-ltb}
-use lib.ListN.{length, getD, take, drop, length-append, take-append-drop, List·getD-append}
+use lib.ListN.{length, getD, take, drop, length-append, take-append-drop}
 use lib.Seq.{getD-append-add, take-at, drop-at}
 use lib.Dec.{eqb, ltb}
 use Rattle.lists.specs.Tab.{tab, front}
@@ -35,11 +35,7 @@ abbrev pub trimmed : Image → Image
 trimmed g = record { n = g .n; head = g .head; nodes = front (im.contentAt (g .nodes)) (g .n) im.noContents }
 
 pub trimmed-at : (g : Image) (i : ℕ) → i < g .n → im.contentAt (trimmed g .nodes) i ≡ im.contentAt (g .nodes) i
-unfolding front
-trimmed-at g i p =
-    List·getD-append (tab (im.contentAt (g .nodes)) (g .n)) (drop (g .n) im.noContents) im.noContent i
-    (omega (arith, tabs.length-tab (im.contentAt (g .nodes)) (g .n)))
-    ∙ tabs.getD-tab (im.contentAt (g .nodes)) (g .n) i im.noContent p
+trimmed-at g i p = tabs.front-at (im.contentAt (g .nodes)) (g .n) im.noContents i im.noContent p
 
 pub trimmed-alike : (g : Image) → same.Alike (trimmed g) g
 trimmed-alike g = record { n = refl; head = refl; nodes = trimmed-at g }

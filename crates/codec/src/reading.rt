@@ -4,8 +4,8 @@ ghost use Prim.Native.Nat.{_≤_};
 ghost use Rattle.codec.specs.Parts.{refusedRead, readPart};
 use crate::bytes::is_marked;
 use crate::images::image_in;
-use crate::taken::is_taken;
 use answer::Answer;
+use answer::is_taken;
 use image::Read;
 
 // A refusal, with the blank image beside it.

@@ -4,8 +4,8 @@ ghost use lib.ListN.{length};
 ghost use Rattle.answer.specs.Answers.{told};
 ghost use Rattle.image.specs.Refusals.{writeAnswer, written};
 use crate::images::put_image;
-use crate::taken::is_taken;
 use answer::Answer;
+use answer::is_taken;
 use image::Image;
 
 // Writes the image into the first 10 + 9N bytes of the buffer, or nothing.

@@ -47,7 +47,7 @@ fn sum_run(s: &[u8], r: Run, count: u32) -> u64
 pub(crate) fn sum_endings(s: &[u8], count: u32) -> u64 {
     let r = pages::paging::page_of(s);
     let a = r.answer;
-    if !codec::is_taken(a) {
+    if !answer::is_taken(a) {
         return START;
     }
     sum_run(s, r, count)

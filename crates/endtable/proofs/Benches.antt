@@ -1,12 +1,13 @@
 -- A run, event by event: what the code holds goes on standing for the bench.
 use Prim.Native.Nat.{ℕ, suc, _≤_, _<_}
 use mathlib.Core.Path.{_≡_, refl, sym, ap, subst, _∙_}
-use mathlib.Core.Bool.{Bool, true, false}
+use mathlib.Core.Bool.{true, false}
 use mathlib.Core.List.{List, [], _∷_}
 use native.Mathlib.Omega.{arith}
 use lib.ListN.{length, drop, drop-of-length-le}
 use lib.Seq.{drop-cons}
 use Rattle.lists.specs.Tab.{tab}
+use Rattle.lists.proofs.BoolLaws.{yes-of, no-of}
 use Rattle.lists.proofs.TabLaws as tabs
 use Rattle.answer.specs.Answers.{accepted}
 use Rattle.answer.specs.declared.Answer.the-variants.{Taken}
@@ -16,7 +17,7 @@ use Rattle.machine.specs.Start.{startWith}
 use Rattle.machine.specs.Event.{Deed, crashes, deedOf, done, eventAt}
 use Rattle.machine.specs.declared.Machine.{Machine}
 use Rattle.machine.specs.declared.Event.{Event}
-use Rattle.schedule.specs.Run.{Bench, Ran, begins, andBefore, run}
+use Rattle.schedule.specs.Run.{Bench, begins, andBefore, run}
 use Rattle.endtable.specs.Touches.{touchIn}
 use Rattle.endtable.specs.Opened.{openedTable, openedCounts}
 use Rattle.endtable.specs.Tables.{tableAfter, countsAfter}
@@ -79,33 +80,13 @@ module _ (b : Bench) (f : ℕ → Event) (n i : ℕ) where
       → run i (benchAt b f i) (drop i (tab f n))
       ≡ andBefore (eventAt i (benchAt b f i .machine) (f i) .answer) (run (suc i) (benchAt b f (suc i)) (drop (suc i) (tab f n)))
   unfolding run benchAt
-  run-on h a = ap (run i (benchAt b f i)) (events-from h) ∙ by (accepted (eventAt i (benchAt b f i .machine) (f i) .answer)) a
-    where
-      yes-way : Ran
-      yes-way = andBefore (eventAt i (benchAt b f i .machine) (f i) .answer) (run (suc i) (turnedBy i (benchAt b f i) (f i)) (drop (suc i) (tab f n)))
-
-      no-way : Ran
-      no-way = record { answer = eventAt i (benchAt b f i .machine) (f i) .answer; replies = []; bench = benchAt b f i }
-
-      by : (x : Bool) → x ≡ true → elim x as (λ _. Ran) [ true ↦ yes-way | false ↦ no-way ] ≡ yes-way
-      by true q = refl
-      by false q = absurd (let z : _≡_ {A = ℕ} 0 1 = cc in omega arith)
+  run-on h a = ap (run i (benchAt b f i)) (events-from h) ∙ yes-of _ _ (accepted (eventAt i (benchAt b f i .machine) (f i) .answer)) a
 
   -- "The first refused event ends the run."
   pub run-refused : i < n → accepted (eventAt i (benchAt b f i .machine) (f i) .answer) ≡ false
       → run i (benchAt b f i) (drop i (tab f n)) ≡ record { answer = eventAt i (benchAt b f i .machine) (f i) .answer; replies = []; bench = benchAt b f i }
   unfolding run
-  run-refused h a = ap (run i (benchAt b f i)) (events-from h) ∙ by (accepted (eventAt i (benchAt b f i .machine) (f i) .answer)) a
-    where
-      yes-way : Ran
-      yes-way = andBefore (eventAt i (benchAt b f i .machine) (f i) .answer) (run (suc i) (turnedBy i (benchAt b f i) (f i)) (drop (suc i) (tab f n)))
-
-      no-way : Ran
-      no-way = record { answer = eventAt i (benchAt b f i .machine) (f i) .answer; replies = []; bench = benchAt b f i }
-
-      by : (x : Bool) → x ≡ false → elim x as (λ _. Ran) [ true ↦ yes-way | false ↦ no-way ] ≡ no-way
-      by true q = absurd (let z : _≡_ {A = ℕ} 0 1 = cc in omega arith)
-      by false q = refl
+  run-refused h a = ap (run i (benchAt b f i)) (events-from h) ∙ no-of _ _ (accepted (eventAt i (benchAt b f i .machine) (f i) .answer)) a
 
   pub run-end : n ≤ i → run i (benchAt b f i) (drop i (tab f n)) ≡ record { answer = Taken; replies = []; bench = benchAt b f i }
   unfolding run

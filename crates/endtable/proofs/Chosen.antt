@@ -6,7 +6,7 @@ use native.Mathlib.Omega.{arith}
 use native.Mathlib.Nat.{div-lt-iff-lt-mul}
 use lib.ListN.{length, getD, take, drop, List·getD-append}
 use lib.Seq.{getD-at, take-suc, take-all}
-use Rattle.lists.specs.Tab.{tab, front}
+use Rattle.lists.specs.Tab.{tab}
 use Rattle.lists.proofs.TabLaws as tabs
 use Rattle.image.specs.Layout.{noContent, noContents, contentAt}
 use Rattle.image.specs.declared.Content.{Content}
@@ -76,10 +76,6 @@ module _ (cs : List ℕ) (lists : List (List Content)) where
 
 -- ---- the image
 
-front-same : {A : Type 0} (f g : ℕ → A) (n : ℕ) (l : List A) → ((i : ℕ) → i < n → f i ≡ g i) → front f n l ≡ front g n l
-unfolding front
-front-same f g n l h = ap (λ z. z ++ drop n l) (tabs.tab-same f g n h)
-
 -- no line has more contents than its row holds, and none has none
 pub record Fits (lists : List (List Content)) : Type 0 where
   pub some : (l : ℕ) → l < length lists → 0 < length (getD lists l [])
@@ -110,7 +106,7 @@ module _ (t : List (List Content)) (cs : List ℕ) (lists : List (List Content))
   unfolding endingFrom picksOf pickedImage ending imageOf
   ending-is n k e f p =
       ap₂ (λ (x : Content) (y : List Content). made n (x .index) y) (at 0 (omega arith))
-      (front-same (pickedNode t ps) (λ i. contentAt (getD (choices lists) k []) (suc i)) n noContents (λ i q. at (suc i) (omega arith)))
+      (tabs.front-same (pickedNode t ps) (λ i. contentAt (getD (choices lists) k []) (suc i)) n noContents (λ i q. at (suc i) (omega arith)))
     where
       ps : List ℕ
       ps = digits cs (lineCount n) k ++ drop (lineCount n) blankCounts

@@ -8,7 +8,6 @@ use native.Mathlib.Decide.{decLt}
 use native.Mathlib.Nat.{mod-lt, div-lt-iff-lt-mul, div-add-mod'}
 use lib.ListN.{length, getD, drop, length-append, length-map, List·getD-append}
 use lib.Seq.{getD-at, ext-getD}
-use Rattle.lists.specs.Tab.{tab, front}
 use Rattle.lists.proofs.FindLaws as find
 use Rattle.lists.proofs.TabLaws as tabs
 use Rattle.image.specs.Layout.{noContent, noContents, contentAt}
@@ -124,10 +123,6 @@ choice-length (line ∷ rest) k p =
 abbrev pub OfHead : Content → Type 0
 OfHead c = c ≡ headContent (c .index)
 
-front-at : {A : Type 0} (f : ℕ → A) (n : ℕ) (l : List A) (i : ℕ) (d : A) → i < n → getD (front f n l) i d ≡ f i
-unfolding front
-front-at f n l i d h = List·getD-append (tab f n) (drop n l) d i (omega (arith, tabs.length-tab f n)) ∙ tabs.getD-tab f n i d h
-
 -- two choices that give one image are one
 pub image-injective : (n : ℕ) (c d : List Content) → length c ≡ lineCount n → length d ≡ lineCount n → OfHead (contentAt c 0) → OfHead (contentAt d 0)
     → imageOf n c ≡ imageOf n d → c ≡ d
@@ -137,9 +132,9 @@ image-injective n c d p q g h e = ext-getD noContent c d (p ∙ sym q) (λ i r. 
     at : (i : ℕ) → i < lineCount n → contentAt c i ≡ contentAt d i
     at zero r = g ∙ ap headContent (ap (λ (x : Image). x .head) e) ∙ sym h
     at (suc i) r =
-        sym (front-at (λ j. contentAt c (suc j)) n noContents i noContent (omega arith))
+        sym (tabs.front-at (λ j. contentAt c (suc j)) n noContents i noContent (omega arith))
         ∙ ap (λ (x : Image). contentAt (x .nodes) i) e
-        ∙ front-at (λ j. contentAt d (suc j)) n noContents i noContent (omega arith)
+        ∙ tabs.front-at (λ j. contentAt d (suc j)) n noContents i noContent (omega arith)
 
 -- what an image beyond the last ending reads as
 abbrev pub noImage : Image

@@ -1,5 +1,5 @@
 -- Laws of a line's list of contents: what is joined to it, and that it has no repeats.
-use Prim.Native.Nat.{ℕ, zero, suc, _+_, _≤_, _<_}
+use Prim.Native.Nat.{ℕ, suc, _+_, _≤_, _<_}
 use mathlib.Core.Path.{_≡_, refl, ap, _∙_}
 use mathlib.Core.Bool.{Bool, true, false}
 use mathlib.Core.List.{List, [], _∷_, _++_}
@@ -9,6 +9,8 @@ use lib.ListN.{length, length-append, List·getD-append}
 use lib.Dec.{eqb, ltb, leb·suc-suc}
 use borrow.Author.Tests.{eqb-true, eq-eqb, lt-ltb, le-ltb}
 use Rattle.lists.specs.Find.{pick, both, least}
+use Rattle.lists.proofs.BoolLaws.{both-true}
+use Rattle.lists.proofs.FindLaws.{least-shift}
 use Rattle.image.specs.Layout.{noContent, contentAt}
 use Rattle.image.specs.declared.Content.{Content}
 use Rattle.page.specs.Contents.{sameContent, joins, gathered}
@@ -16,37 +18,23 @@ use Rattle.endtable.specs.Rows.{isAt, seatOf}
 
 -- ---- equal contents
 
-both-true : (x y z : Bool) → both x (both y z) ≡ true → (x ≡ true) × ((y ≡ true) × (z ≡ true))
-both-true true true true e = (refl, (refl, refl))
-both-true true true false e = absurd (let z : _≡_ {A = ℕ} 0 1 = cc in omega arith)
-both-true true false z e = absurd (let z : _≡_ {A = ℕ} 0 1 = cc in omega arith)
-both-true false y z e = absurd (let z : _≡_ {A = ℕ} 0 1 = cc in omega arith)
-
 abbrev made : ℕ → ℕ → ℕ → Content
 made l i v = record { linked = l; index = i; item = v }
 
 pub same-equal : (a b : Content) → sameContent a b ≡ true → a ≡ b
 unfolding sameContent
 same-equal a b e =
-    let t = both-true (eqb (a .linked) (b .linked)) (eqb (a .index) (b .index)) (eqb (a .item) (b .item)) e in
+    let t = both-true (eqb (a .linked) (b .linked)) (both (eqb (a .index) (b .index)) (eqb (a .item) (b .item))) e in
+    let u = both-true (eqb (a .index) (b .index)) (eqb (a .item) (b .item)) (t .1) in
     ap (λ (x : ℕ). made x (a .index) (a .item)) (eqb-true (a .linked) (b .linked) (t .0))
-    ∙ ap (λ (x : ℕ). made (b .linked) x (a .item)) (eqb-true (a .index) (b .index) (t .1 .0))
-    ∙ ap (λ (x : ℕ). made (b .linked) (b .index) x) (eqb-true (a .item) (b .item) (t .1 .1))
+    ∙ ap (λ (x : ℕ). made (b .linked) x (a .item)) (eqb-true (a .index) (b .index) (u .0))
+    ∙ ap (λ (x : ℕ). made (b .linked) (b .index) x) (eqb-true (a .item) (b .item) (u .1))
 
 pub same-self : (a : Content) → sameContent a a ≡ true
 unfolding sameContent
 same-self a = rw (eq-eqb (a .linked) (a .linked) refl, eq-eqb (a .index) (a .index) refl, eq-eqb (a .item) (a .item) refl)
 
 -- ---- seats
-
-least-shift : (f : ℕ → Bool) (k s : ℕ) → least f k (suc s) ≡ suc (least (λ i. f (suc i)) k s)
-unfolding least
-least-shift f zero s = refl
-least-shift f (suc k) s = shift (f (suc s)) (least-shift f k (suc s))
-  where
-    shift : (b : Bool) → least f k (suc (suc s)) ≡ suc (least (λ i. f (suc i)) k (suc s)) → pick b (suc s) (least f k (suc (suc s))) ≡ suc (pick b s (least (λ i. f (suc i)) k (suc s)))
-    shift true e = refl
-    shift false e = e
 
 seat-cons : (a : Content) (l : List Content) (n : ℕ) (c : Content) → seatOf (a ∷ l) (suc n) c ≡ pick (sameContent a c) 0 (suc (seatOf l n c))
 unfolding seatOf least

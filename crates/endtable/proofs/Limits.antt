@@ -20,7 +20,6 @@ use Rattle.answer.specs.Answers.{check}
 use Rattle.answer.specs.declared.Answer.the-variants.{Taken, Contents, Endings}
 use Rattle.endtable.specs.Picks.{isCrowded, crowdedAt, prod, countsAnswer, Counted}
 use Rattle.endtable.specs.Tables.{Tables}
-use Rattle.endtable.proofs.RowLaws as rows
 use Rattle.endtable.proofs.Joins as joined
 use Rattle.endtable.proofs.Moments as moments
 use Rattle.endtable.proofs.Chosen as chosen
@@ -52,7 +51,7 @@ module _ (t : List (List Content)) (cs : List ℕ) (lists : List (List Content))
   pub crowded-is : firstCrowded lists ≡ crowdedAt cs (length lists)
   unfolding firstCrowded crowdedAt
   crowded-is =
-      rows.least-same (λ l. ltb 16 (length (getD lists l []))) (isCrowded cs) (length lists) 0
+      find.least-same (λ l. ltb 16 (length (getD lists l []))) (isCrowded cs) (length lists) 0
       (λ l p q. more-than (getD cs l 0) (length (getD lists l [])) (h .held l (omega arith) .counted))
 
   -- where none is found, no row is short

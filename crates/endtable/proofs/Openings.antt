@@ -1,11 +1,11 @@
 -- One turn of each loop that fills the table, the counts or an image from the front.
 use Prim.Native.Nat.{ℕ, zero, suc, _+_, _-_, _<_}
-use mathlib.Core.Path.{_≡_, refl, sym, ap, _∙_}
+use mathlib.Core.Path.{_≡_, refl, ap, _∙_}
 use mathlib.Core.List.{List, []}
 use lib.ListN.{length, getD, set}
 use native.Mathlib.Omega.{arith}
 use native.Mathlib.Numerals.{add-one}
-use Rattle.lists.specs.Tab.{tab, front}
+use Rattle.lists.specs.Tab.{front}
 use Rattle.lists.proofs.TabLaws as tabs
 use Rattle.image.specs.Layout.{noContents, contentAt}
 use Rattle.image.specs.declared.Content.{Content}
@@ -27,39 +27,30 @@ pub length-no-contents : length noContents ≡ 64
 unfolding noContents
 length-no-contents = refl
 
-module _ {A : Type 0} (f : ℕ → A) (l : List A) where
-  pub front-none : front f 0 l ≡ l
-  unfolding front tab
-  front-none = refl
-
-  pub front-next : (n : ℕ) → n < length l → set (front f n l) n (f n) ≡ front f (n + 1) l
-  unfolding front
-  front-next n h = tabs.tab-set f n l h
-
 module _ (m : Machine) where
   pub table-first : set blankTable 0 (openedRow (headContent (m .«kept_head»)) (headContent (m .index))) ≡ openedTable m (0 + 1)
   unfolding openedTable
   table-first =
-      ap (λ (l : List (List Content)). set l 0 (lineOpened m 0)) (sym (front-none (lineOpened m) blankTable))
-      ∙ front-next (lineOpened m) blankTable 0 (omega (arith, length-blank-table))
+      ap (λ (l : List (List Content)). set l 0 (lineOpened m 0)) (tabs.front-none (lineOpened m) blankTable)
+      ∙ tabs.front-next (lineOpened m) 0 blankTable (omega (arith, length-blank-table))
 
   pub table-next : (i : ℕ) → i < 64 → set (openedTable m (i + 1)) (i + 1) (openedRow (kept m i) (contentOf (node m i))) ≡ openedTable m (i + 1 + 1)
   unfolding openedTable
   table-next i h =
       let e : openedRow (kept m i) (contentOf (node m i)) ≡ lineOpened m (i + 1) = rw add-one in
-      ap (set (front (lineOpened m) (i + 1) blankTable) (i + 1)) e ∙ front-next (lineOpened m) blankTable (i + 1) (omega (arith, length-blank-table))
+      ap (set (front (lineOpened m) (i + 1) blankTable) (i + 1)) e ∙ tabs.front-next (lineOpened m) (i + 1) blankTable (omega (arith, length-blank-table))
 
   pub counts-first : set blankCounts 0 (openedCount (headContent (m .«kept_head»)) (headContent (m .index))) ≡ openedCounts m (0 + 1)
   unfolding openedCounts
   counts-first =
-      ap (λ (l : List ℕ). set l 0 (lineCounted m 0)) (sym (front-none (lineCounted m) blankCounts))
-      ∙ front-next (lineCounted m) blankCounts 0 (omega (arith, length-blank-counts))
+      ap (λ (l : List ℕ). set l 0 (lineCounted m 0)) (tabs.front-none (lineCounted m) blankCounts)
+      ∙ tabs.front-next (lineCounted m) 0 blankCounts (omega (arith, length-blank-counts))
 
   pub counts-next : (i : ℕ) → i < 64 → set (openedCounts m (i + 1)) (i + 1) (openedCount (kept m i) (contentOf (node m i))) ≡ openedCounts m (i + 1 + 1)
   unfolding openedCounts
   counts-next i h =
       let e : openedCount (kept m i) (contentOf (node m i)) ≡ lineCounted m (i + 1) = rw add-one in
-      ap (set (front (lineCounted m) (i + 1) blankCounts) (i + 1)) e ∙ front-next (lineCounted m) blankCounts (i + 1) (omega (arith, length-blank-counts))
+      ap (set (front (lineCounted m) (i + 1) blankCounts) (i + 1)) e ∙ tabs.front-next (lineCounted m) (i + 1) blankCounts (omega (arith, length-blank-counts))
 
 -- one node more of the picked image
 pub picked-next : (t : List (List Content)) (ps : List ℕ) (i : ℕ) → i < 64
@@ -67,7 +58,7 @@ pub picked-next : (t : List (List Content)) (ps : List ℕ) (i : ℕ) → i < 64
 unfolding pickedAt
 picked-next t ps i h =
     let e : contentAt (getD t (i + 1) []) (getD ps (i + 1) 0) ≡ pickedNode t ps i = rw add-one in
-    ap (set (front (pickedNode t ps) i noContents) i) e ∙ front-next (pickedNode t ps) noContents i (omega (arith, length-no-contents))
+    ap (set (front (pickedNode t ps) i noContents) i) e ∙ tabs.front-next (pickedNode t ps) i noContents (omega (arith, length-no-contents))
 
 -- a node's line, by its number
 pub cached-node : (m : Machine) (l : ℕ) → (l ≡ 0 → ⊥) → contentOf (node m (l - 1)) ≡ cachedAt m l

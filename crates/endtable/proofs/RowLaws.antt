@@ -9,6 +9,7 @@ use lib.ListN.{length, set, replicate, length-append, length-set, List·getD-app
 use lib.Seq.{getD-at, getD-set-same, getD-set-other, set-getD}
 use borrow.Author.Tests.{lt-ltb, le-ltb}
 use Rattle.lists.specs.Find.{pick, least}
+use Rattle.lists.proofs.FindLaws.{least-le, least-same, least-found}
 use Rattle.image.specs.Layout.{noContent, contentAt}
 use Rattle.image.specs.declared.Content.{Content}
 use Rattle.page.specs.Contents.{sameContent, joins}
@@ -16,35 +17,6 @@ use Rattle.endtable.specs.Rows.{isAt, seatOf, rowJoined, countJoined}
 use Rattle.endtable.specs.Opened.{openedRow, openedCount}
 use Rattle.endtable.specs.Tables.{Held}
 use Rattle.endtable.proofs.Joins as joined
-
--- ---- searches
-
-pick-le : (b : Bool) (s r t : ℕ) → s ≤ t → r ≤ t → pick b s r ≤ t
-pick-le true s r t p q = p
-pick-le false s r t p q = q
-
--- a search ends at most where it was to end
-pub least-le : (f : ℕ → Bool) (k s : ℕ) → least f k s ≤ s + k
-unfolding least
-least-le f zero s = omega arith
-least-le f (suc k) s = pick-le (f s) s (least f k (suc s)) (s + suc k) (omega arith) (omega (arith, least-le f k (suc s)))
-
--- two tests that agree find the same number
-pub least-same : (f g : ℕ → Bool) (k s : ℕ) → ((i : ℕ) → s ≤ i → i < s + k → f i ≡ g i) → least f k s ≡ least g k s
-unfolding least
-least-same f g zero s h = refl
-least-same f g (suc k) s h = rw (h s (omega arith) (omega arith), least-same f g k (suc s) (λ i p q. h i (omega arith) (omega arith)))
-
--- what a search finds before its end is so
-pub least-holds : (f : ℕ → Bool) (k s : ℕ) → least f k s < s + k → f (least f k s) ≡ true
-unfolding least
-least-holds f zero s h = absurd (omega arith)
-least-holds f (suc k) s h = by (f s) refl h (least-holds f k (suc s))
-  where
-    by : (b : Bool) → f s ≡ b → pick b s (least f k (suc s)) < s + suc k → (least f k (suc s) < suc s + k → f (least f k (suc s)) ≡ true)
-        → f (pick b s (least f k (suc s))) ≡ true
-    by true e p ih = e
-    by false e p ih = ih (omega arith)
 
 -- ---- seats
 
@@ -58,7 +30,7 @@ seat-same row l n c h = least-same (isAt row c) (isAt l c) n 0 (λ i p q. ap (λ
 
 pub seat-is : (row : List Content) (n : ℕ) (c : Content) → seatOf row n c < n → contentAt row (seatOf row n c) ≡ c
 unfolding seatOf
-seat-is row n c h = joined.same-equal (contentAt row (least (isAt row c) n 0)) c (least-holds (isAt row c) n 0 (omega arith))
+seat-is row n c h = joined.same-equal (contentAt row (least (isAt row c) n 0)) c (least-found (isAt row c) n 0 (omega arith))
 
 -- ---- the row and its count by cases
 

@@ -6,12 +6,12 @@ use mathlib.Core.Logic.{inl, inr}
 use mathlib.Core.List.{List, []}
 use native.Mathlib.Omega.{arith}
 use native.Mathlib.Decide.{decLt, ℕ-discrete}
-use lib.ListN.{length, getD, set, drop, length-append, length-drop, length-set, List·getD-append}
+use lib.ListN.{length, getD, set, length-set}
 use lib.Seq.{getD-set-same, getD-set-other}
 use lib.Dec.{ltb}
 use borrow.Author.Tests.{lt-ltb, le-ltb}
 use Rattle.lists.specs.Find.{pick}
-use Rattle.lists.specs.Tab.{tab, front}
+use Rattle.lists.specs.Tab.{front}
 use Rattle.lists.proofs.TabLaws as tabs
 use Rattle.answer.specs.Answers.{accepted}
 use Rattle.image.specs.declared.Content.{Content}
@@ -35,25 +35,17 @@ use Rattle.endtable.proofs.Steps as steps
 
 -- ---- a start
 
-front-at : {A : Type 0} (f : ℕ → A) (n : ℕ) (l : List A) (i : ℕ) (d : A) → i < n → getD (front f n l) i d ≡ f i
-unfolding front
-front-at f n l i d h = List·getD-append (tab f n) (drop n l) d i (omega (arith, tabs.length-tab f n)) ∙ tabs.getD-tab f n i d h
-
-front-length : {A : Type 0} (f : ℕ → A) (n : ℕ) (l : List A) → n ≤ length l → length (front f n l) ≡ length l
-unfolding front
-front-length f n l h = length-append (tab f n) (drop n l) ∙ omega (arith, tabs.length-tab f n, length-drop n l)
-
 pub tables-begin : (m : Machine) → m .n ≤ 64 → Tables (openedTable m (lineCount (m .n))) (openedCounts m (lineCount (m .n))) (tableOf (begins m))
 unfolding openedTable openedCounts
 tables-begin m h = record {
-  tall = front-length (lineOpened m) (lineCount (m .n)) blankTable (omega (arith, openings.length-blank-table)) ∙ openings.length-blank-table;
-  long = front-length (lineCounted m) (lineCount (m .n)) blankCounts (omega (arith, openings.length-blank-counts)) ∙ openings.length-blank-counts;
+  tall = tabs.front-size (lineOpened m) (lineCount (m .n)) blankTable (omega (arith, openings.length-blank-table)) ∙ openings.length-blank-table;
+  long = tabs.front-size (lineCounted m) (lineCount (m .n)) blankCounts (omega (arith, openings.length-blank-counts)) ∙ openings.length-blank-counts;
   held = λ l p. at l (omega (arith, moments.table-length (begins m)));
 }
   where
     at : (l : ℕ) → l < lineCount (m .n) → Held (getD (front (lineOpened m) (lineCount (m .n)) blankTable) l []) (getD (front (lineCounted m) (lineCount (m .n)) blankCounts) l 0) (getD (tableOf (begins m)) l [])
     at l p =
-        rw (front-at (lineOpened m) (lineCount (m .n)) blankTable l [] p, front-at (lineCounted m) (lineCount (m .n)) blankCounts l 0 p, moments.table-at (begins m) l p, moments.contents-begin m l)
+        rw (tabs.front-at (lineOpened m) (lineCount (m .n)) blankTable l [] p, tabs.front-at (lineCounted m) (lineCount (m .n)) blankCounts l 0 p, moments.table-at (begins m) l p, moments.contents-begin m l)
         (rows.held-opened (persistedAt m l) (cachedAt m l))
 
 -- ---- one line changed

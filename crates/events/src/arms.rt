@@ -149,7 +149,7 @@ fn crash(p: u32, m: Machine, e: Event) -> Out
     }
     let g = kept_image(m);
     let a = image::startable_of(g);
-    if !codec::is_taken(a) {
+    if !answer::is_taken(a) {
         return Out {
             answer: a,
             machine: m,

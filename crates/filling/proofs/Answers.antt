@@ -1,13 +1,14 @@
 -- The answers of the calls that write lines, and what the lent buffer holds.
 use Prim.Native.Nat.{ℕ, zero, suc, _+_, _-_, _≤_, _<_}
 use mathlib.Core.Path.{_≡_, refl, sym, ap, subst, _∙_}
-use mathlib.Core.Bool.{Bool, true, false}
+use mathlib.Core.Bool.{true, false}
 use mathlib.Core.List.{List, []}
 use native.Mathlib.Omega.{arith}
 use lib.ListN.{length}
 use lib.Dec.{ltb}
 use borrow.Author.Tests.{lt-ltb, le-ltb}
 use Rattle.lists.specs.Tab.{over}
+use Rattle.lists.proofs.BoolLaws.{yes-of, no-of}
 use Rattle.answer.specs.Answers.{told, check, accepted}
 use Rattle.answer.specs.declared.Answer.{Answer}
 use Rattle.answer.specs.declared.Answer.the-variants.{Taken, NoEnding, Room}
@@ -16,19 +17,9 @@ use Rattle.page.specs.Filled.{linesOn, fitting, pageLine, linesLeft, linesAnswe
 use Rattle.printing.specs.Lines.{refusedText, ifFits}
 use Rattle.printing.proofs.Written.{Put}
 use Rattle.printing.proofs.Fittings as fits
-use Rattle.pages.proofs.GoingLaws.{taken-or}
 use Rattle.filling.specs.Lines.{refusalAnswer, refusalBytes, refusalWritten}
 use Rattle.filling.specs.declared.calls.Lines.{Lines}
 use Rattle.filling.proofs.Lined.{Lined}
-
--- one of two, by a test that is known
-yes-of : {A : Type 0} (a b : A) (x : Bool) → x ≡ true → elim x as (λ _. A) [ true ↦ a | false ↦ b ] ≡ a
-yes-of a b true e = refl
-yes-of a b false e = taken-or false refl e
-
-no-of : {A : Type 0} (a b : A) (x : Bool) → x ≡ false → elim x as (λ _. A) [ true ↦ a | false ↦ b ] ≡ b
-no-of a b false e = refl
-no-of a b true e = taken-or true e refl
 
 -- ---- lines of a page
 

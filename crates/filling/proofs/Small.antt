@@ -5,7 +5,7 @@ use mathlib.Core.Bool.{Bool, true, false}
 use mathlib.Core.List.{List, [], _∷_, _++_}
 use native.Mathlib.Omega.{arith}
 use native.Mathlib.Decide.{decLt}
-use lib.ListN.{length, getD, set, drop, replicate, List·getD-append}
+use lib.ListN.{length, getD, set, drop, replicate}
 use lib.Seq.{getD-append-add, getD-drop}
 use lib.Dec.{eqb}
 use borrow.Author.Tests.{eqb-false}
@@ -57,8 +57,8 @@ pub front-all : {A : Type 0} (P : A → Type 0) (f : ℕ → A) (n : ℕ) (l : L
 unfolding front
 front-all P f n l d p q i = by (decLt i n)
   where
-    by : Dec (i < n) → P (getD (tab f n ++ drop n l) i d)
-    by (yes h) = subst P (sym (List·getD-append (tab f n) (drop n l) d i (omega (arith, tabs.length-tab f n)) ∙ tabs.getD-tab f n i d h)) (p i h)
+    by : Dec (i < n) → P (getD (front f n l) i d)
+    by (yes h) = subst P (sym (tabs.front-at f n l i d h)) (p i h)
     by (no h) =
         let e : length (tab f n) + (i - n) ≡ i = omega (arith, tabs.length-tab f n) in
         subst P (sym (getD-append-add (tab f n) (drop n l) (i - n) d ∙ getD-drop n l (i - n) d) ∙ ap (λ j. getD (tab f n ++ drop n l) j d) e) (q (n + (i - n)))

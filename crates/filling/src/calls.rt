@@ -39,7 +39,7 @@ pub fn page_lines(s: &[u8], k: u64, b: &mut [u8]) -> Lines
 {
     let r = page_of(s);
     let a = r.answer;
-    if !codec::is_taken(a) {
+    if !answer::is_taken(a) {
         return no_lines(a);
     }
     let m = r.machine;

@@ -4,6 +4,7 @@ use mathlib.Core.Bool.{true, false}
 use mathlib.Core.List.{List, [], _∷_, _++_, map}
 use Prim.Native.Nat.{ℕ, suc, _<_}
 use lib.ListN.{getD}
+use Rattle.lists.proofs.BoolLaws.{no-way}
 use Rattle.answer.specs.Answers.{accepted}
 use Rattle.image.specs.declared.Image.{Image}
 use Rattle.machine.specs.Line.{persisted}
@@ -24,7 +25,6 @@ use Rattle.model.specs.Machine as model
 use Rattle.model.specs.Bench.{Bench, closes, noteMove, turn, bench, opening}
 use Rattle.model.proofs.Basics.{upd-same, upd-other}
 use Rattle.tied.specs.Shown.{imageShown, Narrow, answerOf, eventBy, eventShown}
-use Rattle.tied.proofs.Words.{no-way}
 use Rattle.tied.proofs.Accepted.{sound-is, shownT, fit-of}
 use Rattle.tied.proofs.Bench.{BenchT}
 use Rattle.tied.proofs.Turn as tied

@@ -6,6 +6,7 @@ use mathlib.Core.Logic.{inl, inr}
 use Prim.Native.Nat.{ℕ, zero, suc, _≤_, _<_}
 use native.Mathlib.Omega.{arith}
 use lib.ListN.{getD}
+use Rattle.lists.proofs.TabLaws.{front-at}
 use Rattle.answer.specs.Answers.{accepted}
 use Rattle.image.specs.declared.Content.{Content}
 use Rattle.image.specs.declared.Image.{Image}
@@ -37,7 +38,6 @@ use Rattle.model.proofs.Demand3.ThreeB.{demand3b}
 use Rattle.tied.specs.Shown.{shownContent, lineShown, confOf, imageShown, Narrow, eventShown}
 use Rattle.tied.specs.Always.{Among}
 use Rattle.tied.proofs.Images.{ImageT}
-use Rattle.tied.proofs.Start.{front-at}
 use Rattle.tied.proofs.Contents.{Small, Flags}
 use Rattle.tied.proofs.Bench.{BenchT}
 use Rattle.tied.proofs.Statements.{fits, tidies, run-threads, run-takes, run-ends}

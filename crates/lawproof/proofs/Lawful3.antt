@@ -5,6 +5,7 @@ use mathlib.Core.List.{List, []}
 use Prim.Native.Nat.{ℕ, _<_}
 use native.Mathlib.Omega.{arith}
 use lib.ListN.{getD}
+use Rattle.lists.proofs.BoolLaws.{no-way}
 use Rattle.lists.proofs.TabLaws.{length-tab, getD-tab}
 use Rattle.answer.specs.Answers.{accepted}
 use Rattle.answer.specs.declared.Answer.{Answer}
@@ -18,7 +19,6 @@ use Rattle.page.specs.Endings.{choices, product, imageOf, ending}
 use Rattle.page.specs.Refusals.{tableIn, tableAnswer, pageAnswer, endingCount, endingIn}
 use Rattle.lawful.specs.Demand3.{Bytes, Recovers, PageLawful}
 use Rattle.tied.specs.Always.{Among}
-use Rattle.tied.proofs.Words.{no-way}
 use Rattle.tied.proofs.Schedules.{schedule-starts, schedule-narrow}
 use Rattle.lawproof.proofs.Choices.{choice-picks}
 use Rattle.lawproof.proofs.Endings.{Chosen, ending-starts, ending-lawful}

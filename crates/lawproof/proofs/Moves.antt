@@ -6,13 +6,13 @@ use mathlib.Core.Option.{Option, none, some}
 use Prim.Native.Nat.{ℕ}
 use native.Mathlib.Omega.{arith}
 use lib.Dec.{eqb, leb}
+use Rattle.lists.proofs.BoolLaws.{no-way}
 use Rattle.model.specs.Basics.{upd}
 use Rattle.model.specs.Conf.{Engine, shared, split, sameHead}
 use Rattle.model.specs.Core.{Core, Th, busy, idle, a1, a2, a3, a4, a5, a6, a7, a8, a9, a10, a11, a12, d1, d2, d3, d4, d5, d6, d7, s3, s6}
 use Rattle.model.specs.Core.{Ans, nothing, done, full, worn, empty, item}
 use Rattle.model.specs.Steps.{Out, step, stepA1, stepA6, stepA7, stepA8, stepA11, stepA12, stepD2, stepD4, emptyTo, itemTo, retireHeld}
 use Rattle.model.proofs.Basics.{upd-same, upd-other}
-use Rattle.tied.proofs.Words.{no-way}
 
 pub record Moved (m : Core) (t : ℕ) (o : Out) : Type 0 where
   pub others : (u : ℕ) → u ≢ t → o .core .thr u ≡ m .thr u

@@ -10,6 +10,7 @@ use lib.Dec.{eqb}
 use lib.ListN.{length, length-append, length-map, List·getD-append}
 use lib.Seq.{getD-at}
 use Rattle.lists.specs.Find.{both}
+use Rattle.lists.proofs.BoolLaws.{no-way}
 use Rattle.lawful.specs.Operation.{Operation, Reply, nothing, done, full, wornOut, empty, gave, says, Call, puts, takes, begun, answeredBy}
 use Rattle.lawful.specs.Lawful.{noOperation, at}
 use Rattle.model.specs.Basics.{upd}
@@ -18,7 +19,6 @@ use Rattle.model.specs.Core.{Th, busy}
 use Rattle.model.specs.Lawful as law
 use Rattle.model.specs.Bench.{Book, newBook, opens, closes}
 use Rattle.model.proofs.Basics.{upd-at, upd-other, eq-no}
-use Rattle.tied.proofs.Words.{no-way}
 use Rattle.lawproof.proofs.Walk.{eq-yes}
 
 -- ---- an operation, as the abstract machine has it

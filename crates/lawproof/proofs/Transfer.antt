@@ -8,13 +8,13 @@ use Prim.Native.Nat.{ℕ, _<_}
 use native.Mathlib.Omega.{arith}
 use lib.Dec.{eqb}
 use lib.ListN.{length}
+use Rattle.lists.proofs.BoolLaws.{no-way}
 use Rattle.lawful.specs.Operation.{Operation, Reply, nothing, done, full, wornOut, empty, gave, says, Call, puts, takes}
 use Rattle.lawful.specs.Plain.{serve, onward, serveAll}
 use Rattle.lawful.specs.Lawful.{at, Has, Once, Timely, Lawful}
 use Rattle.model.specs.Basics.{sel, has}
 use Rattle.model.specs.Core as core
 use Rattle.model.specs.Lawful as law
-use Rattle.tied.proofs.Words.{no-way}
 use Rattle.lawproof.proofs.Operations.{shownCall, shownReply, shownOp, quiet}
 
 -- ---- numbers in an order

@@ -7,6 +7,7 @@ use lib.ListN.{length}
 use lib.Dec.{eqb, ltb}
 use Rattle.lists.specs.Find.{pick}
 use Rattle.lists.specs.Tab.{over}
+use Rattle.lists.proofs.BoolLaws as bools
 use Rattle.answer.specs.Answers.{told, check, accepted}
 use Rattle.answer.specs.declared.Answer.{Answer}
 use Rattle.answer.specs.declared.Answer.the-variants.{Taken, Length, Threads, Room}
@@ -37,11 +38,11 @@ and-taken a rest h = rw (h, andThen)
 
 pub refused-of : (b : Bool) → not b ≡ true → b ≡ false
 refused-of false e = refl
-refused-of true e = codec.false-true e
+refused-of true e = bools.false-true e
 
 pub taken-of : (b : Bool) → not b ≡ false → b ≡ true
 taken-of true e = refl
-taken-of false e = codec.false-true (sym e)
+taken-of false e = bools.false-true (sym e)
 
 -- a refusal is packed with its place, whatever the value
 packed-refused : (a : Answer) (v : ℕ) → accepted a ≡ false → packed (told a) 0 ≡ packed (told a) v
@@ -59,7 +60,7 @@ refused-is a w r p e h = p ∙ (packed-refused a (replyOf (told a)) h ∙ ap (λ
 
 read-by : (s : List ℕ) (x : Bool) → accepted (check (not x) Length Taken) ≡ true → pick x (recordIn s) blankMachine ≡ recordIn s
 read-by s true h = refl
-read-by s false h = codec.false-true h
+read-by s false h = bools.false-true h
 
 pub record-read : (s : List ℕ) → accepted (readRecord s .answer) ≡ true → readRecord s .machine ≡ recordIn s
 unfolding readRecord

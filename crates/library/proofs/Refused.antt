@@ -11,6 +11,7 @@ use lib.ListN.{length}
 use lib.Dec.{eqb, ltb}
 use Rattle.lists.specs.Find.{pick}
 use Rattle.lists.specs.Tab.{joined, over}
+use Rattle.lists.proofs.BoolLaws as bools
 use Rattle.answer.specs.Answers.{told, check, accepted}
 use Rattle.answer.specs.declared.Answer.{Answer}
 use Rattle.answer.specs.declared.Answer.the-variants.{Taken, Room}
@@ -25,7 +26,6 @@ use Rattle.page.specs.Filled.{linesOn, linesAnswer, linesTaken, linesBytes, lin
 use Rattle.printing.specs.Lines.{refusedText, ifFits}
 use Rattle.filling.specs.Lines.{refusalAnswer, refusalBytes, refusalWritten}
 use Rattle.record.specs.Layout.{readRecord, recordIn, recordAnswer, recordWritten, recordBytes}
-use Rattle.codec.proofs.Accepted as codec
 use Rattle.library.specs.Packed.{packed, replyOf}
 use Rattle.library.specs.Calls.{eventGiven, startAnswered, startWritten, eventAnswered, saveAnswered, saveWritten, placesAnswered}
 use Rattle.library.proofs.Laws as laws
@@ -68,7 +68,7 @@ lines-stay s k b h = rw (h, linesTaken) (none-over b)
 line-by : (l b : List ℕ) (x : Bool) → ltb (length b) (length l) ≡ x → accepted (check x Room Taken) ≡ false → over b 0 (ifFits (length b) l) ≡ b
 unfolding ifFits
 line-by l b true e h = rw (e, ifFits) (none-over b)
-line-by l b false e h = codec.false-true (sym h)
+line-by l b false e h = bools.false-true (sym h)
 
 line-stays : (n p : ℕ) (b : List ℕ) → accepted (refusalAnswer n p (length b)) ≡ false → refusalWritten n p b ≡ b
 unfolding refusalAnswer refusalBytes refusalWritten
@@ -76,7 +76,7 @@ line-stays n p b h = line-by (refusedText n p) b (ltb (length b) (length (refuse
 
 record-by : (m : Machine) (b : List ℕ) (x : Bool) → accepted (check x Room Taken) ≡ false → pick x b (over b 0 (recordBytes m)) ≡ b
 record-by m b true h = refl
-record-by m b false h = codec.false-true (sym h)
+record-by m b false h = bools.false-true (sym h)
 
 record-stays : (m : Machine) (b : List ℕ) → accepted (recordAnswer (length b)) ≡ false → recordWritten m b ≡ b
 unfolding recordAnswer recordWritten

@@ -22,7 +22,7 @@ pub extern "C" fn uq_start(image: &[u8], threads: u8, bytes: &mut [u8]) -> u64
     }
     let read = codec::read_image(image);
     let a = read.answer;
-    if !codec::is_taken(a) {
+    if !answer::is_taken(a) {
         return packed_of(a, 0);
     }
     let g = read.image;
@@ -40,14 +40,14 @@ pub extern "C" fn uq_event(bytes: &mut [u8], kind: u8, number: u8, item: u32) ->
 {
     let o = record::read_record(bytes);
     let a = o.answer;
-    if !codec::is_taken(a) {
+    if !answer::is_taken(a) {
         return packed_of(a, 0);
     }
     let m = o.machine;
     let e = Event { kind, number, item };
     let out = events::on_event(m, e);
     let b = out.answer;
-    if !codec::is_taken(b) {
+    if !answer::is_taken(b) {
         return packed_of(b, 0);
     }
     let next = out.machine;
@@ -63,7 +63,7 @@ pub extern "C" fn uq_save(bytes: &[u8], buffer: &mut [u8]) -> u64
 {
     let o = record::read_record(bytes);
     let a = o.answer;
-    if !codec::is_taken(a) {
+    if !answer::is_taken(a) {
         return packed_of(a, 0);
     }
     let m = o.machine;
@@ -91,13 +91,13 @@ pub extern "C" fn uq_places(bytes: &[u8], buffer: &mut [u8]) -> u64
 {
     let o = record::read_record(bytes);
     let a = o.answer;
-    if !codec::is_taken(a) {
+    if !answer::is_taken(a) {
         return packed_of(a, 0);
     }
     let m = o.machine;
     let c = events::count_places(m);
     let b = c.answer;
-    if !codec::is_taken(b) {
+    if !answer::is_taken(b) {
         return packed_of(b, 0);
     }
     if buffer.len() < 6 {

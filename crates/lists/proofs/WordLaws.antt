@@ -11,6 +11,7 @@ use lib.Count.{ones, ones-step, trailingZeros, under}
 use borrow.Author.Tests.{eqb-true, eqb-false}
 use Rattle.lists.specs.Find.{pick, least, count}
 use Rattle.lists.specs.Word.{has, with, without, wordOf}
+use Rattle.lists.proofs.FindLaws.{least-shift}
 
 odd : (w : ℕ) → eqb (w % 2) 1 ≡ true → w % 2 ≡ 1
 odd w e = eqb-true (w % 2) 1 e
@@ -185,16 +186,6 @@ has-wordOf f zero i h = absurd (omega arith)
 has-wordOf f (suc n) i h = at-by f n i (has-wordOf f n i) (eq-or-lt-of-le (le-of-suc-le-suc h))
 
 -- ---- trailing zeros name the lowest
-
-least-shift : (f : ℕ → Bool) (k s : ℕ) → least f k (suc s) ≡ suc (least (λ i. f (suc i)) k s)
-unfolding least
-least-shift f zero s = refl
-least-shift f (suc k) s = by (f (suc s)) (least-shift f k (suc s))
-  where
-    by : (b : Bool) → least f k (suc (suc s)) ≡ suc (least (λ i. f (suc i)) k (suc s))
-        → pick b (suc s) (least f k (suc (suc s))) ≡ suc (pick b s (least (λ i. f (suc i)) k (suc s)))
-    by true e = refl
-    by false e = e
 
 under-by : (w r : ℕ) (b : Bool) → eqb (w % 2) 1 ≡ b → under (w % 2) r ≡ pick b 0 (suc r)
 under-by w r true e = rw (odd w e)

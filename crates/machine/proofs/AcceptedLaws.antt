@@ -1,5 +1,5 @@
 -- What an accepted start knows of its image and of T. Assumes nothing.
-use Prim.Native.Nat.{ℕ, zero, suc, _+_, _≤_, _<_}
+use Prim.Native.Nat.{ℕ, zero, suc, _≤_, _<_}
 use mathlib.Core.Path.{_≡_, refl, sym, _∙_}
 use mathlib.Core.Bool.{Bool, true, false, not}
 use mathlib.Core.Logic.{_≢_, _⊎_, inl, inr}
@@ -7,7 +7,8 @@ use native.Mathlib.Omega.{arith}
 use native.Mathlib.Nat.{eq-or-lt-of-le}
 use borrow.Author.Tests.{ltb-false, eqb-false, eq-eqb, not-true, not-false}
 use lib.Dec.{eqb, ltb}
-use Rattle.lists.specs.Find.{pick, least, any}
+use Rattle.lists.specs.Find.{pick, least}
+use Rattle.lists.proofs.BoolLaws.{no-way}
 use Rattle.lists.proofs.FindLaws as find
 use Rattle.answer.specs.Answers.{check, accepted}
 use Rattle.answer.specs.declared.Answer.the-variants.{Taken, Nodes, Threads, Linked, Twin, NoDummy}
@@ -21,20 +22,7 @@ use Rattle.machine.proofs.TableLaws.{dummy-le}
 
 -- ---- searches
 
-never : {A : Type 0} → true ≡ false → A
-never e = let z : _≡_ {A = ℕ} 0 1 = cc in absurd (omega arith)
-
--- a search that stopped before its end stopped at a number that the test holds of
-pub least-found : (f : ℕ → Bool) (k s : ℕ) → least f k s < s + k → f (least f k s) ≡ true
-unfolding least
-least-found f zero s h = absurd (omega arith)
-least-found f (suc k) s h = by (f s) refl (least-found f k (suc s)) h
-  where
-    by : (b : Bool) → f s ≡ b → (least f k (suc s) < suc s + k → f (least f k (suc s)) ≡ true) → pick b s (least f k (suc s)) < s + suc k → f (pick b s (least f k (suc s))) ≡ true
-    by true e r h = e
-    by false e r h = r (omega arith)
-
--- and the test failed at every number before it
+-- where a search stopped, the test failed at every number before
 pub least-before : (f : ℕ → Bool) (k s i : ℕ) → s ≤ i → i < least f k s → f i ≡ false
 unfolding least
 least-before f zero s i a b = absurd (omega arith)
@@ -45,31 +33,17 @@ least-before f (suc k) s i a b = by (f s) refl (least-before f k (suc s) i) b (e
     by false e r b (inl z) = rw (← z) e
     by false e r b (inr z) = r z b
 
--- where no number below n has it, none does
-pub any-none : (f : ℕ → Bool) (n : ℕ) → ((i : ℕ) → i < n → f i ≡ false) → any f n ≡ false
-unfolding any
-any-none f zero h = refl
-any-none f (suc n) h = rw (h n (omega arith)) (any-none f n (λ i p. h i (omega arith)))
-
--- and the other way
-pub any-clear : (f : ℕ → Bool) (n j : ℕ) → any f n ≡ false → j < n → f j ≡ false
-any-clear f n j e h = by (f j) refl
-  where
-    by : (b : Bool) → f j ≡ b → f j ≡ false
-    by true x = never (sym (find.any-hit f n j h x) ∙ e)
-    by false x = x
-
 -- ---- the answer is Taken
 
 tests :
     (a b u w z : Bool) (i j : ℕ) →
     accepted (check (not a) Threads (check (not b) Nodes (check u (Linked i) (check w (Twin j) (check z NoDummy Taken))))) ≡ true →
     (a ≡ true) × (b ≡ true) × (u ≡ false) × (w ≡ false) × (z ≡ false)
-tests false b u w z i j e = never (sym e)
-tests true false u w z i j e = never (sym e)
-tests true true true w z i j e = never (sym e)
-tests true true false true z i j e = never (sym e)
-tests true true false false true i j e = never (sym e)
+tests false b u w z i j e = no-way (sym e)
+tests true false u w z i j e = no-way (sym e)
+tests true true true w z i j e = no-way (sym e)
+tests true true false true z i j e = no-way (sym e)
+tests true true false false true i j e = no-way (sym e)
 tests true true false false false i j e = (refl, refl, refl, refl, refl)
 
 -- an accepted start is Taken
@@ -89,13 +63,13 @@ pub record Accepted (g : Image) (t : ℕ) : Type 0 where
 
 no-twins : (g : Image) → g .n ≤ firstTwin g → (i j : ℕ) → i < g .n → j < i → twins g i j ≡ false
 unfolding firstTwin hasTwin
-no-twins g h i j a b = any-clear (twins g i) i j (find.least-clear (hasTwin g) (g .n) 0 (omega arith) i (omega arith) (omega arith)) b
+no-twins g h i j a b = find.any-clear (twins g i) i j (find.least-clear (hasTwin g) (g .n) 0 (omega arith) i (omega arith) (omega arith)) b
 
 twin-free : (g : Image) (i j : ℕ) → twins g i j ≡ false → recoveredAt g i ≡ true → recoveredAt g j ≡ true → contentAt (g .nodes) i .index ≢ contentAt (g .nodes) j .index
 unfolding twins
 twin-free g i j e p q s =
     let x : eqb (contentAt (g .nodes) i .index) (contentAt (g .nodes) j .index) ≡ false = rw (p, q) at e in
-    never (sym (eq-eqb (contentAt (g .nodes) i .index) (contentAt (g .nodes) j .index) s) ∙ x)
+    no-way (sym (eq-eqb (contentAt (g .nodes) i .index) (contentAt (g .nodes) j .index) s) ∙ x)
 
 clear-at : (g : Image) → g .n ≤ firstUnclear g → (i : ℕ) → i < g .n → contentAt (g .nodes) i .linked ≤ 1
 unfolding firstUnclear
@@ -119,7 +93,7 @@ accepted-start g t e =
 -- "The lowest-numbered node that is not recovered becomes the dummy"
 pub dummy-spare : (g : Image) → dummyOf g < g .n → recoveredAt g (dummyOf g) ≡ false
 unfolding dummyOf
-dummy-spare g h = not-true (recoveredAt g (dummyOf g)) (least-found (λ i. not (recoveredAt g i)) (g .n) 0 (omega arith))
+dummy-spare g h = not-true (recoveredAt g (dummyOf g)) (find.least-found (λ i. not (recoveredAt g i)) (g .n) 0 (omega arith))
 
 pub dummy-lowest : (g : Image) (j : ℕ) → j < dummyOf g → recoveredAt g j ≡ true
 unfolding dummyOf

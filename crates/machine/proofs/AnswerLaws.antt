@@ -6,10 +6,9 @@ use types.Run.{OneOf, miss}
 use denote.Enum.Declared.{tagOf}
 use Rattle.answer.proofs.Answer.{the-type}
 use mathlib.Core.Bool.{Bool, true, false}
-use native.Mathlib.Omega.{arith}
 use borrow.Author.Tests.{leb-true}
 use lib.Dec.{eqb, ltb, leb}
-use Rattle.lists.specs.Find.{both}
+use Rattle.lists.proofs.BoolLaws.{both-true}
 use Rattle.answer.specs.Answers.{check, accepted}
 use Rattle.answer.specs.declared.Answer.{Answer}
 use Rattle.answer.specs.declared.Answer.the-variants.{Taken, Nodes, Threads, Linked, Twin, NoDummy}
@@ -66,12 +65,8 @@ not-taken a h e = miss keys 0 tt (subst (λ (x : Answer). OneOf keys (tagOf the-
 
 -- ---- the ranges of N and T
 
-both-of : (a b : Bool) → both a b ≡ true → (a ≡ true) × (b ≡ true)
-both-of true b e = (refl, e)
-both-of false b e = let z : _≡_ {A = ℕ} 0 1 = cc in absurd (omega arith)
-
 pub nodes-range : (n : ℕ) → nodesFit n ≡ true → (2 ≤ n) × (n ≤ 64)
-nodes-range n e = let b = both-of (leb 2 n) (leb n 64) e in (leb-true 2 n (b .0), leb-true n 64 (b .1))
+nodes-range n e = let b = both-true (leb 2 n) (leb n 64) e in (leb-true 2 n (b .0), leb-true n 64 (b .1))
 
 pub threads-range : (t : ℕ) → threadsFit t ≡ true → (1 ≤ t) × (t ≤ 8)
-threads-range t e = let b = both-of (leb 1 t) (leb t 8) e in (leb-true 1 t (b .0), leb-true t 8 (b .1))
+threads-range t e = let b = both-true (leb 1 t) (leb t 8) e in (leb-true 1 t (b .0), leb-true t 8 (b .1))

@@ -16,7 +16,6 @@ use Rattle.image.specs.Recovered.{recovered, recoveredAt, twins, hasTwin, first
 use Rattle.image.specs.Refusals.{startable, sound}
 use Rattle.machine.specs.Start.{zeroImage, freshOf, startAnswer, freshFrom}
 use Rattle.machine.specs.Range.{inRange}
-use Rattle.machine.proofs.AcceptedLaws.{any-none}
 use Rattle.machine.proofs.AnswerLaws.{start-taken}
 use Rattle.machine.proofs.RangeLaws.{start-in-range}
 
@@ -44,7 +43,7 @@ module _ (n : ℕ) where
   zero-single : firstTwin (zeroImage n) ≡ n
   unfolding firstTwin hasTwin
   zero-single =
-      find.least-none (hasTwin (zeroImage n)) n 0 (λ i a b. any-none (twins (zeroImage n) i) i (λ j h. zero-twins i j)) ∙ omega arith
+      find.least-none (hasTwin (zeroImage n)) n 0 (λ i a b. find.any-none (twins (zeroImage n) i) i (λ j h. zero-twins i j)) ∙ omega arith
 
 zero-dummy : (n : ℕ) → 0 < n → dummyOf (zeroImage n) ≡ 0
 unfolding dummyOf least

@@ -9,6 +9,7 @@ use borrow.Author.Tests.{eq-eqb, lt-ltb, le-leb}
 use lib.Dec.{eqb, ltb, leb}
 use lib.Pow.{pow-mono}
 use Rattle.lists.specs.Find.{pick, both, any}
+use Rattle.lists.proofs.FindLaws.{any-none}
 use Rattle.answer.specs.Answers.{accepted}
 use Rattle.image.specs.declared.Content.{Content}
 use Rattle.image.specs.declared.Image.{Image}
@@ -19,7 +20,7 @@ use Rattle.machine.specs.Start.{queueOf, behind, startWith, startOf, sta
 use Rattle.machine.specs.Rising.{among}
 use Rattle.machine.specs.declared.Machine.{Machine}
 use Rattle.machine.specs.declared.Node.{Node}
-use Rattle.machine.proofs.AcceptedLaws.{Accepted, accepted-start, any-none}
+use Rattle.machine.proofs.AcceptedLaws.{Accepted, accepted-start}
 use Rattle.machine.proofs.LinkLaws as links
 use Rattle.machine.proofs.StartLaws as starts
 use Rattle.lists.proofs.WordLaws.{wordOf-lt}

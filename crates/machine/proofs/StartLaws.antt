@@ -1,16 +1,17 @@
 -- A start of accepted contents is what the paper says of it, sentence by sentence. Assumes nothing.
 use Prim.Native.Nat.{ℕ, suc, _≤_, _<_}
 use mathlib.Core.Path.{_≡_, refl, sym, ap, ap₂, _∙_}
-use mathlib.Core.Bool.{Bool, true, false, not}
+use mathlib.Core.Bool.{true, false, not}
 use mathlib.Core.List.{List, [], _∷_, _++_}
 use mathlib.Core.Logic.{_≢_, inl, inr}
 use native.Mathlib.Omega.{arith}
 use borrow.Author.Tests.{eq-eqb, ne-eqb, ltb-true}
 use lib.Dec.{eqb, ltb}
-use lib.ListN.{length, getD, take, drop, take-append-drop, List·getD-append, getD-replicate}
+use lib.ListN.{length, getD, take, drop, take-append-drop, getD-replicate}
 use Rattle.lists.specs.Find.{both}
 use Rattle.lists.specs.Tab.{tab, front}
 use Rattle.lists.specs.Word.{has}
+use Rattle.lists.proofs.BoolLaws.{no-way, both-true}
 use Rattle.lists.proofs.TabLaws as tabs
 use Rattle.answer.specs.Answers.{accepted}
 use Rattle.answer.specs.declared.Answer.the-variants.{Taken}
@@ -32,26 +33,15 @@ use Rattle.lists.proofs.WordLaws.{has-wordOf, wordOf-lt, has-beyond}
 
 -- ---- the tables of any start
 
-getD-front : {A : Type 0} (f : ℕ → A) (n : ℕ) (l : List A) (i : ℕ) (d : A) → i < n → getD (front f n l) i d ≡ f i
-unfolding front
-getD-front f n l i d h = List·getD-append (tab f n) (drop n l) d i (omega (arith, tabs.length-tab f n)) ∙ tabs.getD-tab f n i d h
-
-never : {A : Type 0} → true ≡ false → A
-never e = let z : _≡_ {A = ℕ} 0 1 = cc in absurd (omega arith)
-
-both-second : (a b : Bool) → both a b ≡ true → b ≡ true
-both-second true b e = e
-both-second false b e = never (sym e)
-
 module _ (g : Image) (t : ℕ) where
   pub node-is : (i : ℕ) → i < g .n → node (startOf g t) i ≡ startNode g (dummyOf g) (queueOf g) i
   unfolding startWith
-  node-is i h = getD-front (startNode g (dummyOf g) (queueOf g)) (g .n) blankNodes i zeroNode h
+  node-is i h = tabs.front-at (startNode g (dummyOf g) (queueOf g)) (g .n) blankNodes i zeroNode h
 
   -- "persisted copies stay"
   pub kept-is : (i : ℕ) → i < g .n → kept (startOf g t) i ≡ contentAt (g .nodes) i
   unfolding startWith
-  kept-is i h = getD-front (contentAt (g .nodes)) (g .n) noContents i noContent h
+  kept-is i h = tabs.front-at (contentAt (g .nodes)) (g .n) noContents i noContent h
 
   -- as an image they are the one that was read, where that holds nothing from N on
   pub persisted-is : g .n ≤ length (g .nodes) → drop (g .n) (g .nodes) ≡ drop (g .n) noContents → persisted (startOf g t) ≡ g
@@ -144,11 +134,11 @@ module _ (g : Image) (t : ℕ) (ok : accepted (startAnswer g t) ≡ true) where
   queue-once = links.rising-once (λ i. contentAt (g .nodes) i .index) (queueOf g) queue-rises
 
   not-dummy : (i : ℕ) → recoveredAt g i ≡ true → i ≢ dummyOf g
-  not-dummy i e z = never (sym (rw z at e) ∙ dummy-spare g (fit .dummy))
+  not-dummy i e z = no-way (sym (rw z at e) ∙ dummy-spare g (fit .dummy))
 
   above : (i : ℕ) → recoveredAt g i ≡ true → g .head < contentAt (g .nodes) i .index
   unfolding recovered
-  above i e = ltb-true (g .head) (contentAt (g .nodes) i .index) (both-second (eqb (contentAt (g .nodes) i .linked) 1) (ltb (g .head) (contentAt (g .nodes) i .index)) e)
+  above i e = ltb-true (g .head) (contentAt (g .nodes) i .index) (both-true (eqb (contentAt (g .nodes) i .linked) 1) (ltb (g .head) (contentAt (g .nodes) i .index)) e .1)
 
   cached-index : (i : ℕ) → among i (queueOf g) → node (startOf g t) i .index ≡ contentAt (g .nodes) i .index
   cached-index i h = let r = queue-in g t i h in ap (λ (c : Content). c .index) (cached-is i (r .0) (not-dummy i (r .1)))

@@ -14,6 +14,7 @@ use lib.Seq.{length-take-le, drop-cons, getD-take}
 use Rattle.lists.specs.Find.{pick}
 use Rattle.lists.specs.Tab.{tab, front}
 use Rattle.lists.specs.Word.{wordOf}
+use Rattle.lists.proofs.FindLaws.{least-le}
 use Rattle.lists.proofs.TabLaws as tabs
 use Rattle.image.specs.declared.Image.{Image}
 use Rattle.image.specs.Layout.{contentAt, noContents}
@@ -21,7 +22,6 @@ use Rattle.image.specs.Recovered.{recoveredAt, dummyOf}
 use Rattle.machine.specs.Record.{none, blankNodes}
 use Rattle.machine.specs.Start.{behind, lastOf, startNode, spare}
 use Rattle.machine.specs.Laid.{startNodes, startKept, startFree}
-use Rattle.machine.proofs.QueueLaws.{least-le}
 use Rattle.lists.proofs.WordLaws.{wordOf-lt}
 
 -- ---- along the first c places of a table
@@ -60,17 +60,13 @@ behind-end l c p a i h f = ap (λ (z : List ℕ). behind (a ∷ z) i) (rest-none
 
 -- ---- tables filled from the front
 
-front-set : {A : Type 0} (f : ℕ → A) (n : ℕ) (l : List A) → n < length l → set (front f n l) n (f n) ≡ front f (n + 1) l
-unfolding front
-front-set f n l h = tabs.tab-set f n l h
-
 pub nodes-none : (g : Image) (d : ℕ) (q : List ℕ) → blankNodes ≡ startNodes g d q 0
 unfolding startNodes front tab
 nodes-none g d q = refl
 
 pub nodes-next : (g : Image) (d : ℕ) (q : List ℕ) (i : ℕ) → i < 64 → set (startNodes g d q i) i (startNode g d q i) ≡ startNodes g d q (i + 1)
 unfolding startNodes blankNodes
-nodes-next g d q i h = front-set (startNode g d q) i blankNodes h
+nodes-next g d q i h = tabs.front-next (startNode g d q) i blankNodes h
 
 pub kept-none : (g : Image) → noContents ≡ startKept g 0
 unfolding startKept front tab
@@ -78,7 +74,7 @@ kept-none g = refl
 
 pub kept-next : (g : Image) (i : ℕ) → i < 64 → set (startKept g i) i (contentAt (g .nodes) i) ≡ startKept g (i + 1)
 unfolding startKept noContents
-kept-next g i h = front-set (contentAt (g .nodes)) i noContents h
+kept-next g i h = tabs.front-next (contentAt (g .nodes)) i noContents h
 
 -- ---- the free set
 

@@ -1,12 +1,11 @@
 -- In every machine of a run there are as many persisted copies as nodes: each node's line has one.
 use Prim.Native.Nat.{ℕ, zero, suc, _+_, _-_}
-use mathlib.Core.Path.{_≡_, sym, ap, ap₂, _∙_}
+use mathlib.Core.Path.{_≡_, sym, ap, _∙_}
 use mathlib.Core.Bool.{Bool, true, false}
 use mathlib.Core.List.{List}
-use lib.ListN.{length, drop, set, length-append, length-drop, length-map, length-set, length-replicate}
+use lib.ListN.{length, set, length-map, length-set, length-replicate}
 use lib.Dec.{eqb}
 use Rattle.lists.specs.Find.{pick, both}
-use Rattle.lists.specs.Tab.{tab, front}
 use Rattle.lists.proofs.TabLaws as tabs
 use Rattle.image.specs.declared.Image.{Image}
 use Rattle.image.specs.Layout.{noContent, noContents}
@@ -89,10 +88,6 @@ module _ (m : Machine) (k : ℕ) (e : Even m) where
 
 -- ---- starts and events
 
-front-length : {A : Type 0} (f : ℕ → A) (n : ℕ) (l : List A) → length (front f n l) ≡ n + (length l - n)
-unfolding front
-front-length f n l = length-append (tab f n) (drop n l) ∙ ap₂ _+_ (tabs.length-tab f n) (length-drop n l)
-
 blank-length : length blankNodes ≡ 64
 unfolding blankNodes
 blank-length = length-replicate 64 blankNode
@@ -104,7 +99,7 @@ contents-length = length-replicate 64 noContent
 even-with : (g : Image) (t d : ℕ) (q : List ℕ) → Even (startWith g t d q)
 unfolding startWith
 even-with g t d q =
-    front-length _ (g .n) noContents ∙ ap (λ (x : ℕ). g .n + (x - g .n)) (contents-length ∙ sym blank-length) ∙ sym (front-length _ (g .n) blankNodes)
+    tabs.front-length _ (g .n) noContents ∙ ap (λ (x : ℕ). g .n + (x - g .n)) (contents-length ∙ sym blank-length) ∙ sym (tabs.front-length _ (g .n) blankNodes)
 
 pub even-start : (g : Image) (t : ℕ) → Even (startOf g t)
 even-start g t = even-with g t _ (queueOf g)

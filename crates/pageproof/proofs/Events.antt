@@ -7,6 +7,7 @@ use mathlib.Core.Logic.{_⊎_, inl, inr}
 use native.Mathlib.Omega.{arith}
 use lib.Dec.{eqb, leb, eqb→eq, eqb-refl, leb→le}
 use Rattle.lists.specs.Find.{pick, both}
+use Rattle.lists.proofs.BoolLaws.{no-way}
 use Rattle.answer.specs.Answers.{check, accepted}
 use Rattle.answer.specs.declared.Answer.{Answer}
 use Rattle.answer.specs.declared.Answer.the-variants.{Taken, Number, Busy, Idle, NotZero}
@@ -29,9 +30,6 @@ use Rattle.endtable.proofs.Steps as acts
 use Rattle.endtable.proofs.Moments as moments
 use Rattle.pageproof.proofs.Alike.{Alike, alike-done, alike-answer, alike-touches}
 use Rattle.pageproof.proofs.Even.{Even, even-done}
-
-pub no-way : {A : Type 0} → true ≡ false → A
-no-way e = let z : _≡_ {A = ℕ} 0 1 = cc in absurd (omega arith)
 
 abbrev pub Takes : ℕ → Machine → Event → Type 0
 Takes p m e = accepted (eventAt p m e .answer) ≡ true

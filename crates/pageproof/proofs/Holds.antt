@@ -7,6 +7,7 @@ use mathlib.Core.Bool.{Bool, true, false}
 use mathlib.Core.List.{List, []}
 use native.Mathlib.Omega.{arith}
 use lib.ListN.{length-map}
+use Rattle.lists.proofs.BoolLaws.{no-way}
 use Rattle.answer.specs.Answers.{accepted}
 use Rattle.answer.specs.declared.Answer.{Answer}
 use Rattle.image.specs.Layout.{imageIn}
@@ -23,7 +24,6 @@ use Rattle.endtable.proofs.Blocks as blocks
 use Rattle.endtable.proofs.Choices as choices
 use Rattle.endtable.proofs.Distinct as distinct
 use Rattle.pageproof.proofs.Even.{Even, even-start}
-use Rattle.pageproof.proofs.Events.{no-way}
 use Rattle.pageproof.proofs.Page.{leaves, only}
 
 -- ---- each image once

@@ -6,6 +6,7 @@ use mathlib.Core.List.{List, [], _∷_, _++_}
 use mathlib.Core.Logic.{_⊎_, inl, inr, _≢_}
 use native.Mathlib.Omega.{arith}
 use lib.ListN.{length}
+use Rattle.lists.proofs.BoolLaws.{no-way}
 use Rattle.answer.specs.Answers.{accepted}
 use Rattle.answer.specs.declared.Answer.{Answer}
 use Rattle.machine.specs.Start.{startWith}
@@ -15,7 +16,7 @@ use Rattle.machine.specs.declared.Event.{Event}
 use Rattle.machine.specs.declared.Out.{Out}
 use Rattle.schedule.specs.Run.{Bench, Ran, run, andBefore, turned, begins}
 use Rattle.lawful.specs.Added.{NoCrash, EndsInStart}
-use Rattle.pageproof.proofs.Events.{no-way, Takes, Crash, taken-is, Good, onto, onto-good, onto-size, crash-good}
+use Rattle.pageproof.proofs.Events.{Takes, Crash, taken-is, Good, onto, onto-good, onto-size, crash-good}
 
 abbrev pub Accepts : ℕ → Bench → List Event → Type 0
 Accepts p b l = accepted (run p b l .answer) ≡ true

@@ -9,6 +9,7 @@ use lib.ListN.{length, getD, drop}
 use lib.Dec.{eqb, eqb→eq}
 use Rattle.lists.specs.Find.{pick}
 use Rattle.lists.specs.Tab.{tab}
+use Rattle.lists.proofs.BoolLaws.{yes-of}
 use Rattle.lists.proofs.TabLaws as tabs
 use Rattle.answer.specs.Answers.{accepted}
 use Rattle.answer.specs.declared.Answer.{Answer}
@@ -63,17 +64,7 @@ not-five (suc (suc (suc (suc (suc (suc k)))))) e d = let z : _≡_ {A = ℕ} 0 1
 pub one-more : (q : ℕ) (b : Bench) (e : Event) → accepted (eventAt q (b .machine) e .answer) ≡ true
     → run q b (e ∷ []) ≡ andBefore (eventAt q (b .machine) e .answer) (record { answer = Taken; replies = []; bench = turnedBy q b e })
 unfolding run
-one-more q b e h = by (accepted (eventAt q (b .machine) e .answer)) h
-  where
-    onward : Ran
-    onward = andBefore (eventAt q (b .machine) e .answer) (record { answer = Taken; replies = []; bench = turnedBy q b e })
-
-    stop : Ran
-    stop = record { answer = eventAt q (b .machine) e .answer; replies = []; bench = b }
-
-    by : (x : Bool) → x ≡ true → elim x as (λ _. Ran) [ true ↦ onward | false ↦ stop ] ≡ onward
-    by true w = refl
-    by false w = absurd (let z : _≡_ {A = ℕ} 0 1 = cc in omega arith)
+one-more q b e h = yes-of _ _ (accepted (eventAt q (b .machine) e .answer)) h
 
 module _ (s : List ℕ) where
   abbrev b₀ : Bench

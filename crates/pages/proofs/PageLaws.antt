@@ -1,7 +1,7 @@
 -- From the code's run to the page's answers and bytes.
 use Prim.Native.Nat.{ℕ, suc, _+_, _*_, _<_, _≤_}
 use mathlib.Core.Path.{_≡_, refl, sym, ap, ap₂, subst, _∙_}
-use mathlib.Core.Bool.{Bool, true, false}
+use mathlib.Core.Bool.{true, false}
 use mathlib.Core.List.{List}
 use native.Mathlib.Omega.{arith}
 use native.Mathlib.Numerals.{add-one}
@@ -10,6 +10,7 @@ use lib.Dec.{ltb, leb}
 use borrow.Author.Tests.{lt-ltb, le-ltb, le-leb, lt-leb}
 use Rattle.lists.specs.Find.{pick}
 use Rattle.lists.specs.Tab.{over}
+use Rattle.lists.proofs.BoolLaws.{yes-of, no-of}
 use Rattle.answer.specs.Answers.{told, check, accepted}
 use Rattle.answer.specs.declared.Told.{Told}
 use Rattle.answer.specs.declared.Answer.{Answer}
@@ -32,15 +33,6 @@ use Rattle.pages.specs.Going.{RunIs}
 use Rattle.pages.specs.Paged.{PageTaken, PageIs, countOf}
 use Rattle.pages.specs.declared.running.Run.{Run}
 use Rattle.pages.proofs.GoingLaws.{taken-or}
-
--- one of two, by a test that is known
-yes-of : {A : Type 0} (a b : A) (x : Bool) → x ≡ true → elim x as (λ _. A) [ true ↦ a | false ↦ b ] ≡ a
-yes-of a b true e = refl
-yes-of a b false e = taken-or false refl e
-
-no-of : {A : Type 0} (a b : A) (x : Bool) → x ≡ false → elim x as (λ _. A) [ true ↦ a | false ↦ b ] ≡ b
-no-of a b false e = refl
-no-of a b true e = taken-or true e refl
 
 -- ---- the page's answer, in its order
 

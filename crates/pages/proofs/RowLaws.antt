@@ -2,7 +2,7 @@
 use Prim.Native.Nat.{ℕ, zero, suc, _+_, _<_, _≤_}
 use mathlib.Core.Path.{_≡_, refl, sym, ap, ap₂, _∙_}
 use mathlib.Core.Bool.{Bool, true, false}
-use mathlib.Core.List.{List, [], _∷_, _++_, map}
+use mathlib.Core.List.{List, [], _∷_, map, append-nil}
 use native.Mathlib.Omega.{arith}
 use native.Mathlib.Numerals.{add-one}
 use lib.ListN.{length, getD, set, take, drop, List·getD-map}
@@ -28,26 +28,13 @@ map-set f [] i v = refl
 map-set f (x ∷ l) zero v = refl
 map-set f (x ∷ l) (suc i) v = ap (λ r. f x ∷ r) (map-set f l i v)
 
-map-app : {A B : Type 0} (f : A → B) (l r : List A) → map f (l ++ r) ≡ map f l ++ map f r
-map-app f [] r = refl
-map-app f (x ∷ l) r = ap (λ z. f x ∷ z) (map-app f l r)
-
-map-tab : {A B : Type 0} (f : A → B) (g : ℕ → A) (n : ℕ) → map f (tab g n) ≡ tab (λ i. f (g i)) n
-unfolding tab
-map-tab f g zero = refl
-map-tab f g (suc n) = map-app f (tab g n) (g n ∷ []) ∙ ap (λ r. r ++ (f (g n) ∷ [])) (map-tab f g n)
-
-nil-right : {A : Type 0} (l : List A) → l ++ [] ≡ l
-nil-right [] = refl
-nil-right (x ∷ l) = ap (λ r. x ∷ r) (nil-right l)
-
 pub length-no : length noRows ≡ 65
 unfolding noRows
 length-no = refl
 
 rows-all : (t : List (List Content)) (cs : List ℕ) → rowsOf t cs 65 ≡ tab (rowAt t cs) 65
 unfolding rowsOf front noRows
-rows-all t cs = nil-right (tab (rowAt t cs) 65)
+rows-all t cs = append-nil (tab (rowAt t cs) 65)
 
 list-tab : {A : Type 0} (l : List A) (d : A) (n : ℕ) → length l ≡ n → tab (λ i. getD l i d) n ≡ l
 list-tab l d n e =
@@ -56,10 +43,10 @@ list-tab l d n e =
     ∙ take-all n l (omega arith)
 
 pub rows-ats : (t : List (List Content)) (cs : List ℕ) → length t ≡ 65 → atsOf (rowsOf t cs 65) ≡ t
-rows-ats t cs h = ap atsOf (rows-all t cs) ∙ map-tab (λ r. r .at) (rowAt t cs) 65 ∙ list-tab t [] 65 h
+rows-ats t cs h = ap atsOf (rows-all t cs) ∙ tabs.map-tab (λ r. r .at) (rowAt t cs) 65 ∙ list-tab t [] 65 h
 
 pub rows-counts : (t : List (List Content)) (cs : List ℕ) → length cs ≡ 65 → countsOf (rowsOf t cs 65) ≡ cs
-rows-counts t cs h = ap countsOf (rows-all t cs) ∙ map-tab (λ r. r .count) (rowAt t cs) 65 ∙ list-tab cs 0 65 h
+rows-counts t cs h = ap countsOf (rows-all t cs) ∙ tabs.map-tab (λ r. r .count) (rowAt t cs) 65 ∙ list-tab cs 0 65 h
 
 at-of : (rows : List Row) (l : ℕ) → getD (atsOf rows) l [] ≡ getD rows l noRow .at
 at-of rows l = List·getD-map (λ (r : Row). r .at) rows l noRow
@@ -151,13 +138,13 @@ counts-next rows i h = tabs.tab-set (λ l. getD rows l noRow .count) i noCounts 
 pub ats-all : (rows : List Row) → length rows ≡ 65 → atsTo rows 65 ≡ atsOf rows
 unfolding atsTo front noTable
 ats-all rows h =
-    nil-right (tab (λ l. getD rows l noRow .at) 65)
-    ∙ sym (map-tab (λ (r : Row). r .at) (λ l. getD rows l noRow) 65)
+    append-nil (tab (λ l. getD rows l noRow .at) 65)
+    ∙ sym (tabs.map-tab (λ (r : Row). r .at) (λ l. getD rows l noRow) 65)
     ∙ ap atsOf (list-tab rows noRow 65 h)
 
 pub counts-all : (rows : List Row) → length rows ≡ 65 → countsTo rows 65 ≡ countsOf rows
 unfolding countsTo front noCounts
 counts-all rows h =
-    nil-right (tab (λ l. getD rows l noRow .count) 65)
-    ∙ sym (map-tab (λ (r : Row). r .count) (λ l. getD rows l noRow) 65)
+    append-nil (tab (λ l. getD rows l noRow .count) 65)
+    ∙ sym (tabs.map-tab (λ (r : Row). r .count) (λ l. getD rows l noRow) 65)
     ∙ ap countsOf (list-tab rows noRow 65 h)

@@ -21,7 +21,7 @@ pub fn count_endings(s: &[u8]) -> Count
 {
     let r = page_of(s);
     let a = r.answer;
-    if !codec::is_taken(a) {
+    if !answer::is_taken(a) {
         return Count {
             answer: a,
             count: 0,
@@ -41,7 +41,7 @@ pub fn ending_of(s: &[u8], k: u64, b: &mut [u8]) -> Answer
 {
     let r = page_of(s);
     let a = r.answer;
-    if !codec::is_taken(a) {
+    if !answer::is_taken(a) {
         return a;
     }
     let m = r.machine;

@@ -26,13 +26,13 @@ pub fn page_of(s: &[u8]) -> Run
 {
     let o = codec::open_schedule(s);
     let a = o.answer;
-    if !codec::is_taken(a) {
+    if !answer::is_taken(a) {
         return refused(a);
     }
     let d = o.schedule;
     let r = run_events(s, d);
     let b = r.answer;
-    if !codec::is_taken(b) {
+    if !answer::is_taken(b) {
         return refused(b);
     }
     let machine = r.machine;

@@ -35,7 +35,7 @@ pub fn run_events(s: &[u8], d: Schedule) -> Run
         let e = codec::event_at(s, n, i);
         let out = events::act(i as u32, m, e);
         let a = out.answer;
-        if !codec::is_taken(a) {
+        if !answer::is_taken(a) {
             return Run {
                 answer: a,
                 machine: m,

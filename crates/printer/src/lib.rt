@@ -76,7 +76,7 @@ pub fn print_page(s: &[u8], b: &mut [u8]) -> Printed
 {
     let r = pages::paging::page_of(s);
     let a = r.answer;
-    if !codec::is_taken(a) {
+    if !answer::is_taken(a) {
         let whole = print_refused(a);
         return Printed {
             refused: true,

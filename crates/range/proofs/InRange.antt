@@ -7,6 +7,7 @@ use native.Mathlib.Omega.{arith}
 use borrow.Author.Tests.{ltb-true, leb-true, eqb-true, not-true, not-false, eq-eqb}
 use lib.Dec.{eqb, leb}
 use Rattle.lists.specs.Find.{pick, both, any}
+use Rattle.lists.proofs.BoolLaws.{both-true}
 use Rattle.lists.proofs.FindLaws as find
 use Rattle.machine.specs.Record.{none, node, kept, thread}
 use Rattle.machine.specs.Stage as st
@@ -14,20 +15,6 @@ use Rattle.machine.specs.Range.{inRange, isNode, isLink, readFits, nextFits, no
 use Rattle.machine.specs.declared.Machine.{Machine}
 use Rattle.range.specs.Parts.{sizesIn, badNode, badThread}
 use Rattle.range.specs.Facts.{Sizes, Link, NodeFacts, ThreadFacts, Facts}
-
--- ---- tests that hold together
-
-pub both-true : (a b : Bool) → both a b ≡ true → (a ≡ true) × (b ≡ true)
-both-true true b h = (refl, h)
-both-true false b h = let z : _≡_ {A = ℕ} 0 1 = cc in absurd (omega arith)
-
--- what a search did not find is at no number below its end
-clear-of : (f : ℕ → Bool) (n i : ℕ) → i < n → any f n ≡ false → (b : Bool) → f i ≡ b → b ≡ false
-clear-of f n i h e true p = sym (find.any-hit f n i h p) ∙ e
-clear-of f n i h e false p = refl
-
-pub any-clear : (f : ℕ → Bool) (n i : ℕ) → i < n → any f n ≡ false → f i ≡ false
-any-clear f n i h e = clear-of f n i h e (f i) refl
 
 -- ---- each part
 
@@ -112,12 +99,12 @@ module _ (m : Machine) where
       let c = both-true _ _ (b .1) in
       let d = both-true (not (any (badNode m) (m .n))) (not (any (badThread m) (m .t))) (c .1) in
       let ends = both-true _ _ (b .0) in
-      let nodes : (i : ℕ) → i < m .n → NodeFacts m i = λ i p. node-facts i (not-false _ (any-clear (badNode m) (m .n) i p (not-true _ (d .0)))) in
+      let nodes : (i : ℕ) → i < m .n → NodeFacts m i = λ i p. node-facts i (not-false _ (find.any-clear (badNode m) (m .n) i (not-true _ (d .0)) p)) in
       record {
         sizes = sizes-in (m .n) (m .t) (a .0);
         head = ltb-true (m .head) (m .n) (ends .0);
         tail = ltb-true (m .tail) (m .n) (ends .1);
         free = ltb-true (m .free) (2 ^ m .n) (c .0);
         node = nodes;
-        thread = λ k p. thread-facts k nodes (not-false _ (any-clear (badThread m) (m .t) k p (not-true _ (d .1))));
+        thread = λ k p. thread-facts k nodes (not-false _ (find.any-clear (badThread m) (m .t) k (not-true _ (d .1)) p));
       }

@@ -6,20 +6,12 @@ use native.Mathlib.Omega.{arith}
 use native.Mathlib.Numerals.{add-one}
 use lib.ListN.{length, getD, set, take, length-take, length-append}
 use lib.Seq.{take-suc}
-use Rattle.lists.specs.Tab.{tab, joined, over, front}
+use Rattle.lists.specs.Tab.{joined, over}
 use Rattle.lists.proofs.TabLaws as laws
 use Rattle.machine.specs.declared.Machine.{Machine}
 use Rattle.record.specs.Layout.{headBytes, nodePart, threadPart, recordBytes}
 
 module _ {A : Type 0} where
-  pub front-none : (f : ℕ → A) (l : List A) → l ≡ front f 0 l
-  unfolding front tab
-  front-none f l = refl
-
-  pub front-next : (f : ℕ → A) (i : ℕ) (l : List A) → i < length l → set (front f i l) i (f i) ≡ front f (i + 1) l
-  unfolding front
-  front-next f i l h = laws.tab-set f i l h
-
   pub over-none : (l : List A) (i : ℕ) → l ≡ over l i []
   unfolding over
   over-none l i = refl

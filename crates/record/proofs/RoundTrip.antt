@@ -5,9 +5,9 @@ use mathlib.Core.List.{List, _++_}
 use native.Mathlib.Omega.{arith}
 use native.Mathlib.Nat.{div-div-eq-div-mul, div-add-mod', add-assoc, add-zero}
 use borrow.Author.Tests.{eq-eqb}
-use lib.ListN.{length, getD, drop, length-append, length-drop, List·getD-append}
+use lib.ListN.{length, getD, length-append, List·getD-append}
 use lib.Seq.{ext-getD, getD-append-add}
-use Rattle.lists.specs.Tab.{tab, joined, front}
+use Rattle.lists.specs.Tab.{joined, front}
 use Rattle.lists.proofs.TabLaws as tabs
 use Rattle.answer.specs.declared.Answer.the-variants.{Taken}
 use Rattle.image.specs.Bytes.{num4, at1, at4}
@@ -81,12 +81,9 @@ module _ (s q : List ℕ) (p c : ℕ) (same : (j : ℕ) → j < c → getD s (p 
 -- ---- a table filled whole
 
 filled : {A : Type 0} (d : A) (f : ℕ → A) (n : ℕ) (l x : List A) → length l ≡ n → length x ≡ n → ((i : ℕ) → i < n → f i ≡ getD x i d) → front f n l ≡ x
-unfolding front
 filled d f n l x e g h =
-    let t = tabs.length-tab f n in
-    let w : length (tab f n ++ drop n l) ≡ n = length-append (tab f n) (drop n l) ∙ omega (arith, t, length-drop n l) in
-    ext-getD d (tab f n ++ drop n l) x (w ∙ sym g)
-    (λ i p. List·getD-append (tab f n) (drop n l) d i (omega (arith, t, w)) ∙ tabs.getD-tab f n i d (omega (arith, w)) ∙ h i (omega (arith, w)))
+    let w : length (front f n l) ≡ n = tabs.front-size f n l (omega arith) ∙ e in
+    ext-getD d (front f n l) x (w ∙ sym g) (λ i p. tabs.front-at f n l i d (omega (arith, w)) ∙ h i (omega (arith, w)))
 
 module _ (m : Machine) where
   nodesOf : List ℕ

@@ -4,9 +4,9 @@ use mathlib.Core.Path.{_≡_, sym, ap, ap₂, _∙_}
 use mathlib.Core.List.{List, [], _∷_, _++_}
 use native.Mathlib.Omega.{arith}
 use native.Mathlib.Nat.{div-div-eq-div-mul, add-assoc, add-zero}
-use lib.ListN.{length, getD, take, drop, List·getD-append}
+use lib.ListN.{length, getD, take, drop}
 use lib.Seq.{take-all, take-add, drop-drop}
-use Rattle.lists.specs.Tab.{tab, joined, front}
+use Rattle.lists.specs.Tab.{tab, joined}
 use Rattle.lists.proofs.TabLaws as tabs
 use Rattle.image.specs.Bytes.{num4, le4, at1, at4}
 use Rattle.image.specs.Layout.{noContent, noContents}
@@ -55,11 +55,6 @@ le8-parts a b h =
     let s : x / 16777216 % 256 ≡ a / 16777216 % 256 = ap (λ (z : ℕ). z % 256) s′ ∙ mod-more (a / 16777216) b in
     λ k. p k ∷ q k ∷ r k ∷ s k ∷ y k % 256 ∷ e k % 256 ∷ f k % 256 ∷ g k % 256 ∷ []
 
--- an element of a table filled from the front
-front-at : {A : Type 0} (d : A) (f : ℕ → A) (n i : ℕ) (l : List A) → i < n → getD (front f n l) i d ≡ f i
-unfolding front
-front-at d f n i l h = List·getD-append (tab f n) (drop n l) d i (omega (arith, tabs.length-tab f n)) ∙ tabs.getD-tab f n i d h
-
 module _ (s : List ℕ) (bytes : (i : ℕ) → getD s i 0 < 256) where
   -- what stands from place p on
   abbrev from : ℕ → ℕ → ℕ
@@ -90,14 +85,14 @@ module _ (s : List ℕ) (bytes : (i : ℕ) → getD s i 0 < 256) where
   unfolding recordIn nodePart nodeIn keptIn tab
   node-there i h =
       let at = 20 + i * 20 in
-      ap₂ nodeBytes (front-at zeroNode (nodeIn s) 64 i blankNodes h) (front-at noContent (keptIn s) 64 i noContents h)
+      ap₂ nodeBytes (tabs.front-at (nodeIn s) 64 blankNodes i zeroNode h) (tabs.front-at (keptIn s) 64 noContents i noContent h)
       ∙ (λ t. word-first at t ++ (from at 4 ∷ from at 5 ∷ (word-more at 6 t ++ (from at 10 ∷ from at 11 ∷ (word-more at 12 t ++ word-more at 16 t)))))
 
   thread-there : (i : ℕ) → i < 8 → threadPart (recordIn s) i ≡ tab (λ j. getD s (1300 + i * 14 + j) 0) 14
   unfolding recordIn threadPart threadIn tab
   thread-there i h =
       let at = 1300 + i * 14 in
-      ap threadBytes (front-at zeroThread (threadIn s) 8 i idleThreads h)
+      ap threadBytes (tabs.front-at (threadIn s) 8 idleThreads i zeroThread h)
       ∙ (λ t. byte-first at t ∷ from at 1 ∷ from at 2 ∷ from at 3 ∷ (word-more at 4 t ++ (from at 8 ∷ (word-more at 9 t ++ (from at 13 ∷ [])))))
 
   -- n parts of c bytes each, from place p on

@@ -1,12 +1,13 @@
 -- Demand 3, and what it gives whoever calls.
 use Prim.Native.Nat.{ℕ, _<_, _≤_}
 use mathlib.Core.Path.{_≡_, sym, ap, subst, _∙_}
-use mathlib.Core.Bool.{Bool, true, false}
+use mathlib.Core.Bool.{true, false}
 use mathlib.Core.List.{List}
 use denote.Ref.{now}
 use lib.ListN.{length}
 use borrow.Author.Tests.{le-ltb, lt-leb}
 use Rattle.lists.specs.Tab.{over}
+use Rattle.lists.proofs.BoolLaws.{yes-of}
 use Rattle.answer.specs.Answers.{told, accepted}
 use Rattle.answer.specs.declared.Told.{Told}
 use Rattle.answer.specs.declared.Answer.{Answer}
@@ -33,10 +34,6 @@ count-none s h = rw h
 pub count-all : (s : List ℕ) → accepted (pageAnswer s) ≡ true → countOf s ≡ endingCount s
 unfolding countOf
 count-all s h = rw h
-
--- one of two, by a test that holds
-yes-of : {A : Type 0} (a b : A) (x : Bool) → x ≡ true → elim x as (λ _. A) [ true ↦ a | false ↦ b ] ≡ a
-yes-of a b x e = rw e
 
 module _ (s : List ℕ) (h : accepted (pageAnswer s) ≡ true) (k : ℕ) (lt : k < endingCount s) where
   pub ending-taken : (room : ℕ) → endingSize s ≤ room → endingAnswer s k room ≡ Taken

@@ -7,6 +7,7 @@ use native.Mathlib.Omega.{arith}
 use lib.Dec.{eqb, ltb, leb}
 use borrow.Author.Tests.{ltb-true, leb-true, eqb-true, eqb-false, not-true, lt-ltb, le-leb, eq-eqb}
 use Rattle.lists.specs.Find.{pick, both, any}
+use Rattle.lists.proofs.BoolLaws.{both-true, both-of}
 use Rattle.lists.proofs.FindLaws.{any-hit}
 use Rattle.image.specs.Refusals.{nodesFit}
 use Rattle.image.specs.declared.Content.{Content}
@@ -21,14 +22,6 @@ use Rattle.steps.specs.Ready.{Ready}
 use Rattle.steps.specs.Numbers.{threadNumbers, numbersFit}
 
 -- ---- tests taken apart and put together
-
-pub both-parts : (a b : Bool) → both a b ≡ true → (a ≡ true) × (b ≡ true)
-both-parts true b h = (refl, h)
-both-parts false b h = let z : _≡_ {A = ℕ} 0 1 = cc in absurd (omega arith)
-
-pub both-true : (a b : Bool) → a ≡ true → b ≡ true → both a b ≡ true
-both-true true b h k = k
-both-true false b h k = h
 
 -- no number below n fails the test
 pub all-of : (f : ℕ → Bool) (n : ℕ) → not (any (λ i. not (f i)) n) ≡ true → (i : ℕ) → i < n → f i ≡ true
@@ -126,18 +119,18 @@ pub record Used (m : Machine) (k : ℕ) : Type 0 where
 
 pub parts5 : (a b c d e : Bool) → both a (both b (both c (both d e))) ≡ true → (a ≡ true) × (b ≡ true) × (c ≡ true) × (d ≡ true) × (e ≡ true)
 parts5 a b c d e h =
-    let p = both-parts a (both b (both c (both d e))) h in
-    let q = both-parts b (both c (both d e)) (p .1) in
-    let r = both-parts c (both d e) (q .1) in
-    let s = both-parts d e (r .1) in
+    let p = both-true a (both b (both c (both d e))) h in
+    let q = both-true b (both c (both d e)) (p .1) in
+    let r = both-true c (both d e) (q .1) in
+    let s = both-true d e (r .1) in
     (p .0, q .0, r .0, s .0, s .1)
 
 sizes-of : (m : Machine) → sizesFit m ≡ true → endsFit m ≡ true → freeFits m ≡ true → SizeFit (m .n) (m .t) (m .head) (m .tail) (m .free)
 sizes-of m a b c =
-    let s = both-parts (nodesFit (m .n)) (threadsFit (m .t)) a in
-    let n = both-parts (leb 2 (m .n)) (leb (m .n) 64) (s .0) in
-    let t = both-parts (leb 1 (m .t)) (leb (m .t) 8) (s .1) in
-    let e = both-parts (isNode m (m .head)) (isNode m (m .tail)) b in
+    let s = both-true (nodesFit (m .n)) (threadsFit (m .t)) a in
+    let n = both-true (leb 2 (m .n)) (leb (m .n) 64) (s .0) in
+    let t = both-true (leb 1 (m .t)) (leb (m .t) 8) (s .1) in
+    let e = both-true (isNode m (m .head)) (isNode m (m .tail)) b in
     record {
       n-lo = leb-true 2 (m .n) (n .0);
       n-hi = leb-true (m .n) 64 (n .1);
@@ -155,9 +148,9 @@ node-of m i h =
     let f = isFlag (node m i .linked) in
     let g = isFlag (kept m i .linked) in
     let w = ltb (node m i .waits) (2 ^ m .t) in
-    let p = both-parts x (both f (both g w)) h in
-    let q = both-parts f (both g w) (p .1) in
-    let r = both-parts g w (q .1) in
+    let p = both-true x (both f (both g w)) h in
+    let q = both-true f (both g w) (p .1) in
+    let r = both-true g w (q .1) in
     record {
       next-link = link-of (m .n) (node m i .next) (p .0);
       flag = leb-true (node m i .linked) 1 (q .0);
@@ -171,9 +164,9 @@ of-node m i p =
     let f = isFlag (node m i .linked) in
     let g = isFlag (kept m i .linked) in
     let w = ltb (node m i .waits) (2 ^ m .t) in
-    both-true (isLink m (node m i .next)) (both f (both g w)) (of-link (m .n) (node m i .next) (p .next-link))
-    (both-true f (both g w) (le-leb (node m i .linked) 1 (p .flag))
-    (both-true g w (le-leb (kept m i .linked) 1 (p .kept-flag)) (lt-ltb (node m i .waits) (2 ^ m .t) (p .waits-in))))
+    both-of (isLink m (node m i .next)) (both f (both g w)) (of-link (m .n) (node m i .next) (p .next-link))
+    (both-of f (both g w) (le-leb (node m i .linked) 1 (p .flag))
+    (both-of g w (le-leb (kept m i .linked) 1 (p .kept-flag)) (lt-ltb (node m i .waits) (2 ^ m .t) (p .waits-in))))
 
 -- of a thread, with the tests that 18 adds
 record Tests (m : Machine) (k : ℕ) : Type 0 where
@@ -196,12 +189,12 @@ tests-of m k h =
     let d = readFits m (uses s theNext) (v .next) in
     let e = isLink m (v .held) in
     let f = nextFits m (eqb (v .step) 12) (v .tail) in
-    let p0 = both-parts (leb (v .step) 19) (both a (both b (both c (both d (both e f))))) h in
-    let p1 = both-parts a (both b (both c (both d (both e f)))) (p0 .1) in
-    let p2 = both-parts b (both c (both d (both e f))) (p1 .1) in
-    let p3 = both-parts c (both d (both e f)) (p2 .1) in
-    let p4 = both-parts d (both e f) (p3 .1) in
-    let p5 = both-parts e f (p4 .1) in
+    let p0 = both-true (leb (v .step) 19) (both a (both b (both c (both d (both e f))))) h in
+    let p1 = both-true a (both b (both c (both d (both e f)))) (p0 .1) in
+    let p2 = both-true b (both c (both d (both e f))) (p1 .1) in
+    let p3 = both-true c (both d (both e f)) (p2 .1) in
+    let p4 = both-true d (both e f) (p3 .1) in
+    let p5 = both-true e f (p4 .1) in
     record {
       step-in = p0 .0;
       own-read = p1 .0;
@@ -240,7 +233,7 @@ thread-of m k h =
     let c = isLink m (v .head) in
     let d = isLink m (v .next) in
     let e = isLink m (v .held) in
-    let p0 = both-parts (leb (v .step) 19) (both a (both b (both c (both d e)))) h in
+    let p0 = both-true (leb (v .step) 19) (both a (both b (both c (both d e)))) h in
     let p = parts5 a b c d e (p0 .1) in
     record {
       step-in = leb-true (v .step) 19 (p0 .0);
@@ -261,11 +254,11 @@ of-thread m k p =
     let c = isLink m (v .head) in
     let d = isLink m (v .next) in
     let e = isLink m (v .held) in
-    both-true (leb (v .step) 19) (both a (both b (both c (both d e)))) (le-leb (v .step) 19 (p .step-in))
-    (both-true a (both b (both c (both d e))) (of-link n (v .node) (p .node-link))
-    (both-true b (both c (both d e)) (of-link n (v .tail) (p .tail-link))
-    (both-true c (both d e) (of-link n (v .head) (p .head-link))
-    (both-true d e (of-link n (v .next) (p .next-link)) (of-link n (v .held) (p .held-link))))))
+    both-of (leb (v .step) 19) (both a (both b (both c (both d e)))) (le-leb (v .step) 19 (p .step-in))
+    (both-of a (both b (both c (both d e))) (of-link n (v .node) (p .node-link))
+    (both-of b (both c (both d e)) (of-link n (v .tail) (p .tail-link))
+    (both-of c (both d e) (of-link n (v .head) (p .head-link))
+    (both-of d e (of-link n (v .next) (p .next-link)) (of-link n (v .held) (p .held-link))))))
 
 -- ---- the laws
 
@@ -314,13 +307,13 @@ numbers-fit m f =
     let s = f .sizes in
     let ns = not (any (λ i. not (nodeFits m i)) (m .n)) in
     let ts = not (any (λ k. not (threadNumbers m k)) (m .t)) in
-    let n2 = both-true (leb 2 (m .n)) (leb (m .n) 64) (le-leb 2 (m .n) (s .n-lo)) (le-leb (m .n) 64 (s .n-hi)) in
-    let t2 = both-true (leb 1 (m .t)) (leb (m .t) 8) (le-leb 1 (m .t) (s .t-lo)) (le-leb (m .t) 8 (s .t-hi)) in
-    let e2 = both-true (isNode m (m .head)) (isNode m (m .tail)) (lt-ltb (m .head) (m .n) (s .head-in)) (lt-ltb (m .tail) (m .n) (s .tail-in)) in
-    both-true (sizesFit m) (both (endsFit m) (both (freeFits m) (both ns ts))) (both-true (nodesFit (m .n)) (threadsFit (m .t)) n2 t2)
-    (both-true (endsFit m) (both (freeFits m) (both ns ts)) e2
-    (both-true (freeFits m) (both ns ts) (lt-ltb (m .free) (2 ^ m .n) (s .free-in))
-    (both-true ns ts (of-all (nodeFits m) (m .n) (λ i l. of-node m i (f .nodes i l))) (of-all (threadNumbers m) (m .t) (λ k l. of-thread m k (f .threads k l))))))
+    let n2 = both-of (leb 2 (m .n)) (leb (m .n) 64) (le-leb 2 (m .n) (s .n-lo)) (le-leb (m .n) 64 (s .n-hi)) in
+    let t2 = both-of (leb 1 (m .t)) (leb (m .t) 8) (le-leb 1 (m .t) (s .t-lo)) (le-leb (m .t) 8 (s .t-hi)) in
+    let e2 = both-of (isNode m (m .head)) (isNode m (m .tail)) (lt-ltb (m .head) (m .n) (s .head-in)) (lt-ltb (m .tail) (m .n) (s .tail-in)) in
+    both-of (sizesFit m) (both (endsFit m) (both (freeFits m) (both ns ts))) (both-of (nodesFit (m .n)) (threadsFit (m .t)) n2 t2)
+    (both-of (endsFit m) (both (freeFits m) (both ns ts)) e2
+    (both-of (freeFits m) (both ns ts) (lt-ltb (m .free) (2 ^ m .n) (s .free-in))
+    (both-of ns ts (of-all (nodeFits m) (m .n) (λ i l. of-node m i (f .nodes i l))) (of-all (threadNumbers m) (m .t) (λ k l. of-thread m k (f .threads k l))))))
 
 pub range-numbers : (m : Machine) → inRange m ≡ true → numbersFit m ≡ true
 range-numbers m h = numbers-fit m (fit-range m h)

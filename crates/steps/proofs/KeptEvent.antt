@@ -6,6 +6,8 @@ use native.Mathlib.Omega.{arith}
 use lib.Dec.{eqb, ltb, leb}
 use borrow.Author.Tests.{ltb-true, le-leb, leb-false}
 use Rattle.lists.specs.Find.{pick}
+use Rattle.lists.proofs.BoolLaws.{both-of}
+use Rattle.lists.proofs.FindLaws.{least-found}
 use Rattle.answer.specs.Answers.{check, accepted}
 use Rattle.answer.specs.declared.Answer.{Answer}
 use Rattle.answer.specs.declared.Answer.the-variants.{Taken, Nodes, Threads, Linked, Busy, Idle, Number, NotZero, Record}
@@ -21,10 +23,9 @@ use Rattle.machine.specs.Range.{inRange}
 use Rattle.machine.specs.declared.Machine.{Machine}
 use Rattle.machine.specs.declared.Event.{Event}
 use Rattle.machine.specs.declared.Out.{Out}
-use Rattle.machine.proofs.AcceptedLaws.{least-found}
 use Rattle.machine.proofs.RangeLaws.{start-in-range}
 use Rattle.steps.specs.Numbers.{numbersFit}
-use Rattle.steps.proofs.Fit.{both-true, fit-range, range-numbers}
+use Rattle.steps.proofs.Fit.{fit-range, range-numbers}
 use Rattle.steps.proofs.Kept.{kept-step, kept-begun, kept-persist}
 
 -- ---- what a taken event has passed
@@ -62,8 +63,8 @@ restart : (m : Machine) → inRange m ≡ true → accepted (startable (persiste
 unfolding startAnswer sound
 restart m h a =
     let s = fit-range m h .sizes in
-    let ts = both-true (leb 1 (m .t)) (leb (m .t) 8) (le-leb 1 (m .t) (s .t-lo)) (le-leb (m .t) 8 (s .t-hi)) in
-    let ns = both-true (leb 2 (m .n)) (leb (m .n) 64) (le-leb 2 (m .n) (s .n-lo)) (le-leb (m .n) 64 (s .n-hi)) in
+    let ts = both-of (leb 1 (m .t)) (leb (m .t) 8) (le-leb 1 (m .t) (s .t-lo)) (le-leb (m .t) 8 (s .t-hi)) in
+    let ns = both-of (leb 2 (m .n)) (leb (m .n) 64) (le-leb 2 (m .n) (s .n-lo)) (le-leb (m .n) 64 (s .n-hi)) in
     let u = firstUnclear (persisted m) in
     start-of (threadsFit (m .t)) (nodesFit (m .n)) (ltb u (m .n)) u (startable (persisted m) Taken) ts ns (clear m h) a
 

@@ -3,12 +3,14 @@ use mathlib.Core.Path.{_≡_, refl, sym, ap, subst, _∙_}
 use mathlib.Core.Bool.{Bool, true, false, not}
 use mathlib.Core.Logic.{_≢_}
 use mathlib.Core.Option.{Option, none, some}
-use Prim.Native.Nat.{ℕ, zero, suc, _+_, _≤_, _<_}
+use Prim.Native.Nat.{ℕ, _+_, _≤_, _<_}
 use native.Mathlib.Omega.{arith}
 use native.Mathlib.Decide.{ℕ-discrete, decLt}
 use lib.Dec.{eqb, eqb-refl, ltb, leb, leb→le}
-use Rattle.lists.specs.Find.{pick, both, least, any}
-use Rattle.lists.proofs.FindLaws.{least-none, least-clear, any-hit}
+use borrow.Author.Tests.{not-false}
+use Rattle.lists.specs.Find.{least, any}
+use Rattle.lists.proofs.BoolLaws.{both-true, no-way}
+use Rattle.lists.proofs.FindLaws.{least-none, least-clear, least-le, any-hit, any-none}
 use Rattle.answer.specs.Answers.{check, accepted}
 use Rattle.answer.specs.declared.Answer.{Answer}
 use Rattle.answer.specs.declared.Answer.the-variants.{Taken, Nodes, Threads, Linked, Twin, NoDummy}
@@ -26,10 +28,8 @@ use Rattle.model.specs.Recovery as recovery
 use Rattle.model.specs.Demand3.{Fit, Tidy}
 use Rattle.model.proofs.Basics.{T-of, yes-of, not-true, true→eq, eq-no, lt-true, lt-no}
 use Rattle.tied.specs.Shown.{shownContent, imageShown, Narrow}
-use Rattle.tied.proofs.Words.{no-way}
 use Rattle.tied.proofs.Searches.{lowest-least}
 use Rattle.tied.proofs.Relation.{Sizes}
-use Rattle.tied.proofs.Range.{any-no}
 use Rattle.tied.proofs.Images.{ImageT, head-is, rec-is, nodes-is, low-is}
 
 -- ---- tests
@@ -37,14 +37,6 @@ use Rattle.tied.proofs.Images.{ImageT, head-is, rec-is, nodes-is, low-i
 pub pass : (b : Bool) (w rest : Answer) → accepted w ≡ false → accepted (check b w rest) ≡ true → (b ≡ false) × (accepted rest ≡ true)
 pass true w rest n e = no-way (sym e ∙ n)
 pass false w rest n e = (refl, e)
-
-pub not-false : (b : Bool) → not b ≡ false → b ≡ true
-not-false true e = refl
-not-false false e = no-way e
-
-both-is : (a b : Bool) → both a b ≡ true → (a ≡ true) × (b ≡ true)
-both-is true b e = (refl, e)
-both-is false b e = no-way (sym e)
 
 pub le-of : (a b : ℕ) → leb a b ≡ true → a ≤ b
 le-of a b e = leb→le a b (T-of _ e)
@@ -55,15 +47,6 @@ ge-of a b e = by (decLt a b)
     by : Dec (a < b) → b ≤ a
     by (yes h) = no-way (sym (lt-true a b h) ∙ e)
     by (no h) = omega arith
-
-least-le : (f : ℕ → Bool) (k s : ℕ) → least f k s ≤ s + k
-unfolding least
-least-le f zero s = omega arith
-least-le f (suc k) s = by (f s) (least-le f k (suc s))
-  where
-    by : (b : Bool) → least f k (suc s) ≤ suc s + k → pick b s (least f k (suc s)) ≤ s + suc k
-    by true h = omega arith
-    by false h = omega arith
 
 -- ---- what a start asks
 
@@ -94,8 +77,8 @@ sound-is g t e =
     let b = pass (not (nodesFit (g .n))) Nodes _ refl (a .1) in
     let c = pass (ltb (firstUnclear g) (g .n)) (Linked (firstUnclear g)) _ refl (b .1) in
     let s = startable-is g Taken (c .1) in
-    let x = both-is _ _ (not-false _ (a .0)) in
-    let y = both-is _ _ (not-false _ (b .0)) in
+    let x = both-true _ _ (not-false _ (a .0)) in
+    let y = both-true _ _ (not-false _ (b .0)) in
     record {
       sizes = record { nodes-lo = le-of 2 (g .n) (y .0); nodes-hi = le-of (g .n) 64 (y .1); threads-lo = le-of 1 t (x .0); threads-hi = le-of t 8 (x .1) };
       flags = λ i h. ge-of 1 (contentAt (g .nodes) i .linked) (clear-least (λ i. ltb 1 (contentAt (g .nodes) i .linked)) (g .n) (c .0) i h);
@@ -134,7 +117,7 @@ module _ (g : Image) (t : ℕ) (G : recovery.Image) (r : ImageT g t G) where
 
   twin-is : (i j : ℕ) → twins g i j ≡ true → (recoveredAt g i ≡ true) × (recoveredAt g j ≡ true) × (contentAt (g .nodes) i .index ≡ contentAt (g .nodes) j .index)
   unfolding twins
-  twin-is i j e = let a = both-is _ _ e in let b = both-is _ _ (a .1) in (a .0, b .0, true→eq _ _ (b .1))
+  twin-is i j e = let a = both-true _ _ e in let b = both-true _ _ (a .1) in (a .0, b .0, true→eq _ _ (b .1))
 
   pub fit-of : Sound g t → Fit G
   unfolding hasTwin
@@ -154,7 +137,7 @@ module _ (g : Image) (t : ℕ) (G : recovery.Image) (r : ImageT g t G) where
 
   fit-apart : Fit G → (i : ℕ) → i < g .n → hasTwin g i ≡ false
   unfolding hasTwin
-  fit-apart f i h = any-no (twins g i) i (λ j hj. by j hj (twins g i j) refl)
+  fit-apart f i h = any-none (twins g i) i (λ j hj. by j hj (twins g i j) refl)
     where
       by : (j : ℕ) → j < i → (b : Bool) → twins g i j ≡ b → twins g i j ≡ false
       by j hj false e = e

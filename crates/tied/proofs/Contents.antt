@@ -8,6 +8,7 @@ use native.Mathlib.Omega.{arith}
 use native.Mathlib.Decide.{ℕ-discrete}
 use lib.Dec.{eqb, eqb-refl}
 use Rattle.lists.specs.Find.{both}
+use Rattle.lists.proofs.BoolLaws.{no-way}
 use Rattle.image.specs.declared.Content.{Content}
 use Rattle.machine.specs.Record.{top}
 use Rattle.page.specs.Contents.{sameContent, joins, gathered}
@@ -18,7 +19,6 @@ use Rattle.model.specs.Core.{sameNode, sameBool, zeroNode}
 use Rattle.model.specs.Machine.{hasNode}
 use Rattle.model.proofs.Basics.{yes-of}
 use Rattle.tied.specs.Shown.{shownContent}
-use Rattle.tied.proofs.Words.{no-way}
 
 pub gathered-snoc : (s l : List Content) (c : Content) → gathered s (l ++ c ∷ []) ≡ joins (gathered s l) c
 unfolding gathered

@@ -10,6 +10,7 @@ use native.Mathlib.Decide.{ℕ-discrete}
 use lib.Dec.{eqb, leb}
 use Rattle.lists.specs.Find.{pick, least}
 use Rattle.lists.specs.Word.{has, with, without}
+use Rattle.lists.proofs.BoolLaws.{no-way}
 use Rattle.answer.specs.declared.Answer.the-variants.{Done, Full, WornOut}
 use Rattle.image.specs.declared.Content.{Content}
 use Rattle.machine.specs.Record as rec
@@ -30,7 +31,6 @@ use Rattle.model.specs.Steps.{step, stepA1, stepA6, stepA7, stepA8, stepA11, st
 use Rattle.model.specs.Always.{ThIn, InRange}
 use Rattle.model.proofs.Basics.{le-true, not-le, true→eq, eq-no, yes-of}
 use Rattle.tied.specs.Shown.{linkIf, linkOf, threadOf, shownThread}
-use Rattle.tied.proofs.Words.{no-way}
 use Rattle.tied.proofs.Relation.{Link, Regs, ThreadAt, FreeT, Tied}
 use Rattle.tied.proofs.Changes.{some-link, withT, withoutT, moveT, storeT, linkT, tailT, freeT, persistT, count-n}
 use Rattle.tied.proofs.Searches.{lowest-same, low-in, low-link}

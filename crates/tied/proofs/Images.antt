@@ -8,6 +8,7 @@ use native.Mathlib.Omega.{arith}
 use native.Mathlib.Nat.{zero-max}
 use lib.Dec.{eqb, ltb}
 use Rattle.lists.specs.Find.{pick, both, least}
+use Rattle.lists.proofs.BoolLaws.{no-way}
 use Rattle.image.specs.declared.Content.{Content}
 use Rattle.image.specs.declared.Image.{Image}
 use Rattle.image.specs.Layout.{contentAt}
@@ -23,7 +24,6 @@ use Rattle.model.specs.Recovery as recovery
 use Rattle.model.specs.Recovery.{orZero}
 use Rattle.model.proofs.Basics.{lt-true}
 use Rattle.tied.specs.Shown.{shownContent, confOf}
-use Rattle.tied.proofs.Words.{no-way}
 use Rattle.tied.proofs.Searches.{lowest-least, lowest-same}
 use Rattle.tied.proofs.Relation.{Sizes}
 

@@ -9,8 +9,9 @@ use native.Mathlib.Omega.{arith}
 use native.Mathlib.Decide.{ℕ-discrete, decLt}
 use lib.Dec.{eqb, ltb}
 use lib.ListN.{getD}
-use Rattle.lists.specs.Find.{pick, both}
+use Rattle.lists.specs.Find.{pick}
 use Rattle.lists.specs.Word.{has, with, without}
+use Rattle.lists.proofs.BoolLaws.{both-true, no-way}
 use Rattle.image.specs.declared.Content.{Content}
 use Rattle.machine.specs.Record.{node, thread, withWaits, idleThread, putThread}
 use Rattle.machine.specs.Retire.{lastWait, releasedAt, released, left}
@@ -21,7 +22,7 @@ use Rattle.model.specs.Changes.{setFree}
 use Rattle.model.specs.Steps.{remove, freed, leave}
 use Rattle.model.proofs.Basics.{upd-at, upd-same, upd-other, true→eq, lt-true, lt-no, yes-of}
 use Rattle.tied.specs.Shown.{linkOf, members}
-use Rattle.tied.proofs.Words.{no-way, without-fits, listed-none, members-zero, members-none, remove-members}
+use Rattle.tied.proofs.Words.{without-fits, listed-none, members-zero, members-none, remove-members}
 use Rattle.tied.proofs.Relation.{Link, NodeAt, NodesT, putNodes, FreeT, Regs, ThreadAt, putThreads, Tied}
 use Rattle.tied.proofs.Changes.{withT, sameT, count-n, count-t}
 
@@ -37,10 +38,6 @@ stays [] w′ h = refl
 stays (u ∷ w) [] h = absurd (h (λ e. let z : _≡_ {A = ℕ} 0 1 = cc in omega arith) refl)
 stays (u ∷ w) (u′ ∷ w′) h = refl
 
-both-is : (a b : Bool) → both a b ≡ true → (a ≡ true) × (b ≡ true)
-both-is true b e = (refl, e)
-both-is false b e = no-way (sym e)
-
 still : (w k : ℕ) → has w k ≡ false → without w k ≡ w
 unfolding without
 still w k f = rw f refl
@@ -55,7 +52,7 @@ freed-is k t w true h l = by (lastWait w k)
 freed-is k t w false h l = ap (freed false (members t w)) (remove-members k t w) ∙ by (lastWait w k) refl
   where
     by : (x : Bool) → lastWait w k ≡ x → freed false (members t w) (members t (without w k)) ≡ pick x true false
-    by true e = let a = both-is (has w k) _ e in
+    by true e = let a = both-true (has w k) _ e in
         gone _ _ (λ z. no-way (sym (a .0) ∙ listed-none (has w) t z k h)) (ap (members t) (true→eq (without w k) 0 (a .1)) ∙ members-zero t)
     by false e = stays _ _ (λ ne z. let y = members-none t (without w k) (without-fits t w k l) z in at (has w k) refl ne y)
       where

@@ -8,6 +8,7 @@ use Prim.Native.Nat.{ℕ, zero, suc, _+_, _^_, _≤_, _<_}
 use native.Mathlib.Omega.{arith}
 use lib.Dec.{eqb, eqb-refl}
 use Rattle.lists.specs.Find.{pick, both, any, count}
+use Rattle.lists.proofs.BoolLaws.{no-way}
 use Rattle.image.specs.declared.Content.{Content}
 use Rattle.machine.specs.Record.{node, thread}
 use Rattle.machine.specs.Stage.{Stage, noStep, A1, A2, A3, A4, A5, A6, A7, A8, A9, A10, A11, A12, D1, D2, D3, D4, D5, D6, D7, stage, enqueueOwns, dequeueOwns}
@@ -24,7 +25,7 @@ use Rattle.model.proofs.Basics.{true→eq, eq-no, yes-of}
 use Rattle.model.proofs.Always.Count.{some-yes, some-is, it-is, it-yes}
 use Rattle.tied.specs.Shown.{linkIf, linkOf, members, threadOf}
 use Rattle.tied.specs.Always.{SixPlaces, queue, free, waiting, held, enqueue, dequeue, isIn}
-use Rattle.tied.proofs.Words.{no-way, members-zero, members-none}
+use Rattle.tied.proofs.Words.{members-zero, members-none}
 use Rattle.tied.proofs.Relation.{Tied}
 use Rattle.tied.proofs.Changes.{some-link, count-n, count-t}
 use Rattle.tied.proofs.Stepping.{link-in, link-is}

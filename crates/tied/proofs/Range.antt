@@ -3,11 +3,12 @@ use mathlib.Core.Path.{_≡_, refl, sym, ap, subst, _∙_}
 use mathlib.Core.Bool.{Bool, true, false, not}
 use mathlib.Core.Logic.{_⊎_, inl, inr}
 use mathlib.Core.Option.{Option, none}
-use Prim.Native.Nat.{ℕ, zero, suc, _^_, _≤_, _<_}
+use Prim.Native.Nat.{ℕ, _^_, _≤_, _<_}
 use native.Mathlib.Omega.{arith}
 use lib.Dec.{eqb, ltb, leb}
-use Rattle.lists.specs.Find.{pick, both, any}
-use Rattle.lists.proofs.FindLaws.{any-more}
+use Rattle.lists.specs.Find.{pick}
+use Rattle.lists.proofs.BoolLaws.{both-of}
+use Rattle.lists.proofs.FindLaws.{any-none}
 use Rattle.image.specs.declared.Content.{Content}
 use Rattle.machine.specs.Record.{node, kept, thread}
 use Rattle.machine.specs.Stage.{Stage, noStep, A1, A2, A3, A4, A5, A6, A7, A8, A9, A10, A11, A12, D1, D2, D3, D4, D5, D6, D7, own, t, theHead, theNext, uses, stage, stageOf}
@@ -18,7 +19,6 @@ use Rattle.model.specs.Core.{Core}
 use Rattle.model.specs.Always.{ThIn, InRange}
 use Rattle.model.proofs.Basics.{lt-true, le-true, eq-no, true→eq}
 use Rattle.tied.specs.Shown.{linkIf, linkOf, threadOf}
-use Rattle.tied.proofs.Words.{no-way}
 use Rattle.tied.proofs.Relation.{Link, Regs, Tied}
 use Rattle.tied.proofs.Changes.{count-n}
 use Rattle.tied.proofs.Stepping.{used}
@@ -33,14 +33,6 @@ is-link m x (inl h) = by (eqb x 255)
     by true = refl
     by false = is-node m x h
 is-link m x (inr e) = rw e refl
-
-pub and-so : (a b : Bool) → a ≡ true → b ≡ true → both a b ≡ true
-and-so a b e f = rw (e, f) refl
-
-pub any-no : (f : ℕ → Bool) (n : ℕ) → ((i : ℕ) → i < n → f i ≡ false) → any f n ≡ false
-unfolding any
-any-no f zero h = refl
-any-no f (suc n) h = rw (h n (omega arith)) (any-no f n (λ i l. h i (omega arith)))
 
 module _ (m : Machine) (v : Thread) (next : ℕ → Option ℕ) (g : Regs (m .n) v) where
   reads : (s : Stage) → ThIn (m .n) next (threadOf s v)
@@ -71,9 +63,9 @@ module _ (p : ℕ → Content) (m : Machine) (c : Core) (d : Tied p m c) (r : In
   unfolding nodeFits
   node-fits i h =
       let a = d .nodes .at i h in
-      and-so _ _ (is-link m _ (a .reach))
-      (and-so _ _ (le-true _ 1 (a .flag))
-      (and-so _ _ (le-true _ 1 (subst (λ z. z .linked ≤ 1) (d .kept .at i h) (d .kept .flag i h))) (lt-true _ _ (a .few))))
+      both-of _ _ (is-link m _ (a .reach))
+      (both-of _ _ (le-true _ 1 (a .flag))
+      (both-of _ _ (le-true _ 1 (subst (λ z. z .linked ≤ 1) (d .kept .at i h) (d .kept .flag i h))) (lt-true _ _ (a .few))))
 
   module _ (k : ℕ) (hk : k < m .t) where
     next-fits : (b : Bool) → eqb (thread m k .step) 12 ≡ b → nextFits m b (thread m k .tail) ≡ true
@@ -92,14 +84,14 @@ module _ (p : ℕ → Content) (m : Machine) (c : Core) (d : Tied p m c) (r : In
     thread-fits =
         let g = d .threads .at k hk .regs in
         let q = reads m (thread m k) (c .next) g (stage m k) (used p m c d k hk r (stage m k) refl) in
-        and-so _ _ (le-true _ 19 (g .step))
-        (and-so _ _ (q .0) (and-so _ _ (q .1) (and-so _ _ (q .2) (and-so _ _ (q .3) (and-so _ _ (is-link m _ (g .held)) (next-fits _ refl))))))
+        both-of _ _ (le-true _ 19 (g .step))
+        (both-of _ _ (q .0) (both-of _ _ (q .1) (both-of _ _ (q .2) (both-of _ _ (q .3) (both-of _ _ (is-link m _ (g .held)) (next-fits _ refl))))))
 
   pub tied-in-range : inRange m ≡ true
   unfolding inRange
   tied-in-range =
       let z = d .sizes in
-      and-so _ _ (and-so _ _ (and-so _ _ (le-true 2 _ (z .nodes-lo)) (le-true _ 64 (z .nodes-hi))) (and-so _ _ (le-true 1 _ (z .threads-lo)) (le-true _ 8 (z .threads-hi))))
-      (and-so _ _ (and-so _ _ (is-node m _ (omega (arith, r .head, d .hnode, count-n p m c d))) (is-node m _ (omega (arith, r .tail, d .tail, count-n p m c d))))
-      (and-so _ _ (lt-true _ _ (d .free .fits))
-      (and-so _ _ (ap not (any-no _ (m .n) (λ i h. ap not (node-fits i h)))) (ap not (any-no _ (m .t) (λ k h. ap not (thread-fits k h)))))))
+      both-of _ _ (both-of _ _ (both-of _ _ (le-true 2 _ (z .nodes-lo)) (le-true _ 64 (z .nodes-hi))) (both-of _ _ (le-true 1 _ (z .threads-lo)) (le-true _ 8 (z .threads-hi))))
+      (both-of _ _ (both-of _ _ (is-node m _ (omega (arith, r .head, d .hnode, count-n p m c d))) (is-node m _ (omega (arith, r .tail, d .tail, count-n p m c d))))
+      (both-of _ _ (lt-true _ _ (d .free .fits))
+      (both-of _ _ (ap not (any-none _ (m .n) (λ i h. ap not (node-fits i h)))) (ap not (any-none _ (m .t) (λ k h. ap not (thread-fits k h)))))))

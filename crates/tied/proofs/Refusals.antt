@@ -7,6 +7,7 @@ use native.Mathlib.Omega.{arith}
 use native.Mathlib.Decide.{decLt}
 use lib.Dec.{eqb, ltb, leb}
 use Rattle.lists.specs.Find.{pick}
+use Rattle.lists.proofs.BoolLaws.{no-way}
 use Rattle.answer.specs.Answers.{told, check, replied, refusal, accepted}
 use Rattle.answer.specs.declared.Told.{Told}
 use Rattle.answer.specs.declared.Answer.{Answer}
@@ -27,7 +28,6 @@ use Rattle.model.specs.Events as events
 use Rattle.model.specs.Bench.{Bench}
 use Rattle.model.proofs.Basics.{lt-true, lt-no, le-true, not-le}
 use Rattle.tied.specs.Shown.{confOf, lineShown, eventBy, eventShown, rawOf, toldBy}
-use Rattle.tied.proofs.Words.{no-way}
 use Rattle.tied.proofs.Changes.{count-n, count-t}
 use Rattle.tied.proofs.Retiring.{busy-tied}
 use Rattle.tied.proofs.Accepted.{startable-yes}

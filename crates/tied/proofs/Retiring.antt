@@ -11,6 +11,7 @@ use lib.Dec.{eqb, eqb-refl, ltb}
 use lib.ListN.{getD}
 use Rattle.lists.specs.Find.{pick, both}
 use Rattle.lists.specs.Word.{has, with, wordOf}
+use Rattle.lists.proofs.BoolLaws.{no-way}
 use Rattle.image.specs.declared.Content.{Content}
 use Rattle.machine.specs.Record.{node, thread, withWaits}
 use Rattle.machine.specs.Stage as stage
@@ -25,7 +26,7 @@ use Rattle.model.specs.Changes.{setFree, setHeld}
 use Rattle.model.specs.Steps.{remove, others, freed, leave, retireHeld}
 use Rattle.model.proofs.Basics.{upd-at, upd-same, upd-other, true→eq, eq-no, lt-true, yes-of}
 use Rattle.tied.specs.Shown.{linkIf, linkOf, listed, members, threadOf, shownThread}
-use Rattle.tied.proofs.Words.{no-way, word-fits, has-word, listed-same, members-zero, members-none, remove-listed, others-listed}
+use Rattle.tied.proofs.Words.{word-fits, has-word, listed-same, members-zero, members-none, remove-listed, others-listed}
 use Rattle.tied.proofs.Relation.{Link, NodeAt, putNodes, FreeT, Tied}
 use Rattle.tied.proofs.Changes.{some-link, withT, sameT, count-n, count-t}
 use Rattle.tied.proofs.Leaving.{freeAt, heldAs, leftT}

@@ -8,6 +8,7 @@ use native.Mathlib.Omega.{arith}
 use native.Mathlib.Nat.{add-zero}
 use lib.Dec.{eqb}
 use lib.ListN.{length}
+use Rattle.lists.proofs.BoolLaws.{no-way}
 use Rattle.answer.specs.Answers.{told, accepted}
 use Rattle.answer.specs.declared.Answer.{Answer}
 use Rattle.answer.specs.declared.Answer.the-variants.{Taken}
@@ -29,7 +30,6 @@ use Rattle.model.specs.Bench.{Bench, turn, bench, opening}
 use Rattle.model.specs.Demand3.{TakesAll}
 use Rattle.model.proofs.Always.Runs.{openKept}
 use Rattle.tied.specs.Shown.{imageShown, Narrow, eventShown, answerOf, rawOf, toldBy}
-use Rattle.tied.proofs.Words.{no-way}
 use Rattle.tied.proofs.Range.{tied-in-range}
 use Rattle.tied.proofs.Accepted.{Sound, sound-is, shownT, tidy, fit-of}
 use Rattle.tied.proofs.Bench.{BenchT}

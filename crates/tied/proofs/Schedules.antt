@@ -7,6 +7,8 @@ use native.Mathlib.Omega.{arith}
 use lib.Dec.{eqb, ltb}
 use lib.ListN.{length, getD, drop}
 use lib.Seq.{getD-drop}
+use borrow.Author.Tests.{not-false}
+use Rattle.lists.proofs.TabLaws.{front-at}
 use Rattle.answer.specs.Answers.{check, accepted}
 use Rattle.answer.specs.declared.Answer.{Answer}
 use Rattle.answer.specs.declared.Answer.the-variants.{Taken, Length, Mark, Nodes, Threads, Events}
@@ -20,9 +22,7 @@ use Rattle.machine.specs.declared.Event.{Event}
 use Rattle.schedule.specs.Layout.{isSchedule, threadsIn, countIn, imagePart, scheduleIn, scheduleAnswer, eventsIn}
 use Rattle.schedule.specs.Run.{run, ran, opened}
 use Rattle.tied.specs.Shown.{Narrow}
-use Rattle.tied.proofs.Words.{no-way}
-use Rattle.tied.proofs.Accepted.{pass, not-false}
-use Rattle.tied.proofs.Start.{front-at}
+use Rattle.tied.proofs.Accepted.{pass}
 use Rattle.tied.proofs.Statements.{run-in-range}
 
 -- a list of bytes

@@ -9,12 +9,13 @@ use native.Mathlib.Decide.{ℕ-discrete, decLt}
 use lib.Dec.{eqb, ltb}
 use Rattle.lists.specs.Find.{pick, least}
 use Rattle.lists.specs.Word.{has}
+use Rattle.lists.proofs.BoolLaws.{no-way}
 use Rattle.lists.proofs.FindLaws.{least-none, least-clear}
 use Rattle.model.specs.Basics.{sel}
 use Rattle.model.specs.Choice.{lowest}
 use Rattle.model.proofs.Basics.{lt-true, lt-no, true→eq}
 use Rattle.tied.specs.Shown.{linkIf}
-use Rattle.tied.proofs.Words.{no-way, has-zero, word-zero}
+use Rattle.tied.proofs.Words.{has-zero, word-zero}
 
 pub lowest-least : (f : ℕ → Bool) (k s : ℕ) → lowest k s f ≡ sel (ltb (least f k s) (s + k)) (some (least f k s)) none
 unfolding lowest least

@@ -9,11 +9,11 @@ use native.Mathlib.Omega.{arith}
 use lib.Pow.{pow-pos}
 use native.Mathlib.Decide.{ℕ-discrete}
 use lib.Dec.{eqb, eqb-refl, ltb}
-use lib.ListN.{length, getD, drop, replicate, length-append, length-drop, length-replicate, getD-replicate, List·getD-append}
+use lib.ListN.{replicate, getD-replicate}
 use Rattle.lists.specs.Find.{pick, both}
-use Rattle.lists.specs.Tab.{tab, front}
 use Rattle.lists.specs.Word.{has, wordOf}
-use Rattle.lists.proofs.TabLaws.{length-tab, getD-tab}
+use Rattle.lists.proofs.BoolLaws.{no-way}
+use Rattle.lists.proofs.TabLaws.{front-at, front-size}
 use Rattle.image.specs.declared.Content.{Content}
 use Rattle.image.specs.declared.Image.{Image}
 use Rattle.image.specs.Layout.{contentAt, noContent, noContents}
@@ -29,20 +29,10 @@ use Rattle.model.specs.Recovery as recovery
 use Rattle.model.specs.Recovery.{start, start′, linkUp}
 use Rattle.model.proofs.Basics.{upd-at, upd-other, eq-no, true→eq, yes-of}
 use Rattle.tied.specs.Shown.{shownContent, linkIf, linkOf, members, confOf}
-use Rattle.tied.proofs.Words.{no-way, has-word, word-fits, members-zero}
+use Rattle.tied.proofs.Words.{has-word, word-fits, members-zero}
 use Rattle.tied.proofs.Relation.{Link, NodeAt, Tied}
 use Rattle.tied.proofs.Changes.{some-link}
 use Rattle.tied.proofs.Images.{ImageT, Under, under-risen, head-is, rec-is, nodes-is, dummy-is, queue-is}
-
--- ---- lists whose front is made from a function
-
-pub front-size : {A : Type 0} (f : ℕ → A) (n k : ℕ) (a : A) → n ≤ k → length (front f n (replicate k a)) ≡ k
-unfolding front
-front-size f n k a h = length-append (tab f n) (drop n (replicate k a)) ∙ omega (arith, length-tab f n, length-drop n (replicate k a), length-replicate k a)
-
-pub front-at : {A : Type 0} (f : ℕ → A) (n : ℕ) (l : List A) (i : ℕ) (d : A) → i < n → getD (front f n l) i d ≡ f i
-unfolding front
-front-at f n l i d h = List·getD-append (tab f n) (drop n l) d i (omega (arith, length-tab f n)) ∙ getD-tab f n i d h
 
 -- ---- links and the last node
 
@@ -134,7 +124,7 @@ module _ (g : Image) (t : ℕ) (G : recovery.Image) (r : ImageT g t G) where
         narrow = r .narrow-head;
         tail = last-is d (queueOf g);
         nodes = record {
-          size = front-size (startNode g d (queueOf g)) (g .n) 64 _ (r .sizes .nodes-hi);
+          size = front-size (startNode g d (queueOf g)) (g .n) (replicate 64 _) (r .sizes .nodes-hi);
           at = λ i h. subst (λ v. NodeAt (g .n) t v (upd (G .at) d (core.withIndex (G .at d) (recovery.headOf G)) i) (linkUp d (queueOf g) i) [])
               (sym (front-at (startNode g d (queueOf g)) (g .n) (replicate 64 _) i zeroNode h)) (node-at d u i h);
         };
@@ -148,7 +138,7 @@ module _ (g : Image) (t : ℕ) (G : recovery.Image) (r : ImageT g t G) where
           });
         };
         kept = record {
-          size = front-size (contentAt (g .nodes)) (g .n) 64 noContent (r .sizes .nodes-hi);
+          size = front-size (contentAt (g .nodes)) (g .n) (replicate 64 noContent) (r .sizes .nodes-hi);
           head = refl;
           at = λ i h. sym (front-at (contentAt (g .nodes)) (g .n) (replicate 64 noContent) i noContent h);
           flag = λ i h. r .flag i h;

@@ -6,6 +6,7 @@ use mathlib.Core.Option.{Option, none, some}
 use Prim.Native.Nat.{ℕ, suc, _≤_, _<_}
 use native.Mathlib.Omega.{arith}
 use lib.Dec.{eqb}
+use Rattle.lists.proofs.BoolLaws.{no-way}
 use Rattle.answer.specs.declared.Answer.{Answer}
 use Rattle.image.specs.declared.Content.{Content}
 use Rattle.machine.specs.Record.{thread, atStep}
@@ -25,7 +26,6 @@ use Rattle.model.specs.Steps.{Out, leave}
 use Rattle.model.specs.Always.{ThIn, InRange}
 use Rattle.model.proofs.Basics.{true→eq}
 use Rattle.tied.specs.Shown.{linkIf, linkOf, threadOf, shownThread, lineShown, answerOf}
-use Rattle.tied.proofs.Words.{no-way}
 use Rattle.tied.proofs.Relation.{Link, Regs, ThreadAt, Tied}
 use Rattle.tied.proofs.Changes.{count-n}
 use Rattle.tied.proofs.Leaving.{leftT}

@@ -7,7 +7,9 @@ use Prim.Native.Nat.{ℕ, zero, suc, _≤_, _<_}
 use native.Mathlib.Omega.{arith}
 use native.Mathlib.Decide.{decLt}
 use lib.Dec.{eqb, leb}
+use borrow.Author.Tests.{not-false}
 use Rattle.lists.specs.Find.{pick}
+use Rattle.lists.proofs.BoolLaws.{no-way}
 use Rattle.answer.specs.Answers.{check, accepted}
 use Rattle.answer.specs.declared.Answer.{Answer}
 use Rattle.answer.specs.declared.Answer.the-variants.{Taken, Kind, Number, Busy, Idle, NotZero}
@@ -38,13 +40,12 @@ use Rattle.model.proofs.Demand3.ThreeB.{stays-put}
 use Rattle.model.proofs.Page.Frame.{frame, conf-same}
 use Rattle.model.proofs.Always.Runs.{turnKept, keptRange}
 use Rattle.tied.specs.Shown.{shownContent, lineShown, eventBy, answerOf}
-use Rattle.tied.proofs.Words.{no-way}
 use Rattle.tied.proofs.Relation.{Tied}
 use Rattle.tied.proofs.Changes.{persistT, count-n, count-t}
 use Rattle.tied.proofs.Retiring.{busy-tied}
 use Rattle.tied.proofs.Step.{stepT, enqueuesT, dequeuesT}
 use Rattle.tied.proofs.Images.{ImageT}
-use Rattle.tied.proofs.Accepted.{pass, not-false, fit-dummy}
+use Rattle.tied.proofs.Accepted.{pass, fit-dummy}
 use Rattle.tied.proofs.Contents.{gathered-first}
 use Rattle.tied.proofs.Bench.{own-kept, kept-flag, BenchT, ListsT, present, goesOnT, nextPast}
 use Rattle.tied.proofs.Past.{pastBegins}

@@ -10,15 +10,13 @@ use native.Mathlib.Decide.{decLt, ℕ-discrete}
 use lib.Dec.{eqb, eqb-refl, ltb}
 use Rattle.lists.specs.Find.{pick}
 use Rattle.lists.specs.Word.{has, with, without, wordOf}
+use Rattle.lists.proofs.BoolLaws.{no-way}
 use Rattle.model.specs.Basics.{bothb, upd}
 use Rattle.model.specs.Core.{Th, busy}
 use Rattle.model.specs.Steps.{remove, others}
 use Rattle.model.proofs.Basics.{yes-of, upd-at, upd-other, eq-no, lt-true, lt-no}
 use Rattle.model.proofs.Words.{bit, set-bit, clear-bit}
 use Rattle.tied.specs.Shown.{also, listed, members}
-
-pub no-way : {A : Type 0} → true ≡ false → A
-no-way e = let z : _≡_ {A = ℕ} 0 1 = cc in absurd (omega arith)
 
 has-bit : (i w : ℕ) → has w i ≡ bit w i
 unfolding has bit

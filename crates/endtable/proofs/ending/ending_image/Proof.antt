@@ -1,9 +1,10 @@
 use Rattle.image.specs.Layout.{noContents}
 use Rattle.lists.specs.Tab.{front}
+use Rattle.lists.proofs.TabLaws as tabs
 use Rattle.endtable.specs.Picks.{pickedImage, pickedAt, pickedNode}
 use Rattle.endtable.proofs.Openings as laws
 use Prim.Native.Nat.{_+_, _-_, _≤_}
-use mathlib.Core.Path.{_≡_, sym, _∙_}
+use mathlib.Core.Path.{_≡_, _∙_}
 use native.Mathlib.Omega.{arith}
 use borrow.Author.Needs.{needs}
 use Rattle.endtable.proofs.ending.ending_image.Statement.{statement}
@@ -21,7 +22,7 @@ no-contents-requires c κs = tt
 loop-holds : tie.Need-loop-holds Inv-loop μ-loop
 loop-holds c =
     let a = c .before .args in
-    (omega arith, c .no-contents .ensures ∙ sym (laws.front-none (pickedNode (a .t1) (a .t2)) noContents))
+    (omega arith, c .no-contents .ensures ∙ tabs.front-none (pickedNode (a .t1) (a .t2)) noContents)
 
 add-j : tie.Need-add-j Inv-loop μ-loop
 add-j c = omega arith

@@ -11,7 +11,6 @@ use Rattle.pages.proofs.calls.count_endings.Statement.{statement}
 use Rattle.pages.proofs.calls.count_endings.Tie as tie
 use Rattle.pages.proofs.calls.count_endings.Reads as reads
 use Rattle.pages.proofs.calls.count_endings.Lts as lts
-use Rattle.codec.proofs.is_taken.Reads as is-taken-reads
 use Rattle.endtable.proofs.ending.ending_count.Reads as ending-count-reads
 use Rattle.pages.proofs.paging.page_of.Reads as page-of-reads
 use Rattle.pages.proofs.tables.counts_of.Reads as counts-of-reads

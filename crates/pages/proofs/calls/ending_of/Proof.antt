@@ -17,7 +17,6 @@ use Rattle.pages.proofs.calls.ending_of.Tie as tie
 use Rattle.pages.proofs.calls.ending_of.Reads as reads
 use Rattle.pages.proofs.calls.ending_of.Lts as lts
 use Rattle.codec.proofs.put_image.Reads as put-image-reads
-use Rattle.codec.proofs.is_taken.Reads as is-taken-reads
 use Rattle.endtable.proofs.ending.ending_count.Reads as ending-count-reads
 use Rattle.endtable.proofs.ending.ending_image.Reads as ending-image-reads
 use Rattle.endtable.proofs.ending.ending_picks.Reads as ending-picks-reads

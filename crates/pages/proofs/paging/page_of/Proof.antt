@@ -13,7 +13,6 @@ use Rattle.pages.proofs.paging.page_of.Tie as tie
 use Rattle.pages.proofs.paging.page_of.Reads as reads
 use Rattle.pages.proofs.paging.page_of.Lts as lts
 use Rattle.codec.proofs.open_schedule.Reads as open-schedule-reads
-use Rattle.codec.proofs.is_taken.Reads as is-taken-reads
 use Rattle.endtable.proofs.ending.counts_answer.Reads as counts-answer-reads
 use Rattle.pages.proofs.paging.refused.Reads as refused-reads
 use Rattle.pages.proofs.running.run_events.Reads as run-events-reads

@@ -12,7 +12,6 @@ use Rattle.pages.proofs.running.run_events.Tie as tie
 use Rattle.pages.proofs.running.run_events.Reads as reads
 use Rattle.pages.proofs.running.run_events.Lts as lts
 use Rattle.codec.proofs.event_at.Reads as event-at-reads
-use Rattle.codec.proofs.is_taken.Reads as is-taken-reads
 use Rattle.events.proofs.act.Reads as act-reads
 use Rattle.machine.proofs.start.start.Reads as start-reads
 use Rattle.pages.proofs.rows.opened_rows.Reads as opened-rows-reads

@@ -1,7 +1,8 @@
 use Prim.Native.Nat.{_+_, _-_, _≤_, _<_}
-use mathlib.Core.Path.{_≡_, refl, sym, ap, subst, _∙_}
+use mathlib.Core.Path.{_≡_, refl, ap, subst, _∙_}
 use lib.ListN.{length}
 use Rattle.lists.specs.Tab.{over, front}
+use Rattle.lists.proofs.TabLaws as tabs
 use Rattle.image.specs.Layout.{noContents}
 use Rattle.machine.specs.Line.{lineCount}
 use Rattle.page.specs.Filled.{linesOn, fitting}
@@ -47,7 +48,7 @@ no-contents-requires c κs = tt
 loop2-holds : tie.Need-loop2-holds Inv-loop2 μ-loop2 Inv-loop μ-loop
 loop2-holds c =
     let a = c .before .before .before .before .before .args in
-    (omega arith, c .no-contents .ensures ∙ sym (openings.front-none (pickedNode (a .t3) (c .before .before .loop .picks)) noContents))
+    (omega arith, c .no-contents .ensures ∙ tabs.front-none (pickedNode (a .t3) (c .before .before .loop .picks)) noContents)
 
 add-j : tie.Need-add-j Inv-loop2 μ-loop2 Inv-loop μ-loop
 add-j c = omega arith

@@ -3,9 +3,9 @@ use mathlib.Core.Path.{_≡_, _∙_}
 use native.Mathlib.Omega.{arith}
 use borrow.Author.Needs.{needs}
 use Rattle.lists.specs.Tab.{front}
+use Rattle.lists.proofs.TabLaws as tabs
 use Rattle.image.specs.Layout.{noContents}
 use Rattle.record.specs.Layout.{keptIn}
-use Rattle.record.proofs.Laws as laws
 use Rattle.record.proofs.reading.kept_in.Statement.{statement}
 use Rattle.record.proofs.reading.kept_in.Tie as tie
 
@@ -19,7 +19,7 @@ no-contents-requires : tie.Need-no-contents-requires Inv-loop μ-loop
 no-contents-requires c κs = search needs
 
 loop-holds : tie.Need-loop-holds Inv-loop μ-loop
-loop-holds c = (omega arith, c .no-contents .ensures ∙ laws.front-none (keptIn (c .before .before .args .s .now)) noContents)
+loop-holds c = (omega arith, c .no-contents .ensures ∙ tabs.front-none (keptIn (c .before .before .args .s .now)) noContents)
 
 mul-kept-at : tie.Need-mul-kept-at Inv-loop μ-loop
 mul-kept-at c = omega arith
@@ -47,7 +47,7 @@ unfolding keptIn noContents
 loop-again c =
     let p = c .before .before .loop in
     let s = c .before .before .before .before .before .args .s .now in
-    (omega arith, rw (c .kept-at .ensures, p .inv .1) (laws.front-next (keptIn s) (p .i) noContents (omega arith)))
+    (omega arith, rw (c .kept-at .ensures, p .inv .1) (tabs.front-next (keptIn s) (p .i) noContents (omega arith)))
 
 returns : tie.Need-returns Inv-loop μ-loop
 returns c =

@@ -3,9 +3,9 @@ use mathlib.Core.Path.{_≡_, _∙_}
 use native.Mathlib.Omega.{arith}
 use borrow.Author.Needs.{needs}
 use Rattle.lists.specs.Tab.{front}
+use Rattle.lists.proofs.TabLaws as tabs
 use Rattle.machine.specs.Record.{blankNodes}
 use Rattle.record.specs.Layout.{nodeIn}
-use Rattle.record.proofs.Laws as laws
 use Rattle.record.proofs.reading.nodes_in.Statement.{statement}
 use Rattle.record.proofs.reading.nodes_in.Tie as tie
 
@@ -19,7 +19,7 @@ blank-nodes-requires : tie.Need-blank-nodes-requires Inv-loop μ-loop
 blank-nodes-requires c κs = search needs
 
 loop-holds : tie.Need-loop-holds Inv-loop μ-loop
-loop-holds c = (omega arith, c .blank-nodes .ensures ∙ laws.front-none (nodeIn (c .before .before .args .s .now)) blankNodes)
+loop-holds c = (omega arith, c .blank-nodes .ensures ∙ tabs.front-none (nodeIn (c .before .before .args .s .now)) blankNodes)
 
 mul-node-at : tie.Need-mul-node-at Inv-loop μ-loop
 mul-node-at c = omega arith
@@ -47,7 +47,7 @@ unfolding nodeIn blankNodes
 loop-again c =
     let p = c .before .before .loop in
     let s = c .before .before .before .before .before .args .s .now in
-    (omega arith, rw (c .node-at .ensures, p .inv .1) (laws.front-next (nodeIn s) (p .i) blankNodes (omega arith)))
+    (omega arith, rw (c .node-at .ensures, p .inv .1) (tabs.front-next (nodeIn s) (p .i) blankNodes (omega arith)))
 
 returns : tie.Need-returns Inv-loop μ-loop
 returns c =

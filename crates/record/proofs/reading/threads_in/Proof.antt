@@ -3,9 +3,9 @@ use mathlib.Core.Path.{_≡_, _∙_}
 use native.Mathlib.Omega.{arith}
 use borrow.Author.Needs.{needs}
 use Rattle.lists.specs.Tab.{front}
+use Rattle.lists.proofs.TabLaws as tabs
 use Rattle.machine.specs.Record.{idleThreads}
 use Rattle.record.specs.Layout.{threadIn}
-use Rattle.record.proofs.Laws as laws
 use Rattle.record.proofs.reading.threads_in.Statement.{statement}
 use Rattle.record.proofs.reading.threads_in.Tie as tie
 
@@ -19,7 +19,7 @@ idle-threads-requires : tie.Need-idle-threads-requires Inv-loop μ-loop
 idle-threads-requires c κs = search needs
 
 loop-holds : tie.Need-loop-holds Inv-loop μ-loop
-loop-holds c = (omega arith, c .idle-threads .ensures ∙ laws.front-none (threadIn (c .before .before .args .s .now)) idleThreads)
+loop-holds c = (omega arith, c .idle-threads .ensures ∙ tabs.front-none (threadIn (c .before .before .args .s .now)) idleThreads)
 
 mul-thread-at : tie.Need-mul-thread-at Inv-loop μ-loop
 mul-thread-at c = omega arith
@@ -47,7 +47,7 @@ unfolding threadIn idleThreads
 loop-again c =
     let p = c .before .before .loop in
     let s = c .before .before .before .before .before .args .s .now in
-    (omega arith, rw (c .thread-at .ensures, p .inv .1) (laws.front-next (threadIn s) (p .i) idleThreads (omega arith)))
+    (omega arith, rw (c .thread-at .ensures, p .inv .1) (tabs.front-next (threadIn s) (p .i) idleThreads (omega arith)))
 
 returns : tie.Need-returns Inv-loop μ-loop
 returns c =

@@ -4,13 +4,13 @@ use mathlib.Core.Bool.{false}
 use mathlib.Core.List.{List, [], _∷_}
 use types.Run.{OneOf, miss}
 use denote.Enum.Declared.{tagOf}
 use Rattle.answer.proofs.Answer.{the-type}
 use Rattle.answer.specs.Answers.{accepted}
 use Rattle.answer.specs.declared.Answer.{Answer}
 use Rattle.answer.specs.declared.Answer.the-variants.{Taken, Done, Full, WornOut, Item, Empty, Length, Mark, Nodes, Threads, Events, Linked, Twin, NoDummy, Kind, Number, Busy, Idle, NotZero, Contents, Endings, NoEnding, Room, Record}
 use borrow.Author.Needs.{needs}
-use Rattle.codec.proofs.taken.is_taken.Statement.{statement}
-use Rattle.codec.proofs.taken.is_taken.Tie as tie
+use Rattle.answer.proofs.taken.is_taken.Statement.{statement}
+use Rattle.answer.proofs.taken.is_taken.Tie as tie
 
 abbrev keys : List ℕ
 keys = 6 ∷ 7 ∷ 8 ∷ 9 ∷ 10 ∷ 11 ∷ 12 ∷ 13 ∷ 14 ∷ 15 ∷ 16 ∷ 17 ∷ 18 ∷ 19 ∷ 20 ∷ 21 ∷ 22 ∷ 23 ∷ []

@@ -1,7 +1,7 @@
 // Whether an answer is no refusal.
 ghost use mathlib.Core.Path.{_≡_};
 ghost use Rattle.answer.specs.Answers.{accepted};
-use answer::Answer;
+use super::Answer;
 
 pub fn is_taken(a: Answer) -> bool
     ensures { λ r. ⌜ r ≡ accepted a ⌝ }
