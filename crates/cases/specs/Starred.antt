@@ -14,10 +14,11 @@ use Rattle.lists.specs.Word.{has, with, without, wordOf}
 use Rattle.answer.specs.Answers.{told}
 use Rattle.answer.specs.declared.Answer.{Answer}
 use Rattle.answer.specs.declared.Answer.the-variants.{Taken}
-use Rattle.image.specs.Layout.{noContents, marked, readNodes, imageIn}
+use Rattle.image.specs.Layout.{noContents, marked, readNodes, imageIn, sameContent}
 use Rattle.image.specs.Recovered.{recovered, twins, hasTwin, firstTwin, dummyOf, firstUnclear}
 use Rattle.image.specs.Refusals.{startable, sound, imageAnswer}
 use Rattle.machine.specs.Record.{blankNodes, idleThreads}
+use Rattle.machine.specs.Line.{headLines, lineAt, putLine}
 use Rattle.machine.specs.Start.{insert, risen, behind, lastOf, startWith}
 use Rattle.machine.specs.Retire.{nextFree, releasedAt, released, others, retired}
 use Rattle.machine.specs.Event.{eventAt}
@@ -25,7 +26,7 @@ use Rattle.machine.specs.Place.{reached, inQueue, isFree, isWaiting, isHeld, in
 use Rattle.machine.specs.declared.Machine.{Machine}
 use Rattle.schedule.specs.Layout.{scheduleIn, eventsIn, scheduleAnswer}
 use Rattle.schedule.specs.Run.{Ran, Bench, run, ran}
-use Rattle.page.specs.Contents.{sameContent, joins, gathered, contentsOf, tableOf}
+use Rattle.page.specs.Contents.{joins, gathered, contentsOf, tableOf}
 use Rattle.page.specs.Endings.{choices, product, imageOf, endings}
 use Rattle.page.specs.Refusals.{tableIn, firstCrowded, tableAnswer, pageAnswer, endingCount}
 use Rattle.page.specs.Printed.{itemsOf, spaced, endingLine, linesFrom, firstLine, refusedLine, printed}
@@ -157,7 +158,7 @@ unfolding allRight right starred p1 p3 p6 sameBytes lastAnswer sixPlaces four en
     noContents marked readNodes imageIn recovered twins hasTwin firstTwin dummyOf firstUnclear startable sound imageAnswer
     blankNodes idleThreads insert risen behind lastOf startWith nextFree releasedAt released others retired eventAt
     reached isHeld inEnqueue inDequeue scheduleIn eventsIn scheduleAnswer run ran
-    sameContent joins gathered contentsOf tableOf choices product imageOf endings
+    headLines lineAt putLine sameContent joins gathered contentsOf tableOf choices product imageOf endings
     tableIn firstCrowded tableAnswer pageAnswer endingCount
     itemsOf spaced endingLine linesFrom firstLine refusedLine printed
 starred-hold = refl

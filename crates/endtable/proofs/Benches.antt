@@ -21,6 +21,7 @@ use Rattle.schedule.specs.Run.{Bench, begins, andBefore, run}
 use Rattle.endtable.specs.Touches.{touchIn}
 use Rattle.endtable.specs.Opened.{openedTable, openedCounts}
 use Rattle.endtable.specs.Tables.{tableAfter, countsAfter}
+use Rattle.endtable.specs.Frame.{lineOf}
 use Rattle.endtable.specs.Benches.{turnedBy, benchAt, Stands}
 use Rattle.endtable.proofs.Steps as events
 use Rattle.endtable.proofs.Moments as moments
@@ -42,12 +43,12 @@ module _ (p : ℕ) (b : Bench) (e : Event) (t : List (List Content)) (cs : List 
   -- an event that is no crash
   pub stands-event : length (b .machine .kept) ≡ length (b .machine .nodes) → (deedOf (e .kind) ≡ crashes → ⊥)
       → Stands (turnedBy p b e) (eventAt p (b .machine) e .machine)
-      (tableAfter t cs (touchIn (b .machine) e) (cachedAt (eventAt p (b .machine) e .machine) (touchIn (b .machine) e .line)))
-      (countsAfter t cs (touchIn (b .machine) e) (cachedAt (eventAt p (b .machine) e .machine) (touchIn (b .machine) e .line)))
+      (tableAfter t cs (touchIn (b .machine) e) (cachedAt (eventAt p (b .machine) e .machine) (lineOf (eventAt p (b .machine) e .machine .n) (touchIn (b .machine) e))))
+      (countsAfter t cs (touchIn (b .machine) e) (cachedAt (eventAt p (b .machine) e .machine) (lineOf (eventAt p (b .machine) e .machine .n) (touchIn (b .machine) e))))
   stands-event k ne = record {
     machine = same;
     small = subst (λ (x : Machine). x .n ≤ 64) same (omega (arith, events.frame-event p (b .machine) e k taken ne .size, h .small));
-    timed = tables.timed-event p b e (h .timed) k taken ne;
+    timed = tables.timed-event p b e (h .timed) taken ne;
     tables = tables.tables-event p b e (h .timed) (h .small) k taken ne t cs (h .tables);
   }
     where

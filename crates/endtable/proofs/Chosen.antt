@@ -11,7 +11,8 @@ use Rattle.lists.proofs.TabLaws as tabs
 use Rattle.image.specs.Layout.{noContent, noContents, contentAt}
 use Rattle.image.specs.declared.Content.{Content}
 use Rattle.image.specs.declared.Image.{Image}
-use Rattle.machine.specs.Line.{lineCount}
+use Rattle.machine.specs.Line.{headLines, lineCount}
+use Rattle.machine.proofs.LineLaws.{one-head}
 use Rattle.page.specs.Endings.{choices, product, imageOf, ending}
 use Rattle.endtable.specs.Opened.{blankCounts}
 use Rattle.endtable.specs.Picks.{prod, digits, Ready, pickedAt, pickedNode, pickedImage, picksOf, endingFrom}
@@ -105,8 +106,8 @@ module _ (t : List (List Content)) (cs : List ℕ) (lists : List (List Content))
   pub ending-is : (n k : ℕ) → length lists ≡ lineCount n → Fits lists → k < product lists → endingFrom t cs n k ≡ ending n lists k
   unfolding endingFrom picksOf pickedImage ending imageOf
   ending-is n k e f p =
-      ap₂ (λ (x : Content) (y : List Content). made n (x .index) y) (at 0 (omega arith))
-      (tabs.front-same (pickedNode t ps) (λ i. contentAt (getD (choices lists) k []) (suc i)) n noContents (λ i q. at (suc i) (omega arith)))
+      ap₂ (λ (x : Content) (y : List Content). made n (x .index) y) (at 0 (omega (arith, one-head n)))
+      (tabs.front-same (pickedNode t ps n) (λ i. contentAt (getD (choices lists) k []) (headLines n + i)) n noContents (λ i q. at (headLines n + i) (omega arith)))
     where
       ps : List ℕ
       ps = digits cs (lineCount n) k ++ drop (lineCount n) blankCounts

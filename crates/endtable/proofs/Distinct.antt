@@ -10,13 +10,14 @@ use lib.ListN.{length, getD, drop, length-append, length-map, List·getD-append}
 use lib.Seq.{getD-at, ext-getD}
 use Rattle.lists.proofs.FindLaws as find
 use Rattle.lists.proofs.TabLaws as tabs
-use Rattle.image.specs.Layout.{noContent, noContents, contentAt}
+use Rattle.image.specs.Layout.{noContent, noContents, contentAt, sameContent}
 use Rattle.image.specs.declared.Content.{Content}
 use Rattle.image.specs.declared.Image.{Image}
-use Rattle.machine.specs.Line.{lineCount, headContent, cachedAt, persistedAt}
+use Rattle.machine.specs.Line.{Line, ofHead, headLines, lineCount, lineAt, headContent, cachedAt, persistedAt}
 use Rattle.machine.specs.declared.Machine.{Machine}
+use Rattle.machine.proofs.LineLaws.{one-head, line-zero}
 use Rattle.schedule.specs.Run.{Bench}
-use Rattle.page.specs.Contents.{sameContent, joins, gathered, contentsOf, tableOf}
+use Rattle.page.specs.Contents.{joins, gathered, contentsOf, tableOf}
 use Rattle.page.specs.Endings.{choices, product, imageOf, endings}
 use Rattle.endtable.specs.Rows.{isAt, seatOf}
 use Rattle.endtable.specs.Distinct.{Distinct}
@@ -68,10 +69,10 @@ unfolding gathered
 gathered-distinct seen [] h = h
 gathered-distinct seen (c ∷ l) h = gathered-distinct (joins seen c) l (joins-distinct seen c h)
 
-pub contents-distinct : (b : Bench) (l : ℕ) → Distinct noContent (contentsOf b l)
+pub contents-distinct : (b : Bench) (l : Line) → Distinct noContent (contentsOf b l)
 unfolding contentsOf
 contents-distinct b l =
-    gathered-distinct (persistedAt (b .machine) l ∷ []) (map (λ m. cachedAt m l) (drop (getD (b .from) l 0) (b .past))) (λ i j p q e. omega arith)
+    gathered-distinct (persistedAt (b .machine) l ∷ []) (map (λ m. cachedAt m l) (drop (b .from l) (b .past))) (λ i j p q e. omega arith)
 
 -- ---- the choices
 
@@ -129,18 +130,24 @@ pub image-injective : (n : ℕ) (c d : List Content) → length c ≡ lineCount 
 unfolding imageOf
 image-injective n c d p q g h e = ext-getD noContent c d (p ∙ sym q) (λ i r. at i (omega arith))
   where
-    at : (i : ℕ) → i < lineCount n → contentAt c i ≡ contentAt d i
-    at zero r = g ∙ ap headContent (ap (λ (x : Image). x .head) e) ∙ sym h
-    at (suc i) r =
-        sym (tabs.front-at (λ j. contentAt c (suc j)) n noContents i noContent (omega arith))
+    node : (i : ℕ) → i < n → contentAt c (headLines n + i) ≡ contentAt d (headLines n + i)
+    node i r =
+        sym (tabs.front-at (λ j. contentAt c (headLines n + j)) n noContents i noContent r)
         ∙ ap (λ (x : Image). contentAt (x .nodes) i) e
-        ∙ tabs.front-at (λ j. contentAt d (suc j)) n noContents i noContent (omega arith)
+        ∙ tabs.front-at (λ j. contentAt d (headLines n + j)) n noContents i noContent r
+
+    at : (i : ℕ) → i < lineCount n → contentAt c i ≡ contentAt d i
+    at i r = by (decLt i (headLines n))
+      where
+        by : Dec (i < headLines n) → contentAt c i ≡ contentAt d i
+        by (yes p) = let z : i ≡ 0 = omega (arith, one-head n) in rw z (g ∙ ap headContent (ap (λ (x : Image). x .head) e) ∙ sym h)
+        by (no p) = let z : i ≡ headLines n + (i - headLines n) = omega arith in rw z (node (i - headLines n) (omega arith))
 
 -- what an image beyond the last ending reads as
 abbrev pub noImage : Image
 noImage = record { n = 0; head = 0; nodes = noContents }
 
-module _ (n : ℕ) (line : List Content) (rest : List (List Content)) (size : length rest ≡ n) (head : (j : ℕ) → j < length line → OfHead (contentAt line j)) where
+module _ (n : ℕ) (line : List Content) (rest : List (List Content)) (size : length (line ∷ rest) ≡ lineCount n) (head : (j : ℕ) → j < length line → OfHead (contentAt line j)) where
   choice-head : (k : ℕ) → k < product (line ∷ rest) → OfHead (contentAt (getD (choices (line ∷ rest)) k []) 0)
   choice-head k p =
       let q : k < length line * product rest = omega (arith, product-cons line rest) in
@@ -156,8 +163,8 @@ module _ (n : ℕ) (line : List Content) (rest : List (List Content)) (size : le
       let b : j < length all = omega (arith, length-map all (imageOf n)) in
       choices-distinct (line ∷ rest) h i j a b
       (image-injective n (getD all i []) (getD all j [])
-      (choice-length (line ∷ rest) i (omega arith) ∙ ap suc size)
-      (choice-length (line ∷ rest) j (omega arith) ∙ ap suc size)
+      (choice-length (line ∷ rest) i (omega arith) ∙ size)
+      (choice-length (line ∷ rest) j (omega arith) ∙ size)
       (choice-head i (omega arith))
       (choice-head j (omega arith))
       (sym (blocks.getD-map-in (imageOf n) all i [] noImage a) ∙ e ∙ blocks.getD-map-in (imageOf n) all j [] noImage b))
@@ -175,16 +182,16 @@ joins-head l c h k j p = by (decLt (seatOf l (length l) c) (length l)) (decLt j 
         rw (e, getD-at l c [] noContent j (omega (arith, ap length e, length-append l (c ∷ [])))) k
 
 gathered-head : (seen : List Content) (ms : List Machine) → ((j : ℕ) → j < length seen → OfHead (contentAt seen j))
-    → (j : ℕ) → j < length (gathered seen (map (λ m. cachedAt m 0) ms)) → OfHead (contentAt (gathered seen (map (λ m. cachedAt m 0) ms)) j)
+    → (j : ℕ) → j < length (gathered seen (map (λ m. cachedAt m (ofHead 0)) ms)) → OfHead (contentAt (gathered seen (map (λ m. cachedAt m (ofHead 0)) ms)) j)
 unfolding gathered
 gathered-head seen [] h = h
-gathered-head seen (m ∷ ms) h = gathered-head (joins seen (cachedAt m 0)) ms (joins-head seen (cachedAt m 0) h refl)
+gathered-head seen (m ∷ ms) h = gathered-head (joins seen (cachedAt m (ofHead 0))) ms (joins-head seen (cachedAt m (ofHead 0)) h refl)
 
-pub contents-head : (b : Bench) (j : ℕ) → j < length (contentsOf b 0) → OfHead (contentAt (contentsOf b 0) j)
+pub contents-head : (b : Bench) (j : ℕ) → j < length (contentsOf b (ofHead 0)) → OfHead (contentAt (contentsOf b (ofHead 0)) j)
 unfolding contentsOf
-contents-head b = gathered-head (persistedAt (b .machine) 0 ∷ []) (drop (getD (b .from) 0 0) (b .past)) only
+contents-head b = gathered-head (persistedAt (b .machine) (ofHead 0) ∷ []) (drop (b .from (ofHead 0)) (b .past)) only
   where
-    only : (j : ℕ) → j < 1 → OfHead (contentAt (persistedAt (b .machine) 0 ∷ []) j)
+    only : (j : ℕ) → j < 1 → OfHead (contentAt (persistedAt (b .machine) (ofHead 0) ∷ []) j)
     only zero p = refl
     only (suc j) p = absurd (omega arith)
 
@@ -193,19 +200,20 @@ pub bench-distinct : (b : Bench) → Distinct noImage (endings (b .machine .n) (
 bench-distinct b = by (tableOf b) refl
   where
     by : (lists : List (List Content)) → tableOf b ≡ lists → Distinct noImage (endings (b .machine .n) lists)
-    by [] e = absurd (omega (arith, ap length e, moments.table-length b))
+    by [] e = absurd (omega (arith, ap length e, one-head (b .machine .n), moments.table-length b))
     by (line ∷ rest) e =
-        endings-distinct (b .machine .n) line rest (omega (arith, ap length e, moments.table-length b))
+        endings-distinct (b .machine .n) line rest (ap length (sym e) ∙ moments.table-length b)
         (λ j p. first e j p)
         (λ l p. lines e l p)
       where
         first : tableOf b ≡ line ∷ rest → (j : ℕ) → j < length line → OfHead (contentAt line j)
         first e =
-            let z : line ≡ contentsOf b 0 = ap (λ k. getD k 0 []) (sym e) ∙ moments.table-at b 0 (omega arith) in
+            let z : line ≡ contentsOf b (ofHead 0) =
+            ap (λ k. getD k 0 []) (sym e) ∙ moments.table-at b 0 (omega (arith, one-head (b .machine .n))) ∙ ap (contentsOf b) (line-zero (b .machine .n)) in
             subst (λ (k : List Content). (j : ℕ) → j < length k → OfHead (contentAt k j)) (sym z) (contents-head b)
 
         lines : tableOf b ≡ line ∷ rest → AllDistinct (line ∷ rest)
         lines e l p =
             let q : l < lineCount (b .machine .n) = omega (arith, ap length e, moments.table-length b) in
-            let z : getD (line ∷ rest) l [] ≡ contentsOf b l = ap (λ k. getD k l []) (sym e) ∙ moments.table-at b l q in
-            subst (λ (k : List Content). Distinct noContent k) (sym z) (contents-distinct b l)
+            let z : getD (line ∷ rest) l [] ≡ contentsOf b (lineAt (b .machine .n) l) = ap (λ k. getD k l []) (sym e) ∙ moments.table-at b l q in
+            subst (λ (k : List Content). Distinct noContent k) (sym z) (contents-distinct b (lineAt (b .machine .n) l))

@@ -1,5 +1,5 @@
 -- Machines with the same contents, and the machine after one store or one persist.
-use Prim.Native.Nat.{ℕ, zero, suc, _<_}
+use Prim.Native.Nat.{ℕ, zero, suc, _+_, _<_}
 use mathlib.Core.Path.{_≡_, refl, sym, ap, _∙_}
 use mathlib.Core.Bool.{Bool, true, false}
 use mathlib.Core.Logic.{_⊎_, inl, inr}
@@ -11,13 +11,14 @@ use lib.Seq.{getD-set-same, getD-set-other, set-out, map-set-same}
 use Rattle.lists.specs.Find.{pick}
 use Rattle.image.specs.Layout.{noContent}
 use Rattle.machine.specs.Record.{zeroNode, node, contentOf, putNode, putHead}
-use Rattle.machine.specs.Line.{nodeLine, cachedAt, persistedAt, persist}
+use Rattle.machine.specs.Line.{Line, ofHead, ofNode, headLines, lineAt, cachedAt, persistedAt, persist}
 use Rattle.machine.specs.Retire.{releasedAt, released, retired}
 use Rattle.machine.specs.declared.Machine.{Machine}
 use Rattle.machine.specs.declared.Node.{Node}
+use Rattle.machine.proofs.LineLaws.{line-node, line-zero}
 use Rattle.endtable.specs.declared.touch.Touch.{Touch}
 use Rattle.endtable.specs.Touches.{storedTo, persistedLine}
-use Rattle.endtable.specs.Frame.{Frame}
+use Rattle.endtable.specs.Frame.{lineOf, Frame}
 
 -- ---- the same contents
 
@@ -80,14 +81,16 @@ same-retired m k x = record {
 }
 
 module _ (m m′ : Machine) (s : Same m m′) where
-  pub same-cached : (l : ℕ) → cachedAt m′ l ≡ cachedAt m l
-  same-cached zero = rw (s .index)
-  same-cached (suc i) =
+  pub same-cached : (l : Line) → cachedAt m′ l ≡ cachedAt m l
+  same-cached (ofHead zero) = rw (s .index)
+  same-cached (ofHead (suc k)) = refl
+  same-cached (ofNode i) =
       sym (List·getD-map contentOf (m′ .nodes) i zeroNode) ∙ ap (λ c. getD c i noContent) (s .nodes) ∙ List·getD-map contentOf (m .nodes) i zeroNode
 
-  pub same-persisted : (l : ℕ) → persistedAt m′ l ≡ persistedAt m l
-  same-persisted zero = rw (s .head)
-  same-persisted (suc i) = rw (s .kept)
+  pub same-persisted : (l : Line) → persistedAt m′ l ≡ persistedAt m l
+  same-persisted (ofHead zero) = rw (s .head)
+  same-persisted (ofHead (suc k)) = refl
+  same-persisted (ofNode i) = rw (s .kept)
 
   -- an event that may store finds nothing to store, or touches no line
   pub frame-same : (l : ℕ) → Frame m m′ (storedTo l)
@@ -104,52 +107,78 @@ frame-then m a b w f s = record {
   size = s .size ∙ f .size;
   cached = λ l p. same-cached a b s l ∙ f .cached l p;
   kept = λ l p. same-persisted a b s l ∙ f .kept l p;
-  present = λ p. same-persisted a b s (w .line) ∙ f .present p ∙ sym (same-cached a b s (w .line));
+  present = λ p. same-persisted a b s (lineOf (m .n) w) ∙ f .present p ∙ sym (same-cached a b s (lineOf (m .n) w));
 }
 
 -- ---- one store
 
-other : (b : Bool) (l x : ℕ) → b ≡ false → (b ≡ true) ⊎ (l ≡ x → ⊥) → l ≡ x → ⊥
-other b l x e (inl f) q = let z : _≡_ {A = ℕ} 0 1 = cc in omega arith
-other b l x e (inr ne) q = ne q
+-- a line that is not the one stored to
+other : (b : Bool) (l x y : Line) → b ≡ false → x ≡ y → (b ≡ true) ⊎ (l ≡ x → ⊥) → l ≡ y → ⊥
+other b l x y e is (inl f) q = let z : _≡_ {A = ℕ} 0 1 = cc in omega arith
+other b l x y e is (inr ne) q = ne (q ∙ sym is)
 
-pub frame-node : (m : Machine) (i : ℕ) (v : Node) → Frame m (putNode m i v) (storedTo (nodeLine i))
+pub frame-node : (m : Machine) (i : ℕ) (v : Node) → Frame m (putNode m i v) (storedTo (headLines (m .n) + i))
 frame-node m i v = record {
   size = refl;
-  cached = λ l p. at l (other false l (nodeLine i) refl p);
+  cached = λ l p. at l (other false l (lineAt (m .n) (headLines (m .n) + i)) (ofNode i) refl (line-node (m .n) i) p);
   kept = λ l p. stays l;
   present = λ p. absurd (let z : _≡_ {A = ℕ} 0 1 = cc in omega arith);
 }
   where
-    at : (l : ℕ) → (l ≡ suc i → ⊥) → cachedAt (putNode m i v) l ≡ cachedAt m l
-    at zero ne = refl
-    at (suc j) ne = ap contentOf (getD-set-other (m .nodes) i j v zeroNode (λ e. ne (ap suc e)))
+    at : (l : Line) → (l ≡ ofNode i → ⊥) → cachedAt (putNode m i v) l ≡ cachedAt m l
+    at (ofHead zero) ne = refl
+    at (ofHead (suc k)) ne = refl
+    at (ofNode j) ne = ap contentOf (getD-set-other (m .nodes) i j v zeroNode (λ e. ne (ap ofNode e)))
 
-    stays : (l : ℕ) → persistedAt (putNode m i v) l ≡ persistedAt m l
-    stays zero = refl
-    stays (suc j) = refl
+    stays : (l : Line) → persistedAt (putNode m i v) l ≡ persistedAt m l
+    stays (ofHead zero) = refl
+    stays (ofHead (suc k)) = refl
+    stays (ofNode j) = refl
 
 pub frame-head : (m : Machine) (h x : ℕ) → Frame m (putHead m h x) (storedTo 0)
 frame-head m h x = record {
   size = refl;
-  cached = λ l p. at l (other false l 0 refl p);
+  cached = λ l p. at l (other false l (lineAt (m .n) 0) (ofHead 0) refl (line-zero (m .n)) p);
   kept = λ l p. stays l;
   present = λ p. absurd (let z : _≡_ {A = ℕ} 0 1 = cc in omega arith);
 }
   where
-    at : (l : ℕ) → (l ≡ 0 → ⊥) → cachedAt (putHead m h x) l ≡ cachedAt m l
-    at zero ne = absurd (ne refl)
-    at (suc j) ne = refl
+    at : (l : Line) → (l ≡ ofHead 0 → ⊥) → cachedAt (putHead m h x) l ≡ cachedAt m l
+    at (ofHead zero) ne = absurd (ne refl)
+    at (ofHead (suc k)) ne = refl
+    at (ofNode j) ne = refl
 
-    stays : (l : ℕ) → persistedAt (putHead m h x) l ≡ persistedAt m l
-    stays zero = refl
-    stays (suc j) = refl
+    stays : (l : Line) → persistedAt (putHead m h x) l ≡ persistedAt m l
+    stays (ofHead zero) = refl
+    stays (ofHead (suc k)) = refl
+    stays (ofNode j) = refl
 
 -- ---- one persist
 
-other-true : (b : Bool) (l x : ℕ) → b ≡ true → (b ≡ false) ⊎ (l ≡ x → ⊥) → l ≡ x → ⊥
-other-true b l x e (inl f) q = let z : _≡_ {A = ℕ} 0 1 = cc in omega arith
-other-true b l x e (inr ne) q = ne q
+pub persist-size : (m : Machine) (l : Line) → persist m l .n ≡ m .n
+persist-size m (ofHead zero) = refl
+persist-size m (ofHead (suc k)) = refl
+persist-size m (ofNode i) = refl
+
+-- every cached copy stays
+pub persist-cached : (m : Machine) (l j : Line) → cachedAt (persist m l) j ≡ cachedAt m j
+persist-cached m (ofHead zero) (ofHead zero) = refl
+persist-cached m (ofHead zero) (ofHead (suc k)) = refl
+persist-cached m (ofHead zero) (ofNode j) = refl
+persist-cached m (ofHead (suc k)) j = refl
+persist-cached m (ofNode i) (ofHead zero) = refl
+persist-cached m (ofNode i) (ofHead (suc k)) = refl
+persist-cached m (ofNode i) (ofNode j) = refl
+
+-- and every other persisted one
+persist-other : (m : Machine) (l j : Line) → (j ≡ l → ⊥) → persistedAt (persist m l) j ≡ persistedAt m j
+persist-other m (ofHead zero) (ofHead zero) ne = absurd (ne refl)
+persist-other m (ofHead zero) (ofHead (suc k)) ne = refl
+persist-other m (ofHead zero) (ofNode j) ne = refl
+persist-other m (ofHead (suc k)) j ne = refl
+persist-other m (ofNode i) (ofHead zero) ne = refl
+persist-other m (ofNode i) (ofHead (suc k)) ne = refl
+persist-other m (ofNode i) (ofNode j) ne = getD-set-other (m .kept) i j (contentOf (node m i)) noContent (λ q. ne (ap ofNode q))
 
 -- beyond the tables both copies are blank
 put-kept : (m : Machine) (i : ℕ) → length (m .kept) ≡ length (m .nodes) → getD (set (m .kept) i (contentOf (node m i))) i noContent ≡ contentOf (node m i)
@@ -160,32 +189,20 @@ put-kept m i e = by (decLt i (length (m .kept)))
     by (no p) =
         rw (set-out (m .kept) i (contentOf (node m i)) (omega arith), List·getD-eq-default (m .kept) noContent {n = i} (omega arith), List·getD-eq-default (m .nodes) zeroNode {n = i} (omega arith))
 
-pub frame-persist : (m : Machine) (x : ℕ) → length (m .kept) ≡ length (m .nodes) → Frame m (persist m x) (persistedLine x)
-frame-persist m zero e = record {
-  size = refl;
-  cached = λ l p. same l;
-  kept = λ l p. at l (other-true true l 0 refl p);
-  present = λ p. refl;
+persist-present : (m : Machine) (l : Line) → length (m .kept) ≡ length (m .nodes) → persistedAt (persist m l) l ≡ cachedAt (persist m l) l
+persist-present m (ofHead zero) e = refl
+persist-present m (ofHead (suc k)) e = refl
+persist-present m (ofNode i) e = put-kept m i e
+
+-- line l, whose number is x
+pub frame-persist : (m : Machine) (l : Line) (x : ℕ) → lineAt (m .n) x ≡ l → length (m .kept) ≡ length (m .nodes) → Frame m (persist m l) (persistedLine x)
+frame-persist m l x is e = record {
+  size = persist-size m l;
+  cached = λ j p. persist-cached m l j;
+  kept = λ j p. persist-other m l j (not-it j p);
+  present = λ p. rw is (persist-present m l e);
 }
   where
-    same : (l : ℕ) → cachedAt (persist m 0) l ≡ cachedAt m l
-    same zero = refl
-    same (suc j) = refl
-
-    at : (l : ℕ) → (l ≡ 0 → ⊥) → persistedAt (persist m 0) l ≡ persistedAt m l
-    at zero ne = absurd (ne refl)
-    at (suc j) ne = refl
-frame-persist m (suc i) e = record {
-  size = refl;
-  cached = λ l p. same l;
-  kept = λ l p. at l (other-true true l (suc i) refl p);
-  present = λ p. put-kept m i e;
-}
-  where
-    same : (l : ℕ) → cachedAt (persist m (suc i)) l ≡ cachedAt m l
-    same zero = refl
-    same (suc j) = refl
-
-    at : (l : ℕ) → (l ≡ suc i → ⊥) → persistedAt (persist m (suc i)) l ≡ persistedAt m l
-    at zero ne = refl
-    at (suc j) ne = getD-set-other (m .kept) i j (contentOf (node m i)) noContent (λ q. ne (ap suc q))
+    not-it : (j : Line) → (true ≡ false) ⊎ (j ≡ lineAt (m .n) x → ⊥) → j ≡ l → ⊥
+    not-it j (inl f) q = let z : _≡_ {A = ℕ} 0 1 = cc in omega arith
+    not-it j (inr ne) q = ne (q ∙ sym is)

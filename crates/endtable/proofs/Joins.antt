@@ -11,9 +11,9 @@ use borrow.Author.Tests.{eqb-true, eq-eqb, lt-ltb, le-ltb}
 use Rattle.lists.specs.Find.{pick, both, least}
 use Rattle.lists.proofs.BoolLaws.{both-true}
 use Rattle.lists.proofs.FindLaws.{least-shift}
-use Rattle.image.specs.Layout.{noContent, contentAt}
+use Rattle.image.specs.Layout.{noContent, contentAt, sameContent}
 use Rattle.image.specs.declared.Content.{Content}
-use Rattle.page.specs.Contents.{sameContent, joins, gathered}
+use Rattle.page.specs.Contents.{joins, gathered}
 use Rattle.endtable.specs.Rows.{isAt, seatOf}
 
 -- ---- equal contents

@@ -11,7 +11,7 @@ use lib.Dec.{ltb}
 use borrow.Author.Tests.{lt-ltb, le-ltb, ltb-false}
 use Rattle.lists.proofs.FindLaws as find
 use Rattle.image.specs.declared.Content.{Content}
-use Rattle.machine.specs.Line.{cachedAt, persistedAt}
+use Rattle.machine.specs.Line.{Line, lineAt, cachedAt, persistedAt}
 use Rattle.schedule.specs.Run.{Bench}
 use Rattle.page.specs.Contents.{joins, gathered, contentsOf, tableOf}
 use Rattle.page.specs.Endings.{product}
@@ -31,12 +31,12 @@ unfolding gathered
 gathered-length seen [] = omega arith
 gathered-length seen (c ∷ l) = omega (arith, joined.joins-length seen c, gathered-length (joins seen c) l)
 
-contents-some : (b : Bench) (l : ℕ) → 0 < length (contentsOf b l)
+contents-some : (b : Bench) (l : Line) → 0 < length (contentsOf b l)
 unfolding contentsOf
-contents-some b l = omega (arith, gathered-length (persistedAt (b .machine) l ∷ []) (map (λ m. cachedAt m l) (drop (getD (b .from) l 0) (b .past))))
+contents-some b l = omega (arith, gathered-length (persistedAt (b .machine) l ∷ []) (map (λ m. cachedAt m l) (drop (b .from l) (b .past))))
 
 pub table-some : (b : Bench) (l : ℕ) → l < length (tableOf b) → 0 < length (getD (tableOf b) l [])
-table-some b l h = rw (moments.table-at b l (omega (arith, moments.table-length b))) (contents-some b l)
+table-some b l h = rw (moments.table-at b l (omega (arith, moments.table-length b))) (contents-some b (lineAt (b .machine .n) l))
 
 -- ---- 14
 

@@ -10,9 +10,9 @@ use lib.Seq.{getD-at, getD-set-same, getD-set-other, set-getD}
 use borrow.Author.Tests.{lt-ltb, le-ltb}
 use Rattle.lists.specs.Find.{pick, least}
 use Rattle.lists.proofs.FindLaws.{least-le, least-same, least-found}
-use Rattle.image.specs.Layout.{noContent, contentAt}
+use Rattle.image.specs.Layout.{noContent, contentAt, sameContent}
 use Rattle.image.specs.declared.Content.{Content}
-use Rattle.page.specs.Contents.{sameContent, joins}
+use Rattle.page.specs.Contents.{joins}
 use Rattle.endtable.specs.Rows.{isAt, seatOf, rowJoined, countJoined}
 use Rattle.endtable.specs.Opened.{openedRow, openedCount}
 use Rattle.endtable.specs.Tables.{Held}

@@ -1,6 +1,6 @@
 -- Every step and every event leaves all lines alone but the one it touches.
 use Prim.Native.Nat.{ℕ, _+_}
-use mathlib.Core.Path.{_≡_, refl, ap, subst, _∙_}
+use mathlib.Core.Path.{_≡_, refl, sym, ap, subst, _∙_}
 use mathlib.Core.Bool.{Bool, true, false}
 use native.Mathlib.Omega.{arith}
 use lib.ListN.{length}
@@ -10,13 +10,14 @@ use Rattle.answer.specs.Answers.{accepted}
 use Rattle.answer.specs.declared.Answer.{Answer}
 use Rattle.machine.specs.Record.{none, top, node, thread, withItem, withNext, withLinked, withIndex, putNode, putTail}
 use Rattle.machine.specs.Stage.{Stage, noStep, A1, A2, A3, A4, A5, A6, A7, A8, A9, A10, A11, A12, D1, D2, D3, D4, D5, D6, D7, stage}
-use Rattle.machine.specs.Line.{nodeLine, persist}
+use Rattle.machine.specs.Line.{ofHead, ofNode, headLines, lineAt, persist}
 use Rattle.machine.specs.Retire.{left, freed, released, retired, retiredHeld}
 use Rattle.machine.specs.Event.{Deed, unknown, enqueues, dequeues, steps, writesBack, crashes, deedOf, eventAnswer, stepped, done, ifTaken, eventAt}
 use Rattle.machine.specs.declared.Machine.{Machine}
 use Rattle.machine.specs.declared.Event.{Event}
 use Rattle.machine.specs.declared.Out.{Out}
-use Rattle.schedule.specs.Run.{stepPersists, persists, Bench, goesOn, turned}
+use Rattle.machine.proofs.LineLaws.{line-node, line-zero}
+use Rattle.schedule.specs.Run.{aLine, stepPersists, persists, Bench, goesOn, turned}
 use Rattle.endtable.specs.declared.touch.Touch.{Touch}
 use Rattle.endtable.specs.Touches.{storedTo, persistedLine, stageTouch, stepTouch, touches, touchIn}
 use Rattle.endtable.specs.Frame.{persistsOf, Frame}
@@ -24,7 +25,7 @@ use Rattle.endtable.proofs.Frame as frame
 
 -- ---- which line an event persists is as the run has it
 
-step-persists : (m : Machine) (k : ℕ) (s : Stage) → stepPersists m k s ≡ persistsOf (stageTouch (thread m k .node) s)
+step-persists : (m : Machine) (k : ℕ) (s : Stage) → stepPersists m k s ≡ persistsOf (m .n) (stageTouch (headLines (m .n)) (thread m k .node) s)
 step-persists m k noStep = refl
 step-persists m k A1 = refl
 step-persists m k A2 = refl
@@ -35,18 +36,18 @@ step-persists m k A6 = refl
 step-persists m k A7 = refl
 step-persists m k A8 = refl
 step-persists m k A9 = refl
-step-persists m k A10 = refl
+step-persists m k A10 = ap aLine (sym (line-node (m .n) (thread m k .node)))
 step-persists m k A11 = refl
 step-persists m k A12 = refl
 step-persists m k D1 = refl
 step-persists m k D2 = refl
-step-persists m k D3 = refl
+step-persists m k D3 = ap aLine (sym (line-zero (m .n)))
 step-persists m k D4 = refl
 step-persists m k D5 = refl
-step-persists m k D6 = refl
+step-persists m k D6 = ap aLine (sym (line-zero (m .n)))
 step-persists m k D7 = refl
 
-pub event-persists : (m : Machine) (e : Event) (d : Deed) → persists m e d ≡ persistsOf (touches m e d)
+pub event-persists : (m : Machine) (e : Event) (d : Deed) → persists m e d ≡ persistsOf (m .n) (touches m e d)
 unfolding stepTouch
 event-persists m e unknown = refl
 event-persists m e enqueues = refl
@@ -88,7 +89,7 @@ module _ (m : Machine) (k : ℕ) where
   on : (a b : Machine) (w : Touch) → Frame m a w → b .n ≡ a .n → b .index ≡ a .index → b .nodes ≡ a .nodes → b .«kept_head» ≡ a .«kept_head» → b .kept ≡ a .kept → Frame m b w
   on a b w f p q r t u = frame.frame-then m a b w f (moves a a b (frame.same-self a) p q r t u)
 
-  pub frame-step : length (m .kept) ≡ length (m .nodes) → (s : Stage) → Frame m (stepped m k s .machine) (stageTouch (thread m k .node) s)
+  pub frame-step : length (m .kept) ≡ length (m .nodes) → (s : Stage) → Frame m (stepped m k s .machine) (stageTouch (headLines (m .n)) (thread m k .node) s)
   frame-step h noStep = quiet m m (frame.same-self m)
   frame-step h A1 =
       pickOut (eqb (m .free) 0) _ _ (storedTo 65)
@@ -104,8 +105,8 @@ module _ (m : Machine) (k : ℕ) where
   frame-step h A7 =
       let i = thread m k .node in
       let t = thread m k .tail in
-      pickOut (eqb (node m t .index) top) _ _ (storedTo (nodeLine i))
-      (frame.frame-same m _ (answers m (freed m i) k _ (here _ refl refl refl refl refl)) (nodeLine i))
+      pickOut (eqb (node m t .index) top) _ _ (storedTo (headLines (m .n) + i))
+      (frame.frame-same m _ (answers m (freed m i) k _ (here _ refl refl refl refl refl)) (headLines (m .n) + i))
       (on _ _ _ (frame.frame-node m i (withIndex (node m i) (node m t .index + 1))) refl refl refl refl refl)
   frame-step h A8 =
       let i = thread m k .node in
@@ -114,7 +115,9 @@ module _ (m : Machine) (k : ℕ) where
       (quiet m _ (moves m (putNode m t (withNext (node m t) i)) _ (frame.same-node m t (withNext (node m t) i) refl) refl refl refl refl refl))
       (quiet m _ (here _ refl refl refl refl refl))
   frame-step h A9 = on _ _ _ (frame.frame-node m (thread m k .node) (withLinked (node m (thread m k .node)) 1)) refl refl refl refl refl
-  frame-step h A10 = on (persist m (nodeLine (thread m k .node))) _ _ (frame.frame-persist m (nodeLine (thread m k .node)) h) refl refl refl refl refl
+  frame-step h A10 =
+      let i = thread m k .node in
+      on (persist m (ofNode i)) _ _ (frame.frame-persist m (ofNode i) (headLines (m .n) + i) (line-node (m .n) i) h) refl refl refl refl refl
   frame-step h A11 =
       let b = pick (eqb (m .tail) (thread m k .tail)) (putTail m (thread m k .node)) m in
       quiet m _ (answers m b k _ (frame.same-pick m (putTail m (thread m k .node)) m (eqb (m .tail) (thread m k .tail)) (here _ refl refl refl refl refl) (frame.same-self m)))
@@ -125,15 +128,15 @@ module _ (m : Machine) (k : ℕ) where
   frame-step h D1 = quiet m _ (here _ refl refl refl refl refl)
   frame-step h D2 = quiet m _ (here _ refl refl refl refl refl)
   frame-step h D3 =
-      frame.frame-then m (persist m 0) _ (persistedLine 0) (frame.frame-persist m 0 h)
-      (answers (persist m 0) (persist m 0) k (thread m k .held) (frame.same-self (persist m 0)))
+      let p = persist m (ofHead 0) in
+      frame.frame-then m p _ (persistedLine 0) (frame.frame-persist m (ofHead 0) 0 (line-zero (m .n)) h) (answers p p k (thread m k .held) (frame.same-self p))
   frame-step h D4 =
       let x = thread m k .next in
       pickOut (both (eqb (m .head) (thread m k .head)) (eqb (m .index) (thread m k .index))) _ _ (storedTo 0)
       (on _ _ _ (frame.frame-head m x (node m x .index)) refl refl refl refl refl)
       (frame.frame-same m _ (here _ refl refl refl refl refl) 0)
   frame-step h D5 = quiet m _ (here _ refl refl refl refl refl)
-  frame-step h D6 = on (persist m 0) _ _ (frame.frame-persist m 0 h) refl refl refl refl refl
+  frame-step h D6 = on (persist m (ofHead 0)) _ _ (frame.frame-persist m (ofHead 0) 0 (line-zero (m .n)) h) refl refl refl refl refl
   frame-step h D7 =
       quiet m _
       (answers m (retiredHeld m k) k (thread m k .head)
@@ -147,7 +150,7 @@ frame-done m e unknown h ne = quiet m m (frame.same-self m)
 frame-done m e enqueues h ne = quiet m _ (here m 0 _ refl refl refl refl refl)
 frame-done m e dequeues h ne = quiet m _ (here m 0 _ refl refl refl refl refl)
 frame-done m e steps h ne = frame-step m (e .number) h (stage m (e .number))
-frame-done m e writesBack h ne = frame.frame-persist m (e .number) h
+frame-done m e writesBack h ne = frame.frame-persist m (lineAt (m .n) (e .number)) (e .number) refl h
 frame-done m e crashes h ne = absurd (ne refl)
 
 -- a taken event did what its kind says
@@ -176,7 +179,7 @@ unknown-refused p m e d h q =
     let y : _≡_ {A = ℕ} 0 1 = cc in
     omega arith
 
-goes-on : (b : Bench) (m : Machine) (e : Event) (d : Deed) → (d ≡ unknown → ⊥) → (d ≡ crashes → ⊥) → turned b m e d ≡ goesOn b m (persistsOf (touches (b .machine) e d))
+goes-on : (b : Bench) (m : Machine) (e : Event) (d : Deed) → (d ≡ unknown → ⊥) → (d ≡ crashes → ⊥) → turned b m e d ≡ goesOn b m (persistsOf (b .machine .n) (touches (b .machine) e d))
 unfolding stepTouch
 goes-on b m e unknown n1 n2 = absurd (n1 refl)
 goes-on b m e enqueues n1 n2 = refl
@@ -187,6 +190,6 @@ goes-on b m e crashes n1 n2 = absurd (n2 refl)
 
 -- and the bench goes on from it
 pub turned-on : (p : ℕ) (b : Bench) (m : Machine) (e : Event) → accepted (eventAt p (b .machine) e .answer) ≡ true → (deedOf (e .kind) ≡ crashes → ⊥)
-    → turned b m e (deedOf (e .kind)) ≡ goesOn b m (persistsOf (touchIn (b .machine) e))
+    → turned b m e (deedOf (e .kind)) ≡ goesOn b m (persistsOf (b .machine .n) (touchIn (b .machine) e))
 unfolding eventAt touchIn
 turned-on p b m e h ne = goes-on b m e (deedOf (e .kind)) (unknown-refused p (b .machine) e (deedOf (e .kind)) h) ne

@@ -1,6 +1,6 @@
 -- The code's table stands for the bench's lists: after a start, and after each event.
 use Prim.Native.Nat.{ℕ, _≤_, _<_}
-use mathlib.Core.Path.{_≡_, refl, sym, ap, _∙_}
+use mathlib.Core.Path.{_≡_, refl, sym, ap, subst, _∙_}
 use mathlib.Core.Bool.{Bool, true, false}
 use mathlib.Core.Logic.{inl, inr}
 use mathlib.Core.List.{List, []}
@@ -15,10 +15,11 @@ use Rattle.lists.specs.Tab.{front}
 use Rattle.lists.proofs.TabLaws as tabs
 use Rattle.answer.specs.Answers.{accepted}
 use Rattle.image.specs.declared.Content.{Content}
-use Rattle.machine.specs.Line.{lineCount, cachedAt, persistedAt}
+use Rattle.machine.specs.Line.{Line, lineCount, lineAt, cachedAt, persistedAt}
 use Rattle.machine.specs.Event.{crashes, deedOf, eventAt}
 use Rattle.machine.specs.declared.Machine.{Machine}
 use Rattle.machine.specs.declared.Event.{Event}
+use Rattle.machine.proofs.LineLaws.{one-head, line-one}
 use Rattle.schedule.specs.Run.{noLine, aLine, Bench, begins, goesOn, turned}
 use Rattle.page.specs.Contents.{contentsOf, tableOf}
 use Rattle.endtable.specs.declared.touch.Touch.{Touch}
@@ -27,7 +28,7 @@ use Rattle.endtable.specs.Touches.{touchIn}
 use Rattle.endtable.specs.Opened.{blankTable, blankCounts, lineOpened, lineCounted, openedTable, openedCounts}
 use Rattle.endtable.specs.Tables.{Held, Tables, tableAfter, countsAfter}
 use Rattle.endtable.specs.Moments.{Timed}
-use Rattle.endtable.specs.Frame.{persistsOf, Frame}
+use Rattle.endtable.specs.Frame.{lineOf, persistsOf, Frame}
 use Rattle.endtable.proofs.RowLaws as rows
 use Rattle.endtable.proofs.Openings as openings
 use Rattle.endtable.proofs.Moments as moments
@@ -38,15 +39,15 @@ use Rattle.endtable.proofs.Steps as steps
 pub tables-begin : (m : Machine) → m .n ≤ 64 → Tables (openedTable m (lineCount (m .n))) (openedCounts m (lineCount (m .n))) (tableOf (begins m))
 unfolding openedTable openedCounts
 tables-begin m h = record {
-  tall = tabs.front-size (lineOpened m) (lineCount (m .n)) blankTable (omega (arith, openings.length-blank-table)) ∙ openings.length-blank-table;
-  long = tabs.front-size (lineCounted m) (lineCount (m .n)) blankCounts (omega (arith, openings.length-blank-counts)) ∙ openings.length-blank-counts;
+  tall = tabs.front-size (lineOpened m) (lineCount (m .n)) blankTable (omega (arith, one-head (m .n), openings.length-blank-table)) ∙ openings.length-blank-table;
+  long = tabs.front-size (lineCounted m) (lineCount (m .n)) blankCounts (omega (arith, one-head (m .n), openings.length-blank-counts)) ∙ openings.length-blank-counts;
   held = λ l p. at l (omega (arith, moments.table-length (begins m)));
 }
   where
     at : (l : ℕ) → l < lineCount (m .n) → Held (getD (front (lineOpened m) (lineCount (m .n)) blankTable) l []) (getD (front (lineCounted m) (lineCount (m .n)) blankCounts) l 0) (getD (tableOf (begins m)) l [])
     at l p =
-        rw (tabs.front-at (lineOpened m) (lineCount (m .n)) blankTable l [] p, tabs.front-at (lineCounted m) (lineCount (m .n)) blankCounts l 0 p, moments.table-at (begins m) l p, moments.contents-begin m l)
-        (rows.held-opened (persistedAt m l) (cachedAt m l))
+        rw (tabs.front-at (lineOpened m) (lineCount (m .n)) blankTable l [] p, tabs.front-at (lineCounted m) (lineCount (m .n)) blankCounts l 0 p, moments.table-at (begins m) l p, moments.contents-begin m (lineAt (m .n) l))
+        (rows.held-opened (persistedAt m (lineAt (m .n) l)) (cachedAt m (lineAt (m .n) l)))
 
 -- ---- one line changed
 
@@ -91,13 +92,23 @@ module _ (t : List (List Content)) (cs : List ℕ) (w : Touch) (c : Content) whe
   unfolding countsAfter
   counts-touched h = rw (lt-ltb (w .line) 65 h)
 
-persists-other : (b : Bool) (x l : ℕ) → (l ≡ x → ⊥) → pick b (aLine x) noLine ≡ aLine l → ⊥
+persists-other : (b : Bool) (x l : Line) → (l ≡ x → ⊥) → pick b (aLine x) noLine ≡ aLine l → ⊥
 persists-other true x l ne e = ne (cc)
 persists-other false x l ne e = let z : _≡_ {A = ℕ} 0 1 = cc in omega arith
 
 module _ (b : Bench) (timed : Timed b) (small : b .machine .n ≤ 64) (m : Machine) (w : Touch) (f : Frame (b .machine) m w) where
   abbrev after : Bench
-  after = goesOn b m (persistsOf w)
+  after = goesOn b m (persistsOf (b .machine .n) w)
+
+  -- the line of a number, and the one that is touched
+  abbrev line : ℕ → Line
+  line l = lineAt (b .machine .n) l
+
+  abbrev L : Line
+  L = lineOf (b .machine .n) w
+
+  after-at : (l : ℕ) → l < lineCount (b .machine .n) → getD (tableOf after) l [] ≡ contentsOf after (line l)
+  after-at l p = moments.table-at after l (subst (λ n. l < lineCount n) (sym (f .size)) p) ∙ ap (λ n. contentsOf after (lineAt n l)) (f .size)
 
   size : length (tableOf after) ≡ length (tableOf b)
   size = moments.table-length after ∙ ap lineCount (f .size) ∙ sym (moments.table-length b)
@@ -105,57 +116,58 @@ module _ (b : Bench) (timed : Timed b) (small : b .machine .n ≤ 64) (m : Machi
   -- the lines that are not touched
   others : (l : ℕ) → l < length (tableOf b) → (l ≡ w .line → ⊥) → getD (tableOf after) l [] ≡ getD (tableOf b) l []
   others l p ne =
-      moments.table-at after l (omega (arith, size, moments.table-length after))
-      ∙ moments.contents-kept b timed m (persistsOf w) l (persists-other (w .persisted) (w .line) l ne) (f .kept l (inr ne)) (f .cached l (inr ne))
-      ∙ sym (moments.table-at b l (omega (arith, moments.table-length b)))
+      let q : l < lineCount (b .machine .n) = omega (arith, moments.table-length b) in
+      let un : line l ≡ L → ⊥ = λ e. ne (line-one (b .machine .n) l (w .line) e) in
+      after-at l q
+      ∙ moments.contents-kept b timed m (persistsOf (b .machine .n) w) (line l) (persists-other (w .persisted) L (line l) un) (f .kept (line l) (inr un)) (f .cached (line l) (inr un))
+      ∙ sym (moments.table-at b l q)
 
   -- the line that is
-  touched-row : (row : List Content) (n : ℕ) → w .line < lineCount (b .machine .n) → Held row n (contentsOf b (w .line)) → (p : Bool) → w .persisted ≡ p
-      → Held (rowAfter row n (cachedAt m (w .line)) p) (countAfter row n (cachedAt m (w .line)) p) (contentsOf (goesOn b m (pick p (aLine (w .line)) noLine)) (w .line))
-  touched-row row n q h true e =
-      rw (moments.contents-persisted b m (w .line) (omega (arith, timed .lines)) (f .present e)) (rows.held-cleared row (cachedAt m (w .line)) (h .wide))
-  touched-row row n q h false e =
-      rw (moments.contents-joined b timed m noLine (w .line) (λ z. let y : _≡_ {A = ℕ} 0 1 = cc in omega arith) (f .kept (w .line) (inl e)))
-      (rows.held-joined row n (contentsOf b (w .line)) (cachedAt m (w .line)) h)
+  touched-row : (row : List Content) (n : ℕ) → Held row n (contentsOf b L) → (p : Bool) → w .persisted ≡ p
+      → Held (rowAfter row n (cachedAt m L) p) (countAfter row n (cachedAt m L) p) (contentsOf (goesOn b m (pick p (aLine L) noLine)) L)
+  touched-row row n h true e = rw (moments.contents-persisted b m L (f .present e)) (rows.held-cleared row (cachedAt m L) (h .wide))
+  touched-row row n h false e =
+      rw (moments.contents-joined b timed m noLine L (λ z. let y : _≡_ {A = ℕ} 0 1 = cc in omega arith) (f .kept L (inl e)))
+      (rows.held-joined row n (contentsOf b L) (cachedAt m L) h)
 
   pub tables-after : (t : List (List Content)) (cs : List ℕ) → Tables t cs (tableOf b)
-      → Tables (tableAfter t cs w (cachedAt m (w .line))) (countsAfter t cs w (cachedAt m (w .line))) (tableOf after)
+      → Tables (tableAfter t cs w (cachedAt m L)) (countsAfter t cs w (cachedAt m L)) (tableOf after)
   unfolding tableAfter countsAfter
   tables-after t cs h = by (decLt (w .line) 65)
     where
       this : w .line < length (tableOf b)
-          → Held (rowAfter (getD t (w .line) []) (getD cs (w .line) 0) (cachedAt m (w .line)) (w .persisted))
-          (countAfter (getD t (w .line) []) (getD cs (w .line) 0) (cachedAt m (w .line)) (w .persisted)) (getD (tableOf after) (w .line) [])
+          → Held (rowAfter (getD t (w .line) []) (getD cs (w .line) 0) (cachedAt m L) (w .persisted))
+          (countAfter (getD t (w .line) []) (getD cs (w .line) 0) (cachedAt m L) (w .persisted)) (getD (tableOf after) (w .line) [])
       this p =
           let q : w .line < lineCount (b .machine .n) = omega (arith, moments.table-length b) in
-          rw (moments.table-at after (w .line) (omega (arith, size, moments.table-length after)))
-          (touched-row (getD t (w .line) []) (getD cs (w .line) 0) q (rw (moments.table-at b (w .line) q) at (h .held (w .line) p)) (w .persisted) refl)
+          rw (after-at (w .line) q)
+          (touched-row (getD t (w .line) []) (getD cs (w .line) 0) (rw (moments.table-at b (w .line) q) at (h .held (w .line) p)) (w .persisted) refl)
 
       by : Dec (w .line < 65)
-          → Tables (pick (ltb (w .line) 65) (set t (w .line) (rowAfter (getD t (w .line) []) (getD cs (w .line) 0) (cachedAt m (w .line)) (w .persisted))) t)
-          (pick (ltb (w .line) 65) (set cs (w .line) (countAfter (getD t (w .line) []) (getD cs (w .line) 0) (cachedAt m (w .line)) (w .persisted))) cs) (tableOf after)
+          → Tables (pick (ltb (w .line) 65) (set t (w .line) (rowAfter (getD t (w .line) []) (getD cs (w .line) 0) (cachedAt m L) (w .persisted))) t)
+          (pick (ltb (w .line) 65) (set cs (w .line) (countAfter (getD t (w .line) []) (getD cs (w .line) 0) (cachedAt m L) (w .persisted))) cs) (tableOf after)
       by (yes p) =
           rw (lt-ltb (w .line) 65 p)
-          (tables-line t cs (tableOf b) (tableOf after) (w .line) _ _ h size (omega (arith, moments.table-length b)) others this)
+          (tables-line t cs (tableOf b) (tableOf after) (w .line) _ _ h size (omega (arith, one-head (b .machine .n), moments.table-length b)) others this)
       by (no p) =
           rw (le-ltb (w .line) 65 (omega arith))
-          (tables-still t cs (tableOf b) (tableOf after) h size (λ l q. others l q (λ e. omega (arith, moments.table-length b))))
+          (tables-still t cs (tableOf b) (tableOf after) h size (λ l q. others l q (λ e. omega (arith, one-head (b .machine .n), moments.table-length b))))
 
 -- a taken event that is no crash, as a run turns by it
 pub tables-event : (p : ℕ) (b : Bench) (e : Event) → Timed b → b .machine .n ≤ 64 → length (b .machine .kept) ≡ length (b .machine .nodes)
     → accepted (eventAt p (b .machine) e .answer) ≡ true → (deedOf (e .kind) ≡ crashes → ⊥) → (t : List (List Content)) (cs : List ℕ) → Tables t cs (tableOf b)
-    → Tables (tableAfter t cs (touchIn (b .machine) e) (cachedAt (eventAt p (b .machine) e .machine) (touchIn (b .machine) e .line)))
-    (countsAfter t cs (touchIn (b .machine) e) (cachedAt (eventAt p (b .machine) e .machine) (touchIn (b .machine) e .line)))
+    → Tables (tableAfter t cs (touchIn (b .machine) e) (cachedAt (eventAt p (b .machine) e .machine) (lineOf (eventAt p (b .machine) e .machine .n) (touchIn (b .machine) e))))
+    (countsAfter t cs (touchIn (b .machine) e) (cachedAt (eventAt p (b .machine) e .machine) (lineOf (eventAt p (b .machine) e .machine .n) (touchIn (b .machine) e))))
     (tableOf (turned b (eventAt p (b .machine) e .machine) e (deedOf (e .kind))))
 tables-event p b e timed small k a ne t cs h =
-    rw (steps.turned-on p b (eventAt p (b .machine) e .machine) e a ne)
+    rw (steps.turned-on p b (eventAt p (b .machine) e .machine) e a ne, steps.frame-event p (b .machine) e k a ne .size)
     (tables-after b timed small (eventAt p (b .machine) e .machine) (touchIn (b .machine) e) (steps.frame-event p (b .machine) e k a ne) t cs h)
 
-pub timed-event : (p : ℕ) (b : Bench) (e : Event) → Timed b → length (b .machine .kept) ≡ length (b .machine .nodes) → accepted (eventAt p (b .machine) e .answer) ≡ true
+pub timed-event : (p : ℕ) (b : Bench) (e : Event) → Timed b → accepted (eventAt p (b .machine) e .answer) ≡ true
     → (deedOf (e .kind) ≡ crashes → ⊥) → Timed (turned b (eventAt p (b .machine) e .machine) e (deedOf (e .kind)))
-timed-event p b e timed k a ne =
+timed-event p b e timed a ne =
     rw (steps.turned-on p b (eventAt p (b .machine) e .machine) e a ne)
-    (moments.timed-goes b (eventAt p (b .machine) e .machine) (persistsOf (touchIn (b .machine) e)) timed (steps.frame-event p (b .machine) e k a ne .size))
+    (moments.timed-goes b (eventAt p (b .machine) e .machine) (persistsOf (b .machine .n) (touchIn (b .machine) e)) timed)
 
 -- a crash is a start
 pub tables-crash : (b : Bench) (m : Machine) (e : Event) → deedOf (e .kind) ≡ crashes → m .n ≤ 64

@@ -2,8 +2,8 @@
 use Prim.Native.Nat.{ℕ, _≤_}
 use mathlib.Core.Path.{_≡_}
 use mathlib.Core.List.{List, [], _∷_, _++_}
-use lib.ListN.{length, getD}
-use Rattle.machine.specs.Line.{lineCount}
+use lib.ListN.{length}
+use Rattle.machine.specs.Line.{Line}
 use Rattle.machine.specs.declared.Machine.{Machine}
 use Rattle.schedule.specs.Run.{Bench}
 
@@ -12,5 +12,4 @@ pub record Timed (b : Bench) : Type 0 where
   pub before : List Machine
   pub now : b .past ≡ before ++ (b .machine ∷ [])
   -- every line counts from some moment that has been
-  pub early : (l : ℕ) → getD (b .from) l 0 ≤ length before
-  pub lines : length (b .from) ≡ lineCount (b .machine .n)
+  pub early : (l : Line) → b .from l ≤ length before

@@ -4,11 +4,10 @@ use mathlib.Core.List.{List, _∷_}
 use lib.ListN.{replicate}
 use Rattle.lists.specs.Find.{pick}
 use Rattle.lists.specs.Tab.{front}
-use Rattle.image.specs.Layout.{noContent}
+use Rattle.image.specs.Layout.{noContent, sameContent}
 use Rattle.image.specs.declared.Content.{Content}
-use Rattle.machine.specs.Line.{cachedAt, persistedAt}
+use Rattle.machine.specs.Line.{lineAt, cachedAt, persistedAt}
 use Rattle.machine.specs.declared.Machine.{Machine}
-use Rattle.page.specs.Contents.{sameContent}
 
 unfoldable pub blankTable : List (List Content)
 blankTable = replicate 65 (replicate 16 noContent)
@@ -24,10 +23,10 @@ unfoldable pub openedCount : Content → Content → ℕ
 openedCount p c = pick (sameContent p c) 1 2
 
 abbrev pub lineOpened : Machine → ℕ → List Content
-lineOpened m l = openedRow (persistedAt m l) (cachedAt m l)
+lineOpened m l = let L = lineAt (m .n) l in openedRow (persistedAt m L) (cachedAt m L)
 
 abbrev pub lineCounted : Machine → ℕ → ℕ
-lineCounted m l = openedCount (persistedAt m l) (cachedAt m l)
+lineCounted m l = let L = lineAt (m .n) l in openedCount (persistedAt m L) (cachedAt m L)
 
 -- the first k lines opened
 unfoldable pub openedTable : Machine → ℕ → List (List Content)

@@ -12,7 +12,7 @@ use Rattle.answer.specs.declared.Answer.the-variants.{Taken, Contents, Endings}
 use Rattle.image.specs.Layout.{contentAt, noContents}
 use Rattle.image.specs.declared.Content.{Content}
 use Rattle.image.specs.declared.Image.{Image}
-use Rattle.machine.specs.Line.{lineCount, nodeLine}
+use Rattle.machine.specs.Line.{ofHead, ofNode, lineCount, numberOf}
 use Rattle.endtable.specs.Opened.{blankCounts}
 
 -- ---- how many
@@ -67,12 +67,16 @@ turnedOf cs (suc n) ps = elim (ltb (suc (getD ps n 0)) (getD cs n 0)) [
 unfoldable pub pickedAt : List (List Content) → List ℕ → ℕ → Content
 pickedAt t ps l = contentAt (getD t l []) (getD ps l 0)
 
-abbrev pub pickedNode : List (List Content) → List ℕ → ℕ → Content
-pickedNode t ps i = pickedAt t ps (nodeLine i)
+abbrev pub pickedNode : List (List Content) → List ℕ → ℕ → ℕ → Content
+pickedNode t ps n i = pickedAt t ps (numberOf n (ofNode i))
 
 -- one entry a line, as an image of n nodes
 unfoldable pub pickedImage : List (List Content) → List ℕ → ℕ → Image
-pickedImage t ps n = record { n = n; head = pickedAt t ps 0 .index; nodes = front (pickedNode t ps) n noContents }
+pickedImage t ps n = record {
+  n = n;
+  head = pickedAt t ps (numberOf n (ofHead 0)) .index;
+  nodes = front (pickedNode t ps n) n noContents;
+}
 
 -- the choices of all lines in ending k of n nodes, and the ending picked by them
 unfoldable pub picksOf : List ℕ → ℕ → ℕ → List ℕ

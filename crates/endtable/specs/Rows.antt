@@ -5,9 +5,8 @@ use mathlib.Core.List.{List}
 use lib.ListN.{set}
 use lib.Dec.{ltb}
 use Rattle.lists.specs.Find.{pick, least}
-use Rattle.image.specs.Layout.{contentAt}
+use Rattle.image.specs.Layout.{contentAt, sameContent}
 use Rattle.image.specs.declared.Content.{Content}
-use Rattle.page.specs.Contents.{sameContent}
 
 -- whether the row has c at place j
 abbrev pub isAt : List Content → Content → ℕ → Bool

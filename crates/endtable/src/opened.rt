@@ -2,10 +2,10 @@
 ghost use mathlib.Core.Path.{_≡_};
 ghost use Prim.Native.Nat.{ℕ, _<_, _≤_};
 ghost use Rattle.machine.specs.Record.{contentOf};
-ghost use Rattle.machine.specs.Line.{cachedAt, headContent, lineCount};
+ghost use Rattle.machine.specs.Line.{cachedAt, headContent, lineAt, lineCount};
 ghost use Rattle.endtable.specs.Opened.{blankTable, blankCounts, openedRow, openedCount, openedTable, openedCounts};
-use crate::row::is_same;
 use image::Content;
+use image::is_same;
 use machine::Machine;
 use machine::Node;
 
@@ -34,7 +34,7 @@ pub fn head_content(index: u32) -> Content
 // The cached content of line l.
 pub fn cached_at(m: Machine, l: usize) -> Content
     requires { ⌜ l < 65 ⌝ }
-    ensures { λ r. ⌜ r ≡ cachedAt m l ⌝ }
+    ensures { λ r. ⌜ r ≡ cachedAt m (lineAt (m .n) l) ⌝ }
 {
     if l == 0 {
         return head_content(m.index);

@@ -2,22 +2,9 @@
 // A count of 17 says that there were more; the row then holds the first sixteen.
 ghost use mathlib.Core.Path.{_≡_};
 ghost use Prim.Native.Nat.{ℕ, _<_, _≤_};
-ghost use Rattle.page.specs.Contents.{sameContent};
 ghost use Rattle.endtable.specs.Rows.{seatOf, rowAfter, countAfter};
 use image::Content;
-
-// Whether two contents are equal.
-pub fn is_same(a: Content, b: Content) -> bool
-    ensures { λ r. ⌜ r ≡ sameContent a b ⌝ }
-{
-    if a.linked != b.linked {
-        return false;
-    }
-    if a.index != b.index {
-        return false;
-    }
-    a.item == b.item
-}
+use image::is_same;
 
 // The first of the row's n contents that equals c, and n where none does.
 pub fn seat(row: [Content; 16], n: usize, c: Content) -> usize

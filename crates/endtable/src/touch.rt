@@ -1,5 +1,6 @@
 // Which line an event touches, and whether it persists it or stores to it. No event touches two lines, but a crash.
 ghost use mathlib.Core.Path.{_≡_};
+ghost use Prim.Native.Nat.{_≤_};
 ghost use Rattle.endtable.specs.Touches.{touchIn, stepTouch};
 use machine::Event;
 use machine::Machine;
@@ -11,12 +12,13 @@ pub struct Touch {
     pub persisted: bool,
 }
 
-// The line that a thread's next step touches, by its step number.
-fn step_touch(v: Thread) -> Touch
-    ensures { λ r. ⌜ r ≡ stepTouch v ⌝ }
+// The line that a thread's next step touches, by its step number, where the nodes stand behind so many head lines.
+fn step_touch(v: Thread, heads: usize) -> Touch
+    requires { ⌜ heads ≤ 64 ⌝ }
+    ensures { λ r. ⌜ r ≡ stepTouch heads v ⌝ }
 {
     let s = v.step;
-    let line = v.node as usize + 1;
+    let line = heads + v.node as usize;
     match s {
         2 | 4 | 7 | 9 => Touch {
             line,
@@ -51,7 +53,7 @@ pub fn touched(m: Machine, e: Event) -> Touch
         3 => {
             if number < 8 {
                 let v = m.threads[number];
-                return step_touch(v);
+                return step_touch(v, Machine::HEADS);
             }
             Touch {
                 line: 65,

@@ -17,7 +17,7 @@ use Rattle.image.specs.declared.Content.{Content}
 use Rattle.image.specs.declared.Image.{Image}
 use Rattle.machine.specs.Record.{none, top, node, thread, kept, contentOf, zeroNode, zeroThread, blankNodes, idleThread, idleThreads, withIndex, atStep, putNode, putThread, putFree, putTail, putHead}
 use Rattle.machine.specs.Stage.{Stage, noStep, A1, A2, A3, A4, A5, A6, A7, A8, A9, A10, A11, A12, D1, D2, D3, D4, D5, D6, D7, stage}
-use Rattle.machine.specs.Line.{persist, persisted}
+use Rattle.machine.specs.Line.{Line, ofHead, ofNode, lineAt, persist, persisted}
 use Rattle.machine.specs.Retire.{left, freed, released, releasedAt, retired, retiredHeld, going, answering}
 use Rattle.answer.specs.declared.Answer.the-variants.{WornOut}
 use Rattle.machine.specs.Start.{startWith, startOf, startNode, queueOf}
@@ -92,9 +92,10 @@ small-tail m x s = record { cached = s .cached; saved = s .saved; mark = s .mark
 small-head : (m : Machine) (h x : ℕ) → Small m → x < 4294967296 → Small (putHead m h x)
 small-head m h x s l = record { cached = s .cached; saved = s .saved; mark = l; savedMark = s .savedMark; items = s .items }
 
-small-persist : (m : Machine) (l : ℕ) → Small m → Small (persist m l)
-small-persist m zero s = record { cached = s .cached; saved = s .saved; mark = s .mark; savedMark = s .mark; items = s .items }
-small-persist m (suc i) s = record {
+small-persist : (m : Machine) (l : Line) → Small m → Small (persist m l)
+small-persist m (ofHead (suc k)) s = s
+small-persist m (ofHead zero) s = record { cached = s .cached; saved = s .saved; mark = s .mark; savedMark = s .mark; items = s .items }
+small-persist m (ofNode i) s = record {
   cached = s .cached;
   saved = λ j. set-all Little (m .kept) noContent (contentOf (node m i)) (s .saved) (s .cached i) i j;
   mark = s .mark;
@@ -159,7 +160,7 @@ module _ (m : Machine) (k : ℕ) (s : Small m) where
       small-pick (eqb (node m (thread m k .tail) .next) none) _ _
       (small-going _ k 9 (small-node m s (thread m k .tail) _ (s .cached (thread m k .tail)))) (small-going m k 12 s)
   small-step A9 = small-going _ k 10 (small-node m s (thread m k .node) _ (s .cached (thread m k .node)))
-  small-step A10 = small-going _ k 11 (small-persist m (suc (thread m k .node)) s)
+  small-step A10 = small-going _ k 11 (small-persist m (ofNode (thread m k .node)) s)
   small-step A11 =
       small-left (pick (eqb (m .tail) (thread m k .tail)) (putTail m (thread m k .node)) m) k _
       (small-passed m (eqb (m .tail) (thread m k .tail)) (thread m k .node) s)
@@ -168,12 +169,12 @@ module _ (m : Machine) (k : ℕ) (s : Small m) where
       (small-passed m (eqb (m .tail) (thread m k .tail)) (node m (thread m k .tail) .next) s)
   small-step D1 = small-thread m s k _ (s .items k)
   small-step D2 = small-thread m s k _ (s .items k)
-  small-step D3 = small-left (persist m 0) k _ (small-persist m 0 s)
+  small-step D3 = small-left (persist m (ofHead 0)) k _ (small-persist m (ofHead 0) s)
   small-step D4 =
       small-pick (both (eqb (m .head) (thread m k .head)) (eqb (m .index) (thread m k .index))) _ _
       (small-going _ k 17 (small-head m (thread m k .next) _ s (s .cached (thread m k .next) .0))) (small-going m k 13 s)
   small-step D5 = small-thread m s k _ (s .cached (thread m k .next) .1)
-  small-step D6 = small-going _ k 19 (small-persist m 0 s)
+  small-step D6 = small-going _ k 19 (small-persist m (ofHead 0) s)
   small-step D7 = small-left (retiredHeld m k) k (thread m k .head) (small-held m k s)
 
 -- ---- starts and events
@@ -206,5 +207,5 @@ small-done m e unknown l s = s
 small-done m e enqueues l s = small-thread m s (e .number) _ l
 small-done m e dequeues l s = small-thread m s (e .number) _ (omega arith)
 small-done m e steps l s = small-step m (e .number) s (stage m (e .number))
-small-done m e writesBack l s = small-persist m (e .number) s
+small-done m e writesBack l s = small-persist m (lineAt (m .n) (e .number)) s
 small-done m e crashes l s = small-start (persisted m) (m .t) (s .saved) (s .savedMark)

@@ -11,17 +11,18 @@ use Rattle.lists.specs.Tab.{tab, front}
 use Rattle.answer.specs.Answers.{accepted}
 use Rattle.answer.specs.declared.Answer.{Answer}
 use Rattle.image.specs.Bytes.{at4}
-use Rattle.image.specs.Layout.{noContent, noContents, contentAt, readContent, readNodes, nodePlace, imageIn}
+use Rattle.image.specs.Layout.{noContent, noContents, contentAt, readContent, readNodes, nodePlace, imageIn, sameContent}
 use Rattle.image.specs.declared.Content.{Content}
 use Rattle.image.specs.declared.Image.{Image}
-use Rattle.machine.specs.Line.{lineCount, cachedAt, persistedAt}
+use Rattle.machine.specs.Line.{Line, ofHead, ofNode, headLines, lineCount, lineAt, cachedAt, persistedAt}
 use Rattle.machine.specs.Event.{Deed, unknown, enqueues, dequeues, steps, writesBack, crashes, deedOf}
 use Rattle.machine.specs.declared.Machine.{Machine}
+use Rattle.machine.proofs.LineLaws.{one-head}
 use Rattle.machine.specs.declared.Event.{Event}
 use Rattle.machine.proofs.AnswerLaws as starts
 use Rattle.schedule.specs.Layout.{scheduleIn, eventIn, eventsIn, threadsIn, nodesIn, countIn}
 use Rattle.schedule.specs.Run.{Bench, Ran, run, ran, turned, opened}
-use Rattle.page.specs.Contents.{sameContent, joins, gathered, contentsOf, tableOf}
+use Rattle.page.specs.Contents.{joins, gathered, contentsOf, tableOf}
 use Rattle.page.specs.Endings.{choices, product, imageOf, ending}
 use Rattle.page.specs.Printed.{firstLine, endingLine}
 use Rattle.page.specs.Refusals.{tableIn, tableAnswer, pageAnswer, endingCount, endingIn}
@@ -132,23 +133,25 @@ unfolding gathered
 gathered-all [] seen h p = h
 gathered-all (c ∷ l) seen h p = gathered-all l (joins seen c) (joins-all seen c h (p .0)) (p .1)
 
-cached-little : (m : Machine) → Small m → (l : ℕ) → Little (cachedAt m l)
-cached-little m s zero = (s .mark, omega arith)
-cached-little m s (suc i) = s .cached i
+cached-little : (m : Machine) → Small m → (l : Line) → Little (cachedAt m l)
+cached-little m s (ofHead zero) = (s .mark, omega arith)
+cached-little m s (ofHead (suc k)) = (omega arith, omega arith)
+cached-little m s (ofNode i) = s .cached i
 
-persisted-little : (m : Machine) → Small m → (l : ℕ) → Little (persistedAt m l)
-persisted-little m s zero = (s .savedMark, omega arith)
-persisted-little m s (suc i) = s .saved i
+persisted-little : (m : Machine) → Small m → (l : Line) → Little (persistedAt m l)
+persisted-little m s (ofHead zero) = (s .savedMark, omega arith)
+persisted-little m s (ofHead (suc k)) = (omega arith, omega arith)
+persisted-little m s (ofNode i) = s .saved i
 
-map-all : (l : ℕ) (ms : List Machine) → SmallAll ms → AllLittle (map (λ m. cachedAt m l) ms)
+map-all : (l : Line) (ms : List Machine) → SmallAll ms → AllLittle (map (λ m. cachedAt m l) ms)
 map-all l [] h = tt
 map-all l (m ∷ ms) h = (cached-little m (h .0) l, map-all l ms (h .1))
 
-contents-all : (b : Bench) → SmallBench b → (l : ℕ) → AllLittle (contentsOf b l)
+contents-all : (b : Bench) → SmallBench b → (l : Line) → AllLittle (contentsOf b l)
 unfolding contentsOf
 contents-all b h l =
     gathered-all _ (persistedAt (b .machine) l ∷ []) (persisted-little (b .machine) (h .machine) l, tt)
-    (map-all l (drop (getD (b .from) l 0) (b .past)) (all-drop (getD (b .from) l 0) (b .past) (h .past)))
+    (map-all l (drop (b .from l) (b .past)) (all-drop (b .from l) (b .past) (h .past)))
 
 among-little : (l : List Content) (c : Content) → AllLittle l → Among c l → Little c
 among-little [] c h a = absurd a
@@ -163,14 +166,15 @@ module _ (b : Bench) (h : SmallBench b) (k : ℕ) (lt : k < product (tableOf b))
 
   chosen-little : (j : ℕ) → j < lineCount (b .machine .n) → Little (contentAt chosen j)
   chosen-little j p =
-      among-little (contentsOf b j) (contentAt chosen j) (contents-all b h j)
+      among-little (contentsOf b (lineAt (b .machine .n) j)) (contentAt chosen j) (contents-all b h (lineAt (b .machine .n) j))
       (subst (λ (x : List Content). Among (contentAt chosen j) x) (moments.table-at b j p) (choice-in (tableOf b) k lt j (omega (arith, moments.table-length b))))
 
   ending-short : k < 65536 → b .machine .n ≤ 64 → length (endingLine k (imageOf (b .machine .n) chosen)) ≤ lineRoom 64
   unfolding imageOf
   ending-short q n =
-      short.image-short 64 k _ (omega arith) q (chosen-little 0 (omega arith) .0)
-      (short.items-small _ (λ i. front-all Little (λ i. contentAt chosen (suc i)) (b .machine .n) noContents noContent (λ j p. chosen-little (suc j) (omega arith)) no-content i .1))
+      short.image-short 64 k _ (omega arith) q (chosen-little 0 (omega (arith, one-head (b .machine .n))) .0)
+      (short.items-small _ (λ i. front-all Little (λ i. contentAt chosen (headLines (b .machine .n) + i)) (b .machine .n) noContents noContent
+      (λ j p. chosen-little (headLines (b .machine .n) + j) (omega arith)) no-content i .1))
       n
 
 -- ---- a line

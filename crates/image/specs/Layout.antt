@@ -19,6 +19,10 @@ noContents = replicate 64 noContent
 abbrev pub contentAt : List Content → ℕ → Content
 contentAt l i = getD l i noContent
 
+-- whether two contents are equal
+unfoldable pub sameContent : Content → Content → Bool
+sameContent a b = both (eqb (a .linked) (b .linked)) (both (eqb (a .index) (b .index)) (eqb (a .item) (b .item)))
+
 -- bytes 0 to 4 are these: a mark of three letters, and version 1
 unfoldable pub marked : ℕ → ℕ → ℕ → List ℕ → Bool
 marked a b c s =

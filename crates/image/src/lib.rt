@@ -3,6 +3,7 @@ use answer::Answer;
 
 pub mod blank;
 pub mod recovered;
+pub mod same;
 
 pub use blank::blank_image;
 pub use blank::no_contents;
@@ -12,6 +13,7 @@ pub use recovered::first_unclear;
 pub use recovered::is_recovered;
 pub use recovered::sound_of;
 pub use recovered::startable_of;
+pub use same::is_same;
 
 // The content of a node's line.
 pub struct Content {

@@ -4,7 +4,6 @@ use mathlib.Core.Path.{_≡_}
 use mathlib.Core.List.{List, [], _∷_, _++_}
 use mathlib.Core.Logic.{_≢_, _⊎_}
 use Rattle.answer.specs.declared.Answer.{Answer}
-use Rattle.machine.specs.Line.{lineCount}
 use Rattle.machine.specs.Event.{Deed, crashes, deedOf}
 use Rattle.machine.specs.declared.Event.{Event}
 
@@ -12,12 +11,12 @@ use Rattle.machine.specs.declared.Event.{Event}
 abbrev pub writeBack : ℕ → Event
 writeBack l = record { kind = 4; number = l; item = 0 }
 
--- l′ is l with write-backs of the lines of n nodes added, any number, at any place; a and a′ are the answers that the events of
+-- l′ is l with write-backs of the first n lines added, any number, at any place; a and a′ are the answers that the events of
 -- the two gave, those of the recorded ones being the same
 pub data Adds (n : ℕ) : List Event → List Answer → List Event → List Answer → Type 0 where
   ends : Adds n [] [] [] []
   keeps : {e : Event} {x : Answer} {l l′ : List Event} {a a′ : List Answer} → Adds n l a l′ a′ → Adds n (e ∷ l) (x ∷ a) (e ∷ l′) (x ∷ a′)
-  adds : (k : ℕ) → k < lineCount n → {x : Answer} {l l′ : List Event} {a a′ : List Answer} → Adds n l a l′ a′ → Adds n l a (writeBack k ∷ l′) (x ∷ a′)
+  adds : (k : ℕ) → k < n → {x : Answer} {l l′ : List Event} {a a′ : List Answer} → Adds n l a l′ a′ → Adds n l a (writeBack k ∷ l′) (x ∷ a′)
 
 abbrev pub NoCrash : List Event → Type 0
 NoCrash [] = Unit {0}

@@ -10,7 +10,7 @@ use Rattle.answer.specs.declared.Answer.{Answer}
 use Rattle.image.specs.Layout.{contentAt, noContents}
 use Rattle.image.specs.declared.Image.{Image}
 use Rattle.lists.specs.Tab.{front}
-use Rattle.machine.specs.Line.{persisted}
+use Rattle.machine.specs.Line.{lineCount, persisted}
 use Rattle.machine.specs.Start.{startAnswer, startOf, blankMachine}
 use Rattle.machine.specs.declared.Machine.{Machine}
 use Rattle.machine.specs.declared.Event.{Event}
@@ -38,7 +38,7 @@ imageLeft m = record { n = m .n; head = persisted m .head; nodes = front (conten
 pub record Leaves (s : List ℕ) (g : Image) : Type 0 where
   pub events : List Event
   pub taken : accepted (runOf s events .answer) ≡ true
-  pub added : AddsLate (nodesIn s) (eventsIn s) (ran s .replies) events (runOf s events .replies)
+  pub added : AddsLate (lineCount (nodesIn s)) (eventsIn s) (ran s .replies) events (runOf s events .replies)
   pub left : imageLeft (runOf s events .bench .machine) ≡ g
 
 -- the first half: a page that is not refused holds each image that a crash can leave, once, and no other

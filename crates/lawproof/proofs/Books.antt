@@ -26,6 +26,7 @@ use Rattle.model.specs.Bench.{Bench, closes, noteMove, turn, bench, opening}
 use Rattle.model.proofs.Basics.{upd-same, upd-other}
 use Rattle.tied.specs.Shown.{imageShown, Narrow, answerOf, eventBy, eventShown}
 use Rattle.tied.proofs.Accepted.{sound-is, shownT, fit-of}
+use Rattle.tied.proofs.Begins.{size-is}
 use Rattle.tied.proofs.Bench.{BenchT}
 use Rattle.tied.proofs.Turn as tied
 use Rattle.tied.proofs.Run.{run-taken, first-taken, opensT}
@@ -84,7 +85,7 @@ module _ (b : schedule.Bench) (B : Bench) (r : BenchT b B) (ops : List Operation
         by (core.item v) f = said (gave v) refl
 
     pub turnBook : (δ : Deed) → accepted (eventAnswer (B .now) m e δ) ≡ true
-        → BookT (turned b (machine.done m e δ .machine) e δ) (turn B (eventBy δ e)) (noted (B .now) e (machine.done m e δ .answer) ops δ)
+        → BookT (turned b (machine.done m e δ .machine) e δ) (turn B (eventBy (m .n) δ e)) (noted (B .now) e (machine.done m e δ .answer) ops δ)
     turnBook unknown a = no-way (sym a)
     turnBook enqueues a = record {
       book = beginT ops (B .book) (c .thr) _ t (k .book) (λ u ne. upd-other (c .thr) t (a1 (e .item)) ne) lt (B .now) (puts (e .item))
@@ -110,14 +111,20 @@ module _ (b : schedule.Bench) (B : Bench) (r : BenchT b B) (ops : List Operation
 -- ---- the run; the number of its first event is the bench's
 
 pub runBook : (l : List Event) (b : schedule.Bench) (B : Bench) → BenchT b B → (ops : List Operation) → BookT b B ops → accepted (run (B .now) b l .answer) ≡ true
-    → BookT (run (B .now) b l .bench) (bench B (map eventShown l)) (operations (B .now) l (run (B .now) b l .replies) ops)
+    → BookT (run (B .now) b l .bench) (bench B (map (eventShown (b .machine .n)) l)) (operations (B .now) l (run (B .now) b l .replies) ops)
 unfolding run bench operations
 runBook [] b B r ops k a = k
 runBook (e ∷ l) b B r ops k a =
-    subst (λ (R : Ran). BookT (R .bench) (bench B (map eventShown (e ∷ l))) (operations (B .now) (e ∷ l) (R .replies) ops)) (sym is)
-    (runBook l _ (turn B (eventShown e)) (tied.turns b B r (B .now) e (deedOf (e .kind)) f) _ (turnBook b B r ops k e (deedOf (e .kind)) f)
-    (subst (λ (R : Ran). accepted (R .answer) ≡ true) is a))
+    subst (λ (R : Ran). BookT (R .bench) (bench B (map (eventShown (b .machine .n)) (e ∷ l))) (operations (B .now) (e ∷ l) (R .replies) ops)) (sym is)
+    (subst (λ n. BookT (run (suc (B .now)) b′ l .bench) (bench (turn B (eventShown (b .machine .n) e)) (map (eventShown n) l))
+    (operations (suc (B .now)) l (run (suc (B .now)) b′ l .replies) (noted (B .now) e (machine.done (b .machine) e (deedOf (e .kind)) .answer) ops (deedOf (e .kind)))))
+    (tied.turned-size b B r (B .now) e (deedOf (e .kind)) f)
+    (runBook l b′ (turn B (eventShown (b .machine .n) e)) (tied.turns b B r (B .now) e (deedOf (e .kind)) f) _ (turnBook b B r ops k e (deedOf (e .kind)) f)
+    (subst (λ (R : Ran). accepted (R .answer) ≡ true) is a)))
   where
+    b′ : schedule.Bench
+    b′ = turned b (machine.done (b .machine) e (deedOf (e .kind)) .machine) e (deedOf (e .kind))
+
     f : accepted (eventAnswer (B .now) (b .machine) e (deedOf (e .kind))) ≡ true
     f = first-taken (B .now) b e l a
 
@@ -136,5 +143,7 @@ module _ (g : Image) (t : ℕ) (a : accepted (startAnswer g t) ≡ true) (w : Na
       record { book = emptyT _ (λ u. refl); first = queue-shown g t (imageShown g t) i (fit-of g t (imageShown g t) i s) }
 
   pub startBook : (l : List Event) → accepted (run 0 (begins (startOf g t)) l .answer) ≡ true
-      → BookT (run 0 (begins (startOf g t)) l .bench) (bench (opening (imageShown g t)) (map eventShown l)) (operations 0 l (run 0 (begins (startOf g t)) l .replies) [])
-  startBook l h = runBook l (begins (startOf g t)) (opening (imageShown g t)) (opensT g t a w) [] opensBook h
+      → BookT (run 0 (begins (startOf g t)) l .bench) (bench (opening (imageShown g t)) (map (eventShown (g .n)) l)) (operations 0 l (run 0 (begins (startOf g t)) l .replies) [])
+  startBook l h =
+      subst (λ n. BookT (run 0 (begins (startOf g t)) l .bench) (bench (opening (imageShown g t)) (map (eventShown n) l)) (operations 0 l (run 0 (begins (startOf g t)) l .replies) []))
+      (size-is g t) (runBook l (begins (startOf g t)) (opening (imageShown g t)) (opensT g t a w) [] opensBook h)

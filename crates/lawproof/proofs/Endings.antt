@@ -3,7 +3,7 @@ use mathlib.Core.Path.{_≡_, refl, sym, ap, subst, _∙_}
 use mathlib.Core.Bool.{true}
 use mathlib.Core.List.{List, [], _∷_, map}
 use mathlib.Core.Logic.{inl, inr}
-use Prim.Native.Nat.{ℕ, zero, suc, _≤_, _<_}
+use Prim.Native.Nat.{ℕ, zero, suc, _+_, _≤_, _<_}
 use native.Mathlib.Omega.{arith}
 use lib.ListN.{getD}
 use Rattle.lists.proofs.TabLaws.{front-at}
@@ -12,7 +12,9 @@ use Rattle.image.specs.declared.Content.{Content}
 use Rattle.image.specs.declared.Image.{Image}
 use Rattle.image.specs.Layout.{noContent, noContents, contentAt}
 use Rattle.machine.specs.Record.{top}
-use Rattle.machine.specs.Line.{lineCount}
+use Rattle.machine.specs.Line as memory
+use Rattle.machine.specs.Line.{numberOf}
+use Rattle.machine.proofs.LineLaws.{LineIn, one-head}
 use Rattle.machine.specs.Start.{startOf, startAnswer, blankMachine}
 use Rattle.machine.specs.declared.Machine.{Machine}
 use Rattle.machine.specs.declared.Event.{Event}
@@ -47,7 +49,7 @@ use Rattle.lawproof.proofs.Books.{startBook}
 
 -- c takes for each of the bench's lines one of its contents
 abbrev pub Chosen : schedule.Bench → List Content → Type 0
-Chosen b c = (k : ℕ) → k < lineCount (b .machine .n) → Among (contentAt c k) (contentsOf b k)
+Chosen b c = (k : memory.Line) → LineIn (b .machine .n) k → Among (contentAt c (numberOf (b .machine .n) k)) (contentsOf b k)
 
 -- ---- contents
 
@@ -82,15 +84,19 @@ module _ (b : schedule.Bench) (B : Bench) (r : BenchT b B) (c : List Content) (p
   unfolding imageOf
   e-size = refl
 
-  e-at : (i : ℕ) → i < m .n → contentAt (e .nodes) i ≡ contentAt c (suc i)
+  e-at : (i : ℕ) → i < m .n → contentAt (e .nodes) i ≡ contentAt c (memory.headLines (m .n) + i)
   unfolding imageOf
-  e-at i h = front-at (λ i. contentAt c (suc i)) (m .n) noContents i noContent h
+  e-at i h = front-at (λ i. contentAt c (memory.headLines (m .n) + i)) (m .n) noContents i noContent h
 
-  small : (k : ℕ) → k < lineCount (m .n) → Small (contentAt c k)
-  small k h = among-small (contentsOf b k) (contentAt c k) (r .lists .flags k h) (pick k h)
+  -- the content that line k has in the ending
+  abbrev at : memory.Line → Content
+  at k = contentAt c (numberOf (m .n) k)
 
-  there : (k : ℕ) → k < lineCount (m .n) → hasNode (shownContent (contentAt c k)) (B .mach .hist (lineShown k))
-  there k h = subst (hasNode (shownContent (contentAt c k))) (sym (r .lists .lists k h)) (among-shown (contentsOf b k) (contentAt c k) (pick k h))
+  small : (k : memory.Line) → LineIn (m .n) k → Small (at k)
+  small k h = among-small (contentsOf b k) (at k) (r .lists .flags k h) (pick k h)
+
+  there : (k : memory.Line) → LineIn (m .n) k → hasNode (shownContent (at k)) (B .mach .hist (lineShown k))
+  there k h = subst (hasNode (shownContent (at k))) (sym (r .lists .lists k h)) (among-shown (contentsOf b k) (at k) (pick k h))
 
   E-at : (i : ℕ) → i < m .n → E .at i ≡ shownContent (contentAt (e .nodes) i)
   unfolding imageShown imageOf
@@ -105,7 +111,7 @@ module _ (b : schedule.Bench) (B : Bench) (r : BenchT b B) (c : List Content) (p
   E-head = refl
 
   small-at : (i : ℕ) → i < m .n → Small (contentAt (e .nodes) i)
-  small-at i h = subst Small (sym (e-at i h)) (small (suc i) (omega arith))
+  small-at i h = subst Small (sym (e-at i h)) (small (memory.ofNode i) h)
 
   pub chosenT : ImageT e (m .t) E
   chosenT = record {
@@ -114,23 +120,23 @@ module _ (b : schedule.Bench) (B : Bench) (r : BenchT b B) (c : List Content) (p
     head = E-head;
     at = λ i h. E-at i (omega (arith, e-size));
     flag = λ i h. small-at i (omega (arith, e-size)) .0;
-    narrow-head = subst (λ x. x ≤ top) (sym e-head) (small 0 (omega arith) .1);
+    narrow-head = subst (λ x. x ≤ top) (sym e-head) (small (memory.ofHead 0) (omega (arith, one-head (m .n))) .1);
     narrow = λ i h. small-at i (omega (arith, e-size)) .1;
   }
 
   -- an ending of the abstract machine
   pub is-ending : Ending (B .mach) E
-  is-ending = record { conf = E-conf ∙ sym (r .tied .conf); lines = at }
+  is-ending = record { conf = E-conf ∙ sym (r .tied .conf); lines = has }
     where
-      at : (l : Line) → Within (B .mach .core .conf) l → hasNode (imageHas E l) (B .mach .hist l)
-      at (ofHead zero) h =
-          let hn = there 0 (omega arith) in
+      has : (l : Line) → Within (B .mach .core .conf) l → hasNode (imageHas E l) (B .mach .hist l)
+      has (ofHead zero) h =
+          let hn = there (memory.ofHead 0) (omega (arith, one-head (m .n))) in
           subst (λ x. hasNode x (B .mach .hist (ofHead 0)))
           (r .kept .all .pinv .head .plain 0 h (shownContent (contentAt c 0)) hn ∙ ap core.hd (sym (E-head ∙ e-head))) hn
-      at (ofHead (suc k)) h = let z : suc k < 1 = subst (λ (c : Conf). suc k < headLines c) (r .tied .conf) h in absurd (omega arith)
-      at (ofNode i) h =
+      has (ofHead (suc k)) h = let z : suc k < 1 = subst (λ (c : Conf). suc k < headLines c) (r .tied .conf) h in absurd (omega arith)
+      has (ofNode i) h =
           let hi : i < m .n = subst (λ (c : Conf). i < c .nodes) (r .tied .conf) h in
-          subst (λ x. hasNode x (B .mach .hist (ofNode i))) (sym (E-at i hi ∙ ap shownContent (e-at i hi))) (there (suc i) (omega arith))
+          subst (λ x. hasNode x (B .mach .hist (ofNode i))) (sym (E-at i hi ∙ ap shownContent (e-at i hi))) (there (memory.ofNode i) hi)
 
 -- ---- every ending of an accepted run
 
@@ -142,7 +148,7 @@ module _ (g : Image) (t : ℕ) (a : accepted (startAnswer g t) ≡ true) (w : Na
   G = imageShown g t
 
   abbrev M : Bench
-  M = bench (opening G) (map eventShown l)
+  M = bench (opening G) (map (eventShown (g .n)) l)
 
   -- what the two benches show in the end is the same
   ends : BenchT (R .bench) M
@@ -154,7 +160,7 @@ module _ (g : Image) (t : ℕ) (a : accepted (startAnswer g t) ≡ true) (w : Na
     left = imageOf (R .bench .machine .n) c
 
     both-halves : Fit (imageShown left (R .bench .machine .t)) × law.Lawful (M .book .op) (M .book .count) (M .first) (recovery.itemsOf (imageShown left (R .bench .machine .t)))
-    both-halves = demand3b G (fits g t a w 0 l) (tidies g t a w 0 l) (map eventShown l) (run-takes g t a w 0 l all) (imageShown left (R .bench .machine .t)) (is-ending (R .bench) M ends c pick)
+    both-halves = demand3b G (fits g t a w 0 l) (tidies g t a w 0 l) (map (eventShown (g .n)) l) (run-takes g t a w 0 l all) (imageShown left (R .bench .machine .t)) (is-ending (R .bench) M ends c pick)
 
     -- none of 4, 3, 6, 7, 8 refuses it
     pub ending-starts : accepted (startAnswer left t) ≡ true

@@ -1,5 +1,5 @@
 -- Demand 3's second half: each ending of a page that is not refused recovers, and to a lawful queue.
-use mathlib.Core.Path.{_≡_, refl, sym, subst, _∙_}
+use mathlib.Core.Path.{_≡_, refl, sym, ap, subst, _∙_}
 use mathlib.Core.Bool.{Bool, true, false}
 use mathlib.Core.List.{List, []}
 use Prim.Native.Nat.{ℕ, _<_}
@@ -11,7 +11,8 @@ use Rattle.answer.specs.Answers.{accepted}
 use Rattle.answer.specs.declared.Answer.{Answer}
 use Rattle.image.specs.declared.Content.{Content}
 use Rattle.image.specs.Layout.{contentAt}
-use Rattle.machine.specs.Line.{lineCount}
+use Rattle.machine.specs.Line.{lineCount, lineAt, numberOf}
+use Rattle.machine.proofs.LineLaws.{number-in, line-number}
 use Rattle.schedule.specs.Layout.{scheduleIn, scheduleAnswer, eventsIn}
 use Rattle.schedule.specs.Run.{Bench, ran}
 use Rattle.page.specs.Contents.{contentsOf, tableOf}
@@ -38,8 +39,12 @@ page-parts s = by (accepted (scheduleAnswer s)) refl (accepted (ran s .answer)) 
 -- a choice of the table is one content a line
 pub table-chosen : (b : Bench) (k : ℕ) → k < product (tableOf b) → Chosen b (getD (choices (tableOf b)) k [])
 unfolding tableOf
-table-chosen b k h l hl = subst (Among (contentAt (getD (choices (tableOf b)) k []) l)) (getD-tab (contentsOf b) (lineCount (b .machine .n)) l [] hl)
-    (choice-picks (tableOf b) k h l (omega (arith, length-tab (contentsOf b) (lineCount (b .machine .n)))))
+table-chosen b k h line hl =
+    let n = b .machine .n in
+    let l = numberOf n line in
+    let f : ℕ → List Content = λ l. contentsOf b (lineAt n l) in
+    subst (Among (contentAt (getD (choices (tableOf b)) k []) l)) (getD-tab f (lineCount n) l [] (number-in n line hl) ∙ ap (contentsOf b) (line-number n line hl))
+    (choice-picks (tableOf b) k h l (omega (arith, number-in n line hl, length-tab f (lineCount n))))
 
 -- of the schedule alone: its bytes and its events are accepted, and the choice may be any
 module _ (s : List ℕ) (bytes : Bytes s) (a : accepted (scheduleAnswer s) ≡ true) (all : accepted (ran s .answer) ≡ true) where

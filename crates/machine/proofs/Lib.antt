@@ -9,3 +9,4 @@ pub mod Unique
 pub mod StartLaws
 pub mod RangeLaws
 pub mod FreshLaws
+pub mod LineLaws

@@ -4,7 +4,7 @@ use lib.Dec.{eqb}
 use Rattle.lists.specs.Find.{pick, both}
 use Rattle.answer.specs.declared.Answer.the-variants.{Item, Empty}
 use Rattle.machine.specs.Record.{none, node, thread, readHead, readNext, readItem, putHead}
-use Rattle.machine.specs.Line.{persist}
+use Rattle.machine.specs.Line.{ofHead, persist}
 use Rattle.machine.specs.Retire.{out, moving, going, answering, left, retiredHeld}
 use Rattle.machine.specs.declared.Machine.{Machine}
 use Rattle.machine.specs.declared.Out.{Out}
@@ -21,7 +21,7 @@ stepD2 m k =
 
 -- D3 line 0 persisted. Answer Empty
 abbrev pub stepD3 : Machine → ℕ → Out
-stepD3 m k = answering Empty (persist m 0) k
+stepD3 m k = answering Empty (persist m (ofHead 0)) k
 
 -- D4 if Head is still the pair read, it becomes the next node as read at D2, with that node's index, go to D5; else to D1
 abbrev pub stepD4 : Machine → ℕ → Out
@@ -36,7 +36,7 @@ stepD5 m k = moving m k (readItem (thread m k) (node m (thread m k .next) .item)
 
 -- D6 line 0 persisted
 abbrev pub stepD6 : Machine → ℕ → Out
-stepD6 m k = going (persist m 0) k 19
+stepD6 m k = going (persist m (ofHead 0)) k 19
 
 -- D7 the node this thread held from its previous successful dequeue, if any, is retired; the old dummy is now held. Answer the item
 abbrev pub stepD7 : Machine → ℕ → Out

@@ -5,7 +5,7 @@ use Rattle.lists.specs.Find.{pick}
 use Rattle.lists.specs.Word.{without}
 use Rattle.answer.specs.declared.Answer.the-variants.{Done, Full, WornOut}
 use Rattle.machine.specs.Record.{none, top, node, thread, ownNode, readTail, withItem, withNext, withLinked, withIndex, putNode, putTail, putFree}
-use Rattle.machine.specs.Line.{persist, nodeLine}
+use Rattle.machine.specs.Line.{ofNode, persist}
 use Rattle.machine.specs.Retire.{moving, going, answering, nextFree, freed}
 use Rattle.machine.specs.declared.Machine.{Machine}
 use Rattle.machine.specs.declared.Out.{Out}
@@ -57,7 +57,7 @@ stepA9 m k = let i = thread m k .node in going (putNode m i (withLinked (node m 
 
 -- A10 the node's line is persisted, as one step
 abbrev pub stepA10 : Machine → ℕ → Out
-stepA10 m k = going (persist m (nodeLine (thread m k .node))) k 11
+stepA10 m k = going (persist m (ofNode (thread m k .node))) k 11
 
 -- A11 Tail becomes the new node if it is still t. Answer Done
 abbrev pub stepA11 : Machine → ℕ → Out

@@ -11,7 +11,7 @@ use Rattle.answer.specs.declared.Answer.the-variants.{Taken, Kind, Number, Busy
 use Rattle.image.specs.Refusals.{startable}
 use Rattle.machine.specs.Record.{thread, putThread}
 use Rattle.machine.specs.Stage.{Stage, noStep, A1, A2, A3, A4, A5, A6, A7, A8, A9, A10, A11, A12, D1, D2, D3, D4, D5, D6, D7, stage, busy}
-use Rattle.machine.specs.Line.{lineCount, persist, persisted}
+use Rattle.machine.specs.Line.{lineCount, lineAt, persist, persisted}
 use Rattle.machine.specs.Start.{startOf}
 use Rattle.machine.specs.Retire.{out}
 use Rattle.machine.specs.Enqueue.{stepA1, stepA2, stepA3, stepA4, stepA5, stepA6, stepA7, stepA8, stepA9, stepA10, stepA11, stepA12}
@@ -91,7 +91,7 @@ done m e unknown = out Taken m
 done m e enqueues = out Taken (begun m (e .number) 1 (e .item))
 done m e dequeues = out Taken (begun m (e .number) 13 0)
 done m e steps = stepped m (e .number) (stage m (e .number))
-done m e writesBack = out Taken (persist m (e .number))
+done m e writesBack = out Taken (persist m (lineAt (m .n) (e .number)))
 done m e crashes = out Taken (startOf (persisted m) (m .t))
 
 -- ---- the event at place p of a run: a refused one changes nothing

@@ -1,36 +1,68 @@
--- Lines of memory: line 0 is Head, line i + 1 is node i. Each has a cached and a persisted copy.
-use Prim.Native.Nat.{ℕ, zero, suc}
+-- Lines of memory: the head lines, then the nodes. Each has a cached and a persisted copy.
+use Prim.Native.Nat.{ℕ, zero, suc, _+_, _-_}
+use mathlib.Core.Bool.{Bool, true, false}
+use lib.Dec.{eqb, ltb}
+use Rattle.lists.specs.Find.{pick}
 use Rattle.image.specs.declared.Content.{Content}
 use Rattle.image.specs.declared.Image.{Image}
-use Rattle.machine.specs.Record.{node, kept, contentOf, putKept, putKeptHead}
+use Rattle.machine.specs.Record.{node, kept, headAt, keptHead, contentOf, putKept, putKeptHead}
 use Rattle.machine.specs.declared.Machine.{Machine}
+
+pub data Line : Type 0 where
+  ofHead : (k : ℕ) → Line
+  ofNode : (i : ℕ) → Line
+
+-- ---- "Line 0 is Head, line i+1 is node i": the number of a line
+
+-- how many head lines a machine of n nodes has
+unfoldable pub headLines : ℕ → ℕ
+headLines n = 1
 
 -- how many lines there are
 abbrev pub lineCount : ℕ → ℕ
-lineCount n = suc n
+lineCount n = headLines n + n
 
--- node i's line
-abbrev pub nodeLine : ℕ → ℕ
-nodeLine i = suc i
+-- the line numbered l; and back
+unfoldable pub lineAt : ℕ → ℕ → Line
+lineAt n l = pick (ltb l (headLines n)) (ofHead l) (ofNode (l - headLines n))
 
--- of Head's line the index alone is a content
+abbrev pub numberOf : ℕ → Line → ℕ
+numberOf n (ofHead k) = k
+numberOf n (ofNode i) = headLines n + i
+
+-- ---- tables over lines
+
+abbrev pub sameLine : Line → Line → Bool
+sameLine (ofHead j) (ofHead k) = eqb j k
+sameLine (ofHead j) (ofNode i) = false
+sameLine (ofNode i) (ofHead k) = false
+sameLine (ofNode i) (ofNode j) = eqb i j
+
+-- the table f with a at line l
+unfoldable pub putLine : {A : Type 0} → (Line → A) → Line → A → Line → A
+putLine f l a j = pick (sameLine j l) a (f j)
+
+-- ---- the two copies
+
+-- of a head line the index alone is a content
 abbrev pub headContent : ℕ → Content
 headContent x = record { linked = 0; index = x; item = 0 }
 
 -- a line's cached content
-abbrev pub cachedAt : Machine → ℕ → Content
-cachedAt m zero = headContent (m .index)
-cachedAt m (suc i) = contentOf (node m i)
+abbrev pub cachedAt : Machine → Line → Content
+cachedAt m (ofHead k) = headContent (headAt m k)
+cachedAt m (ofNode i) = contentOf (node m i)
 
 -- a line's persisted content
-abbrev pub persistedAt : Machine → ℕ → Content
-persistedAt m zero = headContent (m .«kept_head»)
-persistedAt m (suc i) = kept m i
+abbrev pub persistedAt : Machine → Line → Content
+persistedAt m (ofHead k) = headContent (keptHead m k)
+persistedAt m (ofNode i) = kept m i
 
 -- a line is written back whole: by a write-back, or by a step that persists it
-abbrev pub persist : Machine → ℕ → Machine
-persist m zero = putKeptHead m (m .index)
-persist m (suc i) = putKept m i (contentOf (node m i))
+abbrev pub persist : Machine → Line → Machine
+persist m (ofHead zero) = putKeptHead m (m .index)
+persist m (ofHead (suc k)) = m
+persist m (ofNode i) = putKept m i (contentOf (node m i))
 
 -- the persisted copies, as an image
 abbrev pub persisted : Machine → Image

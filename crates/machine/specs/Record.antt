@@ -34,6 +34,15 @@ thread m k = getD (m .threads) k zeroThread
 abbrev pub kept : Machine → ℕ → Content
 kept m i = getD (m .kept) i noContent
 
+-- the index in head line k, cached and persisted: there is one such line, number 0
+abbrev pub headAt : Machine → ℕ → ℕ
+headAt m zero = m .index
+headAt m (suc k) = 0
+
+abbrev pub keptHead : Machine → ℕ → ℕ
+keptHead m zero = m .«kept_head»
+keptHead m (suc k) = 0
+
 -- what a node's line holds
 abbrev pub contentOf : Node → Content
 contentOf v = record { linked = v .linked; index = v .index; item = v .item }

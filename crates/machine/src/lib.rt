@@ -56,7 +56,9 @@ impl Machine {
     pub const THREADS: usize = 8;
 
     // Head's line, and a line for each node.
-    pub const LINES: usize = Machine::NODES + 1;
+    pub const HEADS: usize = 1;
+
+    pub const LINES: usize = Machine::HEADS + Machine::NODES;
 
     // At most so many contents of a line, endings, and events of a schedule.
     pub const CONTENTS: usize = 16;

@@ -2,17 +2,13 @@
 use Prim.Native.Nat.{ℕ, zero, suc}
 use mathlib.Core.Bool.{Bool, true, false}
 use mathlib.Core.List.{List, [], _∷_, _++_, map}
-use lib.ListN.{getD, drop}
-use lib.Dec.{eqb}
-use Rattle.lists.specs.Find.{both}
+use lib.ListN.{drop}
 use Rattle.lists.specs.Tab.{tab}
+use Rattle.image.specs.Layout.{sameContent}
 use Rattle.image.specs.declared.Content.{Content}
-use Rattle.machine.specs.Line.{lineCount, cachedAt, persistedAt}
+use Rattle.machine.specs.Line.{Line, lineCount, lineAt, cachedAt, persistedAt}
 use Rattle.machine.specs.declared.Machine.{Machine}
 use Rattle.schedule.specs.Run.{Bench}
-
-unfoldable pub sameContent : Content → Content → Bool
-sameContent a b = both (eqb (a .linked) (b .linked)) (both (eqb (a .index) (b .index)) (eqb (a .item) (b .item)))
 
 -- "Equal contents count once, at the first appearance": c joins the list unless it is there
 unfoldable pub joins : List Content → Content → List Content
@@ -24,11 +20,11 @@ gathered seen [] = seen
 gathered seen (c ∷ l) = gathered (joins seen c) l
 
 -- "its persisted content after its last write-back or persist (or after the last start) and each cached content since, the present one included"
-unfoldable pub contentsOf : Bench → ℕ → List Content
+unfoldable pub contentsOf : Bench → Line → List Content
 contentsOf b l =
     gathered (persistedAt (b .machine) l ∷ [])
-    (map (λ m. cachedAt m l) (drop (getD (b .from) l 0) (b .past)))
+    (map (λ m. cachedAt m l) (drop (b .from l) (b .past)))
 
 -- the contents of each line, line 0 first
 unfoldable pub tableOf : Bench → List (List Content)
-tableOf b = tab (contentsOf b) (lineCount (b .machine .n))
+tableOf b = tab (λ l. contentsOf b (lineAt (b .machine .n) l)) (lineCount (b .machine .n))

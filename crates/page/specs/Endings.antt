@@ -6,6 +6,7 @@ use Rattle.lists.specs.Tab.{front}
 use Rattle.image.specs.Layout.{noContent, noContents, contentAt}
 use Rattle.image.specs.declared.Content.{Content}
 use Rattle.image.specs.declared.Image.{Image}
+use Rattle.machine.specs.Line.{ofHead, ofNode, numberOf}
 
 -- every choice of one content a line: the first line turns slowest, the last fastest, in each the oldest content comes first
 unfoldable pub choices : List (List Content) → List (List Content)
@@ -21,9 +22,13 @@ unfoldable pub product : List (List Content) → ℕ
 product [] = 1
 product (line ∷ rest) = length line * product rest
 
--- a choice as an image of n nodes: line 0 is the head index, line i + 1 is node i
+-- a choice as an image of n nodes: each content where its line is
 unfoldable pub imageOf : ℕ → List Content → Image
-imageOf n c = record { n = n; head = contentAt c 0 .index; nodes = front (λ i. contentAt c (suc i)) n noContents }
+imageOf n c = record {
+  n = n;
+  head = contentAt c (numberOf n (ofHead 0)) .index;
+  nodes = front (λ i. contentAt c (numberOf n (ofNode i))) n noContents;
+}
 
 -- the endings, numbered from 0
 unfoldable pub endings : ℕ → List (List Content) → List Image

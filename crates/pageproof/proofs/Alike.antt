@@ -11,7 +11,7 @@ use Rattle.answer.specs.declared.Answer.the-variants.{Done}
 use Rattle.image.specs.declared.Content.{Content}
 use Rattle.machine.specs.Record.{none, top, node, thread, contentOf, putTail, putThread, idleThread}
 use Rattle.machine.specs.Stage.{Stage, noStep, A1, A2, A3, A4, A5, A6, A7, A8, A9, A10, A11, A12, D1, D2, D3, D4, D5, D6, D7, stage}
-use Rattle.machine.specs.Line.{persist, cachedAt}
+use Rattle.machine.specs.Line.{Line, ofHead, ofNode, lineAt, persist, cachedAt}
 use Rattle.machine.specs.Retire.{going, answering, left, freed, releasedAt, released, retired, retiredHeld, nextFree, others}
 use Rattle.machine.specs.Event.{Deed, unknown, enqueues, dequeues, steps, writesBack, crashes, eventAnswer, stepped, done}
 use Rattle.machine.specs.declared.Machine.{Machine}
@@ -71,23 +71,19 @@ keep-free : (m : Machine) (h : ℕ) (c : List Content) → nextFree (keeping m h
 unfolding nextFree
 keep-free m h c = refl
 
-alike-persist : (m : Machine) (h : ℕ) (c : List Content) (l : ℕ) → Alike (persist m l) (persist (keeping m h c) l)
-alike-persist m h c zero = record { head = m .index; copies = c; is = refl }
-alike-persist m h c (suc i) = record { head = h; copies = set c i (contentOf (node m i)); is = refl }
+alike-persist : (m : Machine) (h : ℕ) (c : List Content) (l : Line) → Alike (persist m l) (persist (keeping m h c) l)
+alike-persist m h c (ofHead zero) = record { head = m .index; copies = c; is = refl }
+alike-persist m h c (ofHead (suc k)) = record { head = h; copies = c; is = refl }
+alike-persist m h c (ofNode i) = record { head = h; copies = set c i (contentOf (node m i)); is = refl }
 
 -- a write-back on one side alone
-keep-back : (m : Machine) (h : ℕ) (c : List Content) (l : ℕ) → Alike m (persist (keeping m h c) l)
-keep-back m h c zero = record { head = m .index; copies = c; is = refl }
-keep-back m h c (suc i) = record { head = h; copies = set c i (contentOf (node m i)); is = refl }
+keep-back : (m : Machine) (h : ℕ) (c : List Content) (l : Line) → Alike m (persist (keeping m h c) l)
+keep-back m h c (ofHead zero) = record { head = m .index; copies = c; is = refl }
+keep-back m h c (ofHead (suc k)) = record { head = h; copies = c; is = refl }
+keep-back m h c (ofNode i) = record { head = h; copies = set c i (contentOf (node m i)); is = refl }
 
-pub alike-back : (m m′ : Machine) → Alike m m′ → (l : ℕ) → Alike m (persist m′ l)
+pub alike-back : (m m′ : Machine) → Alike m m′ → (l : Line) → Alike m (persist m′ l)
 alike-back m m′ a l = subst (λ (x : Machine). Alike m (persist x l)) (sym (a .is)) (keep-back m (a .head) (a .copies) l)
-
-pub back-cached : (m : Machine) (l j : ℕ) → cachedAt (persist m l) j ≡ cachedAt m j
-back-cached m zero zero = refl
-back-cached m zero (suc j) = refl
-back-cached m (suc i) zero = refl
-back-cached m (suc i) (suc j) = refl
 
 -- ---- the steps
 
@@ -128,7 +124,7 @@ module _ (m : Machine) (h : ℕ) (c : List Content) (k : ℕ) where
       tailed false = quiet _ _ _ refl
   alike-step D1 = quiet _ _ _ refl
   alike-step D2 = quiet _ _ _ refl
-  alike-step D3 = record { answer = refl; machine = record { head = m .index; copies = c; is = keep-left (persist m 0) (m .index) c k (thread m k .held) } }
+  alike-step D3 = record { answer = refl; machine = record { head = m .index; copies = c; is = keep-left (persist m (ofHead 0)) (m .index) c k (thread m k .held) } }
   alike-step D4 =
       pick-out (both (eqb (m .head) (thread m k .head)) (eqb (m .index) (thread m k .index))) _ _ _ _ (quiet _ _ _ refl) (quiet _ _ _ refl)
   alike-step D5 = quiet _ _ _ refl
@@ -143,7 +139,7 @@ keep-done m h c e unknown ne = record { answer = refl; machine = record { head =
 keep-done m h c e enqueues ne = record { answer = refl; machine = record { head = h; copies = c; is = refl } }
 keep-done m h c e dequeues ne = record { answer = refl; machine = record { head = h; copies = c; is = refl } }
 keep-done m h c e steps ne = alike-step m h c (e .number) (stage m (e .number))
-keep-done m h c e writesBack ne = record { answer = refl; machine = alike-persist m h c (e .number) }
+keep-done m h c e writesBack ne = record { answer = refl; machine = alike-persist m h c (lineAt (m .n) (e .number)) }
 keep-done m h c e crashes ne = absurd (ne refl)
 
 pub alike-done : (m m′ : Machine) → Alike m m′ → (e : Event) (d : Deed) → (d ≡ crashes → ⊥) → AlikeOut (done m e d) (done m′ e d)
@@ -162,11 +158,12 @@ alike-answer p m m′ a e d ne = ap (λ (x : Machine). eventAnswer p x e d) (a .
 
 -- ---- what is alike
 
-keep-cached : (m : Machine) (h : ℕ) (c : List Content) (l : ℕ) → cachedAt (keeping m h c) l ≡ cachedAt m l
-keep-cached m h c zero = refl
-keep-cached m h c (suc i) = refl
+keep-cached : (m : Machine) (h : ℕ) (c : List Content) (l : Line) → cachedAt (keeping m h c) l ≡ cachedAt m l
+keep-cached m h c (ofHead zero) = refl
+keep-cached m h c (ofHead (suc k)) = refl
+keep-cached m h c (ofNode i) = refl
 
-pub alike-cached : (m m′ : Machine) → Alike m m′ → (l : ℕ) → cachedAt m′ l ≡ cachedAt m l
+pub alike-cached : (m m′ : Machine) → Alike m m′ → (l : Line) → cachedAt m′ l ≡ cachedAt m l
 alike-cached m m′ a l = ap (λ (x : Machine). cachedAt x l) (a .is) ∙ keep-cached m (a .head) (a .copies) l
 
 keep-touches : (m : Machine) (h : ℕ) (c : List Content) (e : Event) (d : Deed) → touches (keeping m h c) e d ≡ touches m e d

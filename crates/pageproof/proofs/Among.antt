@@ -7,9 +7,9 @@ use mathlib.Core.Logic.{_⊎_, inl, inr}
 use native.Mathlib.Omega.{arith}
 use native.Mathlib.Nat.{mod-lt, div-lt-iff-lt-mul, add-mul-div-right, mul-add-mod-self-right, div-eq-of-lt, mod-eq-of-lt, add-comm, suc-mul, mul-le-mul-right}
 use lib.ListN.{length, getD}
-use Rattle.image.specs.Layout.{contentAt}
+use Rattle.image.specs.Layout.{contentAt, sameContent}
 use Rattle.image.specs.declared.Content.{Content}
-use Rattle.page.specs.Contents.{sameContent, joins}
+use Rattle.page.specs.Contents.{joins}
 use Rattle.page.specs.Endings.{choices, product}
 use Rattle.endtable.proofs.Joins as joined
 use Rattle.endtable.proofs.Choices as laws

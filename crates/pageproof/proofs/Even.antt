@@ -11,7 +11,7 @@ use Rattle.image.specs.declared.Image.{Image}
 use Rattle.image.specs.Layout.{noContent, noContents}
 use Rattle.machine.specs.Record.{none, top, node, thread, contentOf, blankNode, blankNodes, putTail}
 use Rattle.machine.specs.Stage.{Stage, noStep, A1, A2, A3, A4, A5, A6, A7, A8, A9, A10, A11, A12, D1, D2, D3, D4, D5, D6, D7, stage}
-use Rattle.machine.specs.Line.{persist}
+use Rattle.machine.specs.Line.{Line, ofHead, ofNode, lineAt, persist}
 use Rattle.machine.specs.Retire.{left, freed, released, retired, retiredHeld}
 use Rattle.machine.specs.Start.{startWith, startOf, queueOf}
 use Rattle.machine.specs.Event.{Deed, unknown, enqueues, dequeues, steps, writesBack, crashes, stepped, done}
@@ -41,9 +41,10 @@ even-pick : (t : Bool) (a b : Out) → Even (a .machine) → Even (b .machine) �
 even-pick true a b p q = p
 even-pick false a b p q = q
 
-even-persist : (m : Machine) (l : ℕ) → Even m → Even (persist m l)
-even-persist m zero e = e
-even-persist m (suc i) e = length-set (m .kept) i (contentOf (node m i)) ∙ e
+even-persist : (m : Machine) (l : Line) → Even m → Even (persist m l)
+even-persist m (ofHead zero) e = e
+even-persist m (ofHead (suc k)) e = e
+even-persist m (ofNode i) e = length-set (m .kept) i (contentOf (node m i)) ∙ e
 
 even-held : (m : Machine) (k : ℕ) → Even m → Even (retiredHeld m k)
 even-held m k e = by (eqb (thread m k .held) none)
@@ -72,7 +73,7 @@ module _ (m : Machine) (k : ℕ) (e : Even m) where
       (even-set m (thread m k .node) _ e)
   even-step A8 = even-pick (eqb (node m (thread m k .tail) .next) none) _ _ (even-set m (thread m k .tail) _ e) e
   even-step A9 = even-set m (thread m k .node) _ e
-  even-step A10 = even-persist m (suc (thread m k .node)) e
+  even-step A10 = even-persist m (ofNode (thread m k .node)) e
   even-step A11 =
       even-left (pick (eqb (m .tail) (thread m k .tail)) (putTail m (thread m k .node)) m) k
       (thread (pick (eqb (m .tail) (thread m k .tail)) (putTail m (thread m k .node)) m) k .held)
@@ -80,7 +81,7 @@ module _ (m : Machine) (k : ℕ) (e : Even m) where
   even-step A12 = even-tail m (eqb (m .tail) (thread m k .tail)) (node m (thread m k .tail) .next) e
   even-step D1 = e
   even-step D2 = e
-  even-step D3 = even-left (persist m 0) k (thread m k .held) e
+  even-step D3 = even-left (persist m (ofHead 0)) k (thread m k .held) e
   even-step D4 = even-pick (both (eqb (m .head) (thread m k .head)) (eqb (m .index) (thread m k .index))) _ _ e e
   even-step D5 = e
   even-step D6 = e
@@ -109,5 +110,5 @@ even-done m e unknown h = h
 even-done m e enqueues h = h
 even-done m e dequeues h = h
 even-done m e steps h = even-step m (e .number) h (stage m (e .number))
-even-done m e writesBack h = even-persist m (e .number) h
+even-done m e writesBack h = even-persist m (lineAt (m .n) (e .number)) h
 even-done m e crashes h = even-start _ (m .t)

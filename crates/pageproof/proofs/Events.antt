@@ -5,7 +5,7 @@ use mathlib.Core.Bool.{Bool, true, false, not}
 use mathlib.Core.List.{[], _∷_}
 use mathlib.Core.Logic.{_⊎_, inl, inr}
 use native.Mathlib.Omega.{arith}
-use lib.Dec.{eqb, leb, eqb→eq, eqb-refl, leb→le}
+use lib.Dec.{eqb, leb, leb→le}
 use Rattle.lists.specs.Find.{pick, both}
 use Rattle.lists.proofs.BoolLaws.{no-way}
 use Rattle.answer.specs.Answers.{check, accepted}
@@ -13,22 +13,23 @@ use Rattle.answer.specs.declared.Answer.{Answer}
 use Rattle.answer.specs.declared.Answer.the-variants.{Taken, Number, Busy, Idle, NotZero}
 use Rattle.image.specs.Refusals.{startable}
 use Rattle.machine.specs.Stage.{busy}
-use Rattle.machine.specs.Line.{lineCount, cachedAt, persistedAt, persisted}
+use Rattle.machine.specs.Line.{Line, lineCount, sameLine, cachedAt, persistedAt, persisted}
 use Rattle.machine.specs.Retire.{out}
 use Rattle.machine.specs.Event.{Deed, unknown, enqueues, dequeues, steps, writesBack, crashes, deedOf, threadTooLarge, lineTooLarge, itemNotZero, eventAnswer, done, eventAt}
 use Rattle.machine.specs.declared.Machine.{Machine}
 use Rattle.machine.specs.declared.Event.{Event}
 use Rattle.machine.specs.declared.Out.{Out}
+use Rattle.machine.proofs.LineLaws.{same-line, same-is}
 use Rattle.schedule.specs.Run.{noLine, aLine, Bench, goesOn, turned}
 use Rattle.page.specs.Contents.{joins, contentsOf}
 use Rattle.lawful.specs.Added.{writeBack}
 use Rattle.endtable.specs.declared.touch.Touch.{Touch}
 use Rattle.endtable.specs.Touches.{touches, touchIn}
-use Rattle.endtable.specs.Frame.{persistsOf, Frame}
+use Rattle.endtable.specs.Frame.{lineOf, persistsOf, Frame}
 use Rattle.endtable.specs.Moments.{Timed}
 use Rattle.endtable.proofs.Steps as acts
 use Rattle.endtable.proofs.Moments as moments
-use Rattle.pageproof.proofs.Alike.{Alike, alike-done, alike-answer, alike-touches}
+use Rattle.pageproof.proofs.Alike.{Alike, alike-done, alike-answer, alike-touches, alike-size}
 use Rattle.pageproof.proofs.Even.{Even, even-done}
 
 abbrev pub Takes : ℕ → Machine → Event → Type 0
@@ -127,42 +128,34 @@ back-taken q m i h = ap (λ (o : Out). accepted (o .answer)) (passes q m (writeB
 
 -- ---- which line an event persists
 
-abbrev pub hits : Machine → Event → ℕ → Bool
-hits m e l = both (touches m e (deedOf (e .kind)) .persisted) (eqb l (touches m e (deedOf (e .kind)) .line))
+abbrev pub hits : Machine → Event → Line → Bool
+hits m e l = both (touches m e (deedOf (e .kind)) .persisted) (sameLine l (lineOf (m .n) (touches m e (deedOf (e .kind)))))
 
-hit-is : (w : Touch) (l : ℕ) → both (w .persisted) (eqb l (w .line)) ≡ true → (w .persisted ≡ true) × (l ≡ w .line)
-hit-is w l = by (w .persisted) refl
-  where
-    by : (b : Bool) → w .persisted ≡ b → both b (eqb l (w .line)) ≡ true → (b ≡ true) × (l ≡ w .line)
-    by true e z = (refl, eqb→eq l (w .line) (rw z tt))
-    by false e z = no-way (sym z)
+hit-is : (p : Bool) (x l : Line) → both p (sameLine l x) ≡ true → (p ≡ true) × (l ≡ x)
+hit-is true x l z = (refl, same-is l x z)
+hit-is false x l z = no-way (sym z)
 
-miss-is : (w : Touch) (l : ℕ) → both (w .persisted) (eqb l (w .line)) ≡ false → (w .persisted ≡ false) ⊎ (l ≡ w .line → ⊥)
-miss-is w l = by (w .persisted) refl
-  where
-    by : (b : Bool) → w .persisted ≡ b → both b (eqb l (w .line)) ≡ false → (b ≡ false) ⊎ (l ≡ w .line → ⊥)
-    by true e z = inr (λ q. no-way (sym (true-of (eqb l (w .line)) (rw q (eqb-refl (w .line)))) ∙ z))
-      where
-        true-of : (x : Bool) → (elim x as (λ _. Type 0) [ true ↦ Unit {0} | false ↦ ⊥ ]) → x ≡ true
-        true-of true t = refl
-        true-of false t = absurd t
-    by false e z = inl refl
+miss-is : (p : Bool) (x l : Line) → both p (sameLine l x) ≡ false → (p ≡ false) ⊎ (l ≡ x → ⊥)
+miss-is true x l z = inr (λ q. no-way (sym (rw q (same-line x)) ∙ z))
+miss-is false x l z = inl refl
 
-pub alike-hits : (m m′ : Machine) → Alike m m′ → (e : Event) (l : ℕ) → hits m′ e l ≡ hits m e l
-alike-hits m m′ a e l = ap (λ (w : Touch). both (w .persisted) (eqb l (w .line))) (alike-touches m m′ a e (deedOf (e .kind)))
+pub alike-hits : (m m′ : Machine) → Alike m m′ → (e : Event) (l : Line) → hits m′ e l ≡ hits m e l
+alike-hits m m′ a e l =
+    ap (λ (w : Touch). both (w .persisted) (sameLine l (lineOf (m′ .n) w))) (alike-touches m m′ a e (deedOf (e .kind)))
+    ∙ ap (λ n. both (touches m e (deedOf (e .kind)) .persisted) (sameLine l (lineOf n (touches m e (deedOf (e .kind)))))) (alike-size m m′ a)
 
-module _ (m : Machine) (ev : Even m) (e : Event) (ne : Crash e → ⊥) (l : ℕ) where
+module _ (m : Machine) (ev : Even m) (e : Event) (ne : Crash e → ⊥) (l : Line) where
   fr : Frame m (next m e) (touches m e (deedOf (e .kind)))
   fr = acts.frame-done m e (deedOf (e .kind)) ev ne
 
   pub hit-persisted : hits m e l ≡ true → persistedAt (next m e) l ≡ cachedAt (next m e) l
   hit-persisted h =
       let w = touches m e (deedOf (e .kind)) in
-      let r = hit-is w l h in
-      subst (λ (x : ℕ). persistedAt (next m e) x ≡ cachedAt (next m e) x) (sym (r .1)) (fr .present (r .0))
+      let r = hit-is (w .persisted) (lineOf (m .n) w) l h in
+      subst (λ (x : Line). persistedAt (next m e) x ≡ cachedAt (next m e) x) (sym (r .1)) (fr .present (r .0))
 
   pub miss-persisted : hits m e l ≡ false → persistedAt (next m e) l ≡ persistedAt m l
-  miss-persisted h = fr .kept l (miss-is (touches m e (deedOf (e .kind))) l h)
+  miss-persisted h = fr .kept l (miss-is (touches m e (deedOf (e .kind)) .persisted) (lineOf (m .n) (touches m e (deedOf (e .kind)))) l h)
 
   pub persisted-next : persistedAt (next m e) l ≡ pick (hits m e l) (cachedAt (next m e) l) (persistedAt m l)
   persisted-next = by (hits m e l) refl
@@ -182,7 +175,7 @@ abbrev pub onto : Bench → Event → Bench
 onto b e = turned b (next (b .machine) e) e (deedOf (e .kind))
 
 module _ (p : ℕ) (b : Bench) (g : Good b) (e : Event) (ne : Crash e → ⊥) (h : Takes p (b .machine) e) where
-  goes : onto b e ≡ goesOn b (next (b .machine) e) (persistsOf (touches (b .machine) e (deedOf (e .kind))))
+  goes : onto b e ≡ goesOn b (next (b .machine) e) (persistsOf (b .machine .n) (touches (b .machine) e (deedOf (e .kind))))
   unfolding touchIn
   goes = acts.turned-on p b (next (b .machine) e) e h ne
 
@@ -197,29 +190,32 @@ module _ (p : ℕ) (b : Bench) (g : Good b) (e : Event) (ne : Crash e → ⊥) (
 
   pub onto-good : Good (onto b e)
   onto-good = record {
-    timed = rw goes (moments.timed-goes b (next (b .machine) e) (persistsOf (touches (b .machine) e (deedOf (e .kind)))) (g .timed) size);
+    timed = rw goes (moments.timed-goes b (next (b .machine) e) (persistsOf (b .machine .n) (touches (b .machine) e (deedOf (e .kind)))) (g .timed));
     even = rw onto-machine (even-done (b .machine) e (deedOf (e .kind)) (g .even));
   }
 
-  pub hit-contents : (l : ℕ) → l < lineCount (b .machine .n) → hits (b .machine) e l ≡ true → contentsOf (onto b e) l ≡ cachedAt (next (b .machine) e) l ∷ []
-  hit-contents l in-range t =
+  pub hit-contents : (l : Line) → hits (b .machine) e l ≡ true → contentsOf (onto b e) l ≡ cachedAt (next (b .machine) e) l ∷ []
+  hit-contents l t =
       let w = touches (b .machine) e (deedOf (e .kind)) in
-      let r = hit-is w l t in
+      let r = hit-is (w .persisted) (lineOf (b .machine .n) w) l t in
       rw (goes, r .0, sym (r .1))
-      (moments.contents-persisted b (next (b .machine) e) l (omega (arith, g .timed .lines)) (hit-persisted (b .machine) (g .even) e ne l t))
+      (moments.contents-persisted b (next (b .machine) e) l (hit-persisted (b .machine) (g .even) e ne l t))
 
-  pub miss-contents : (l : ℕ) → hits (b .machine) e l ≡ false → contentsOf (onto b e) l ≡ joins (contentsOf b l) (cachedAt (next (b .machine) e) l)
+  pub miss-contents : (l : Line) → hits (b .machine) e l ≡ false → contentsOf (onto b e) l ≡ joins (contentsOf b l) (cachedAt (next (b .machine) e) l)
   miss-contents l t =
       rw goes
-      (moments.contents-joined b (g .timed) (next (b .machine) e) (persistsOf w) l (other (w .persisted) refl (miss-is w l t))
+      (moments.contents-joined b (g .timed) (next (b .machine) e) (persistsOf (b .machine .n) w) l (other (w .persisted) refl (miss-is (w .persisted) L l t))
       (miss-persisted (b .machine) (g .even) e ne l t))
     where
       w : Touch
       w = touches (b .machine) e (deedOf (e .kind))
 
-      other : (x : Bool) → w .persisted ≡ x → (w .persisted ≡ false) ⊎ (l ≡ w .line → ⊥) → pick x (aLine (w .line)) noLine ≡ aLine l → ⊥
+      L : Line
+      L = lineOf (b .machine .n) w
+
+      other : (x : Bool) → w .persisted ≡ x → (w .persisted ≡ false) ⊎ (l ≡ L → ⊥) → pick x (aLine L) noLine ≡ aLine l → ⊥
       other true q (inl z) f = no-way (sym q ∙ z)
-      other true q (inr n) f = let v : w .line ≡ l = cc in n (sym v)
+      other true q (inr n) f = let v : L ≡ l = cc in n (sym v)
       other false q z f = let v : _≡_ {A = ℕ} 0 1 = cc in omega arith
 
 -- a crash begins anew

@@ -9,7 +9,7 @@ use lib.ListN.{length}
 use lib.Dec.{eqb, eqb→eq, eqb-refl}
 use Rattle.lists.specs.Find.{pick}
 use Rattle.image.specs.declared.Content.{Content}
-use Rattle.machine.specs.Line.{lineCount, cachedAt, persistedAt}
+use Rattle.machine.specs.Line.{Line, cachedAt, persistedAt}
 use Rattle.machine.specs.declared.Machine.{Machine}
 use Rattle.machine.specs.declared.Event.{Event}
 use Rattle.schedule.specs.Run.{Bench, run, begins}
@@ -23,7 +23,7 @@ use Rattle.pageproof.proofs.Runs.{Accepts, run-first, run-rest, run-ben
 
 -- line j holds c now, the machine is m, the events l are still to come, and the line is written back when r of them are:
 -- what it holds in the end. It is never written back where there are fewer than r
-unfoldable pub leftAt : ℕ → ℕ → Machine → List Event → Content → Content
+unfoldable pub leftAt : Line → ℕ → Machine → List Event → Content → Content
 leftAt j r m [] c = pick (eqb r 0) (cachedAt m j) c
 leftAt j r m (e ∷ l) c = leftAt j r (next m e) l (pick (hits m e j) (cachedAt (next m e) j) (pick (eqb r (suc (length l))) (cachedAt m j) c))
 
@@ -42,7 +42,7 @@ eq-self a = by (eqb a a) refl (eqb-refl a)
     by false e t = absurd t
 
 -- a line that is never written back
-far : (j : ℕ) (l : List Event) (m : Machine) (c : Content) (r s : ℕ) → length l < r → length l < s → leftAt j r m l c ≡ leftAt j s m l c
+far : (j : Line) (l : List Event) (m : Machine) (c : Content) (r s : ℕ) → length l < r → length l < s → leftAt j r m l c ≡ leftAt j s m l c
 unfolding leftAt
 far j [] m c r s h k = rw (eq-no r 0 (omega arith), eq-no s 0 (omega arith))
 far j (e ∷ l) m c r s h k =
@@ -50,7 +50,7 @@ far j (e ∷ l) m c r s h k =
     (far j l (next m e) (pick (hits m e j) (cachedAt (next m e) j) c) r s (omega arith) (omega arith))
 
 -- a line that is written back now
-now : (j : ℕ) (l : List Event) (m : Machine) (c : Content) → leftAt j (length l) m l c ≡ leftAt j (suc (length l)) m l (cachedAt m j)
+now : (j : Line) (l : List Event) (m : Machine) (c : Content) → leftAt j (length l) m l c ≡ leftAt j (suc (length l)) m l (cachedAt m j)
 unfolding leftAt
 now j [] m c = refl
 now j (e ∷ l) m c =
@@ -58,20 +58,19 @@ now j (e ∷ l) m c =
     (far j l (next m e) (pick (hits m e j) (cachedAt (next m e) j) (cachedAt m j)) (suc (length l)) (suc (suc (length l))) (omega arith) (omega arith))
 
 -- no event still to come persists the line
-abbrev Quiet : ℕ → Machine → List Event → Type 0
+abbrev Quiet : Line → Machine → List Event → Type 0
 Quiet j m l = (r : ℕ) (c : Content) → length l < r → leftAt j r m l c ≡ c
 
 -- some moment leaves c, whatever the line holds before
-abbrev Reached : ℕ → Content → Machine → List Event → Type 0
+abbrev Reached : Line → Content → Machine → List Event → Type 0
 Reached j c m l = (r : ℕ) × ((d : Content) → leftAt j r m l d ≡ c)
 
-choice : (j : ℕ) (c : Content) (l : List Event) (p : ℕ) (b : Bench) → Good b → NoCrash l → Accepts p b l → j < lineCount (b .machine .n)
+choice : (j : Line) (c : Content) (l : List Event) (p : ℕ) (b : Bench) → Good b → NoCrash l → Accepts p b l
     → Among c (contentsOf (run p b l .bench) j) → (Among c (contentsOf b j) × Quiet j (b .machine) l) ⊎ Reached j c (b .machine) l
 unfolding leftAt
-choice j c [] p b g nc h lt k = inl (rw (run-nothing p b) at k, λ r d z. rw (eq-no r 0 (omega arith)))
-choice j c (e ∷ l) p b g nc h lt k =
+choice j c [] p b g nc h k = inl (rw (run-nothing p b) at k, λ r d z. rw (eq-no r 0 (omega arith)))
+choice j c (e ∷ l) p b g nc h k =
     by (choice j c l (suc p) (onto b e) (events.onto-good p b g e (nc .0) (run-first p b e l h)) (nc .1) (run-rest p b e l h)
-    (omega (arith, events.onto-size p b g e (nc .0) (run-first p b e l h)))
     (rw (run-bench p b e l (run-first p b e l h)) at k))
   where
     m : Machine
@@ -86,7 +85,7 @@ choice j c (e ∷ l) p b g nc h lt k =
     -- no event after this one persists the line
     after : Among c (contentsOf (onto b e) j) → Quiet j (next m e) l → (x : Bool) → hits m e j ≡ x
         → (Among c (contentsOf b j) × Quiet j m (e ∷ l)) ⊎ Reached j c m (e ∷ l)
-    after w q true x = only (rw (events.hit-contents p b g e ne t j lt x) at w)
+    after w q true x = only (rw (events.hit-contents p b g e ne t j x) at w)
       where
         only : (c ≡ cachedAt (next m e) j) ⊎ ⊥ → (Among c (contentsOf b j) × Quiet j m (e ∷ l)) ⊎ Reached j c m (e ∷ l)
         only (inl z) = inr (suc (length l), λ d. rw x (q (suc (length l)) (cachedAt (next m e) j) (omega arith) ∙ sym z))
@@ -105,9 +104,9 @@ choice j c (e ∷ l) p b g nc h lt k =
         inr (r′ .0, λ d. r′ .1 _)
 
 -- from a start each content of a line can be left
-pub chosen : (j : ℕ) (c : Content) (l : List Event) (p : ℕ) (m : Machine) → Good (begins m) → NoCrash l → Accepts p (begins m) l → j < lineCount (m .n)
+pub chosen : (j : Line) (c : Content) (l : List Event) (p : ℕ) (m : Machine) → Good (begins m) → NoCrash l → Accepts p (begins m) l
     → Among c (contentsOf (run p (begins m) l .bench) j) → (r : ℕ) × (leftAt j r m l (persistedAt m j) ≡ c)
-chosen j c l p m g nc h lt k = by (choice j c l p (begins m) g nc h lt k)
+chosen j c l p m g nc h k = by (choice j c l p (begins m) g nc h k)
   where
     on : Quiet j m l → Among c (persistedAt m j ∷ []) ⊎ (c ≡ cachedAt m j) → (r : ℕ) × (leftAt j r m l (persistedAt m j) ≡ c)
     on q (inl (inl e)) = (suc (length l), q (suc (length l)) (persistedAt m j) (omega arith) ∙ sym e)

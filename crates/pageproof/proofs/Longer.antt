@@ -9,7 +9,7 @@ use Rattle.answer.specs.Answers.{accepted}
 use Rattle.answer.specs.declared.Answer.{Answer}
 use Rattle.image.specs.Layout.{imageIn}
 use Rattle.image.specs.declared.Image.{Image}
-use Rattle.machine.specs.Line.{lineCount}
+use Rattle.machine.specs.Line.{lineCount, lineAt}
 use Rattle.machine.specs.Event.{eventAt}
 use Rattle.machine.specs.Start.{startOf, startWith}
 use Rattle.machine.specs.declared.Machine.{Machine}
@@ -32,7 +32,7 @@ use Rattle.pageproof.proofs.Holds.{page-ran, page-holds}
 -- what is said of a run with write-backs added
 pub record Same (n : ℕ) (l : List Event) (x : List Answer) (l′ : List Event) (q : ℕ) (b′ : Bench) : Type 0 where
   pub taken : Accepts q b′ l′
-  pub added : Adds n l x l′ (run q b′ l′ .replies)
+  pub added : Adds (lineCount n) l x l′ (run q b′ l′ .replies)
 
 -- a recorded event in front
 module _ (n p q : ℕ) (b b′ : Bench) (e : Event) (l l′ : List Event) (t : Takes p (b .machine) e) (ne : events.Crash e → ⊥) (a : Alike (b .machine) (b′ .machine)) where
@@ -59,10 +59,10 @@ module _ (n q : ℕ) (b′ : Bench) (i : ℕ) (lt : i < lineCount n) (l : List E
   back : Same n l x l′ (suc q) (onto b′ (writeBack i)) → Same n l x (writeBack i ∷ l′) q b′
   back s = record {
     taken = ap (λ (r : Ran). accepted (r .answer)) back-is ∙ s .taken;
-    added = subst (λ (r : Ran). Adds n l x (writeBack i ∷ l′) (r .replies)) (sym back-is) (adds i lt (s .added));
+    added = subst (λ (r : Ran). Adds (lineCount n) l x (writeBack i ∷ l′) (r .replies)) (sym back-is) (adds i lt (s .added));
   }
 
-pub same-run : (n : ℕ) {l l′ : List Event} → Longer n l l′ → (p q : ℕ) (b b′ : Bench) → NoCrash l → Good b → Good b′ → b .machine .n ≡ n
+pub same-run : (n : ℕ) {l l′ : List Event} → Longer (lineCount n) l l′ → (p q : ℕ) (b b′ : Bench) → NoCrash l → Good b → Good b′ → b .machine .n ≡ n
     → Alike (b .machine) (b′ .machine) → Accepts p b l → Same n l (run p b l .replies) l′ q b′
 same-run n longer.ends p q b b′ nc g g′ size a h = record {
   taken = run-taken q b′;
@@ -77,17 +77,17 @@ same-run n (longer.keeps {e = e} {l = l} {l′ = l′} r) p q b b′ nc g g′ s
     (rw (events.onto-machine p b g e (nc .0) t, events.onto-machine q b′ g′ e (nc .0) z) (events.alike-next (b .machine) (b′ .machine) a e (nc .0)))
     (run-rest p b e l h))
 same-run n (longer.adds i lt {l = l} {l′ = l′} r) p q b b′ nc g g′ size a h =
-    let z = events.back-taken q (b′ .machine) i (omega (arith, alike-size (b .machine) (b′ .machine) a)) in
+    let z = events.back-taken q (b′ .machine) i (subst (λ x. i < lineCount x) (sym (alike-size (b .machine) (b′ .machine) a ∙ size)) lt) in
     back n q b′ i lt l (run p b l .replies) l′ z
     (same-run n r p (suc q) b (onto b′ (writeBack i)) nc g (events.onto-good q b′ g′ (writeBack i) (no-crash i) z) size
-    (rw (events.onto-machine q b′ g′ (writeBack i) (no-crash i) z) (alike-back (b .machine) (b′ .machine) a i)) h)
+    (rw (events.onto-machine q b′ g′ (writeBack i) (no-crash i) z) (alike-back (b .machine) (b′ .machine) a (lineAt (b′ .machine .n) i))) h)
 
 -- ---- a whole run from a start
 
 good-begins : (m : Machine) → Even m → Good (begins m)
 good-begins m e = record { timed = moments.timed-begins m; even = e }
 
-module _ (n : ℕ) (m : Machine) (ev : Even m) (size : m .n ≡ n) (l : List Event) (h : Accepts 0 (begins m) l) (l′ : List Event) (o : LongerLate n l l′) where
+module _ (n : ℕ) (m : Machine) (ev : Even m) (size : m .n ≡ n) (l : List Event) (h : Accepts 0 (begins m) l) (l′ : List Event) (o : LongerLate (lineCount n) l l′) where
   h₁ : Accepts 0 (begins m) (o .before ++ o .since)
   h₁ = subst (Accepts 0 (begins m)) (o .is) h
 
@@ -111,7 +111,7 @@ module _ (n : ℕ) (m : Machine) (ev : Even m) (size : m .n ≡ n) (l : List Eve
   pub longer-taken : Accepts 0 (begins m) l′
   longer-taken = subst (Accepts 0 (begins m)) (sym (o .is′)) (ap (λ (r : Ran). accepted (r .answer)) (split (o .since′)) ∙ s .taken)
 
-  pub longer-answers : AddsLate n l (run 0 (begins m) l .replies) l′ (run 0 (begins m) l′ .replies)
+  pub longer-answers : AddsLate (lineCount n) l (run 0 (begins m) l .replies) l′ (run 0 (begins m) l′ .replies)
   longer-answers = record {
     before = o .before;
     told = run 0 (begins m) (o .before) .replies;
@@ -137,12 +137,12 @@ first-size : (s : List ℕ) → first s .n ≡ nodesIn s
 unfolding scheduleIn imageIn startWith
 first-size s = refl
 
-module _ (s : List ℕ) (bytes : Bytes s) (a : accepted (pageAnswer s) ≡ true) (l′ : List Event) (o : LongerLate (nodesIn s) (eventsIn s) l′) where
+module _ (s : List ℕ) (bytes : Bytes s) (a : accepted (pageAnswer s) ≡ true) (l′ : List Event) (o : LongerLate (lineCount (nodesIn s)) (eventsIn s) l′) where
   pub late-taken : accepted (runOf s l′ .answer) ≡ true
   unfolding ran
   late-taken = longer-taken (nodesIn s) (first s) (even-start (scheduleIn s .image) (scheduleIn s .t)) (first-size s) (eventsIn s) (page-ran s a) l′ o
 
-  pub late-answers : AddsLate (nodesIn s) (eventsIn s) (ran s .replies) l′ (runOf s l′ .replies)
+  pub late-answers : AddsLate (lineCount (nodesIn s)) (eventsIn s) (ran s .replies) l′ (runOf s l′ .replies)
   unfolding ran
   late-answers = longer-answers (nodesIn s) (first s) (even-start (scheduleIn s .image) (scheduleIn s .t)) (first-size s) (eventsIn s) (page-ran s a) l′ o
 

@@ -11,9 +11,10 @@ use Rattle.answer.specs.Answers.{accepted}
 use Rattle.image.specs.Layout.{contentAt, noContents}
 use Rattle.image.specs.declared.Content.{Content}
 use Rattle.image.specs.declared.Image.{Image}
-use Rattle.machine.specs.Line.{lineCount, persistedAt}
+use Rattle.machine.specs.Line.{ofHead, headLines, lineCount, lineAt, persistedAt}
 use Rattle.machine.specs.declared.Machine.{Machine}
 use Rattle.machine.specs.declared.Event.{Event}
+use Rattle.machine.proofs.LineLaws.{one-head, line-zero, line-node}
 use Rattle.schedule.specs.Run.{Bench, Ran, run, begins}
 use Rattle.page.specs.Contents.{contentsOf, tableOf}
 use Rattle.page.specs.Endings.{choices, product, imageOf, ending}
@@ -30,12 +31,18 @@ use Rattle.pageproof.proofs.Left.{leftAt, chosen}
 use Rattle.pageproof.proofs.Sow.{sow, Sown, sown}
 
 -- the persisted copies as an image, where line j's is the content c has there
-image-is : (m : Machine) (n : ℕ) (c : List Content) → m .n ≡ n → ((j : ℕ) → j < lineCount n → persistedAt m j ≡ contentAt c j) → imageLeft m ≡ imageOf n c
+image-is : (m : Machine) (n : ℕ) (c : List Content) → m .n ≡ n → ((j : ℕ) → j < lineCount n → persistedAt m (lineAt n j) ≡ contentAt c j) → imageLeft m ≡ imageOf n c
 unfolding imageOf front
 image-is m n c size h =
-    rw (size, ap (λ (x : Content). x .index) (h 0 (omega arith)))
+    rw (size, ap (λ (x : Content). x .index) head)
     (ap (λ (x : List Content). record { n = n; head = contentAt c 0 .index; nodes = x ++ drop n noContents })
-    (tabs.tab-same (contentAt (m .kept)) (λ i. contentAt c (suc i)) n (λ i k. h (suc i) (omega arith))))
+    (tabs.tab-same (contentAt (m .kept)) (λ i. contentAt c (headLines n + i)) n node))
+  where
+    head : persistedAt m (ofHead 0) ≡ contentAt c 0
+    head = ap (persistedAt m) (sym (line-zero n)) ∙ h 0 (omega (arith, one-head n))
+
+    node : (i : ℕ) → i < n → contentAt (m .kept) i ≡ contentAt c (headLines n + i)
+    node i k = ap (persistedAt m) (sym (line-node n i)) ∙ h (headLines n + i) (omega arith)
 
 good-begins : (m : Machine) → Even m → Good (begins m)
 good-begins m e = record { timed = moments.timed-begins m; even = e }
@@ -45,7 +52,7 @@ module _ (n : ℕ) (m : Machine) (ev : Even m) (size : m .n ≡ n) (l : List Eve
   pub record Left (g : Image) : Type 0 where
     pub events : List Event
     pub taken : Accepts 0 (begins m) events
-    pub added : AddsLate n l (run 0 (begins m) l .replies) events (run 0 (begins m) events .replies)
+    pub added : AddsLate (lineCount n) l (run 0 (begins m) l .replies) events (run 0 (begins m) events .replies)
     pub left : imageLeft (run 0 (begins m) events .bench .machine) ≡ g
 
   abbrev final : Bench
@@ -63,10 +70,10 @@ module _ (n : ℕ) (m : Machine) (ev : Even m) (size : m .n ≡ n) (l : List Eve
     abbrev wanted : ℕ → Content
     wanted j = contentAt (getD (choices (tableOf final)) k []) j
 
-    among : (j : ℕ) → j < lineCount n → Among (wanted j) (contentsOf final j)
+    among : (j : ℕ) → j < lineCount n → Among (wanted j) (contentsOf final (lineAt n j))
     among j r =
-        let r′ : j < lineCount (final .machine .n) = omega (arith, final-size) in
-        subst (λ (x : List Content). Among (wanted j) x) (moments.table-at final j r′)
+        let r′ : j < lineCount (final .machine .n) = subst (λ x. j < lineCount x) (sym final-size) r in
+        subst (λ (x : List Content). Among (wanted j) x) (moments.table-at final j r′ ∙ ap (λ x. contentsOf final (lineAt x j)) final-size)
         (choice-in (tableOf final) k lt j (omega (arith, moments.table-length final)))
 
     from : (s : Last l) (m₀ : Machine) → run 0 (begins m) (s .before) .bench ≡ begins m₀ → Left (imageOf n (getD (choices (tableOf final)) k []))
@@ -90,7 +97,7 @@ module _ (n : ℕ) (m : Machine) (ev : Even m) (size : m .n ≡ n) (l : List Eve
       };
       left = image-is (run 0 (begins m) (s .before ++ since′) .bench .machine) n (getD (choices (tableOf final)) k [])
           (run-size (s .before ++ since′) 0 (begins m) (good-begins m ev) (ap (λ (r : Ran). accepted (r .answer)) (split since′) ∙ o .taken) ∙ size)
-          (λ j r. ap (λ (r : Ran). persistedAt (r .bench .machine) j) (split since′) ∙ o .left j r ∙ due j .1 r);
+          (λ j r. ap (λ (r : Ran). persistedAt (r .bench .machine) (lineAt n j)) (split since′) ∙ o .left j r ∙ due j .1 r);
     }
       where
         h₁ : Accepts 0 (begins m) (s .before ++ s .since)
@@ -116,13 +123,13 @@ module _ (n : ℕ) (m : Machine) (ev : Even m) (size : m .n ≡ n) (l : List Eve
         there : final ≡ run (0 + length (s .before)) (begins m₀) (s .since) .bench
         there = ap (λ (x : List Event). run 0 (begins m) x .bench) (s .is) ∙ ap (λ (r : Ran). r .bench) (split (s .since))
 
-        due : (j : ℕ) → (r : ℕ) × (j < lineCount n → leftAt j r m₀ (s .since) (persistedAt m₀ j) ≡ wanted j)
+        due : (j : ℕ) → (r : ℕ) × (j < lineCount n → leftAt (lineAt n j) r m₀ (s .since) (persistedAt m₀ (lineAt n j)) ≡ wanted j)
         due j = by (decLt j (lineCount n))
           where
-            by : Dec (j < lineCount n) → (r : ℕ) × (j < lineCount n → leftAt j r m₀ (s .since) (persistedAt m₀ j) ≡ wanted j)
+            by : Dec (j < lineCount n) → (r : ℕ) × (j < lineCount n → leftAt (lineAt n j) r m₀ (s .since) (persistedAt m₀ (lineAt n j)) ≡ wanted j)
             by (yes r) =
-                let c = chosen j (wanted j) (s .since) (0 + length (s .before)) m₀ good₀ (s .free) rest-taken (omega (arith, size₀))
-                (subst (λ (b : Bench). Among (wanted j) (contentsOf b j)) there (among j r)) in
+                let c = chosen (lineAt n j) (wanted j) (s .since) (0 + length (s .before)) m₀ good₀ (s .free) rest-taken
+                (subst (λ (b : Bench). Among (wanted j) (contentsOf b (lineAt n j))) there (among j r)) in
                 (c .0, λ z. c .1)
             by (no r) = (0, λ z. absurd (r z))
 
@@ -130,7 +137,7 @@ module _ (n : ℕ) (m : Machine) (ev : Even m) (size : m .n ≡ n) (l : List Eve
         since′ = sow (λ j. due j .0) (lineCount n) (s .since)
 
         o : Sown n (s .since) (run (0 + length (s .before)) (begins m₀) (s .since) .replies) since′ (0 + length (s .before)) (begins m₀)
-            (λ j c. leftAt j (due j .0) m₀ (s .since) c)
+            (λ j c. leftAt (lineAt n j) (due j .0) m₀ (s .since) c)
         o = sown n (λ j. due j .0) (s .since) (0 + length (s .before)) (begins m₀) good₀ (s .free) size₀ rest-taken (0 + length (s .before)) (begins m₀) good₀ (alike-self m₀)
 
     pub leaves : Left (ending (final .machine .n) (tableOf final) k)
@@ -172,7 +179,7 @@ module _ (n : ℕ) (m : Machine) (ev : Even m) (size : m .n ≡ n) (l : List Eve
       inside =
           let b = run 0 (begins m) (o .added .before) .bench in
           let p = 0 + length (o .added .before) in
-          fewer n (o .added .adds) p p b b (o .added .free) good₁ good₁ (alike-self (b .machine))
+          fewer (lineCount n) (o .added .adds) p p b b (o .added .free) good₁ good₁ (alike-self (b .machine))
           (ap (λ (r : Ran). accepted (r .answer)) (sym (split (o .added .since))) ∙ h₁)
           (ap (λ (r : Ran). accepted (r .answer)) (sym (split (o .added .since′))) ∙ h₁′) (kept-inside b)
 
@@ -190,7 +197,7 @@ module _ (n : ℕ) (m : Machine) (ev : Even m) (size : m .n ≡ n) (l : List Eve
       size′ = run-size (o .events) 0 (begins m) (good-begins m ev) (o .taken) ∙ sym (run-size l 0 (begins m) (good-begins m ev) h)
 
       k : (k : ℕ) × (k < product (tableOf final)) × ((j : ℕ) → j < length (tableOf final)
-          → contentAt (getD (choices (tableOf final)) k []) j ≡ persistedAt (run 0 (begins m) (o .events) .bench .machine) j)
-      k = choice-of (tableOf final) (persistedAt (run 0 (begins m) (o .events) .bench .machine)) (λ j r.
+          → contentAt (getD (choices (tableOf final)) k []) j ≡ persistedAt (run 0 (begins m) (o .events) .bench .machine) (lineAt (final .machine .n) j))
+      k = choice-of (tableOf final) (λ j. persistedAt (run 0 (begins m) (o .events) .bench .machine) (lineAt (final .machine .n) j)) (λ j r.
           let r′ : j < lineCount (final .machine .n) = omega (arith, moments.table-length final) in
-          rw (moments.table-at final j r′) (among j r′))
+          rw (moments.table-at final j r′) (among (lineAt (final .machine .n) j)))

@@ -11,13 +11,15 @@ use Rattle.lists.specs.Find.{pick, both}
 use Rattle.answer.specs.Answers.{accepted}
 use Rattle.answer.specs.declared.Answer.{Answer}
 use Rattle.image.specs.declared.Content.{Content}
-use Rattle.machine.specs.Line.{lineCount, cachedAt, persistedAt}
+use Rattle.machine.specs.Line.{lineCount, lineAt, sameLine, cachedAt, persistedAt}
 use Rattle.machine.specs.Event.{eventAt}
 use Rattle.machine.specs.declared.Machine.{Machine}
 use Rattle.machine.specs.declared.Event.{Event}
+use Rattle.machine.proofs.LineLaws.{same-number}
 use Rattle.schedule.specs.Run.{Bench, Ran, run, andBefore}
 use Rattle.lawful.specs.Added.{writeBack, Adds, ends, keeps, adds, NoCrash}
-use Rattle.pageproof.proofs.Alike.{Alike, alike-cached, alike-back, alike-size, back-cached}
+use Rattle.endtable.proofs.Frame.{persist-cached}
+use Rattle.pageproof.proofs.Alike.{Alike, alike-cached, alike-back, alike-size}
 use Rattle.pageproof.proofs.Events as events
 use Rattle.pageproof.proofs.Events.{Takes, next, Crash, no-crash, hits, Good, onto}
 use Rattle.pageproof.proofs.Runs.{Accepts, run-first, run-rest, run-cons, run-nothing, run-silent, run-taken}
@@ -71,12 +73,12 @@ after-is due r (suc i) j x c h = by (ℕ-discrete j i) (after-is due r i j x c)
 -- l′ is l with write-backs added; from b′ it is taken, its recorded events answer x, and line j is left what `goal j` makes of what it holds
 pub record Sown (n : ℕ) (l : List Event) (x : List Answer) (l′ : List Event) (q : ℕ) (b′ : Bench) (goal : ℕ → Content → Content) : Type 0 where
   pub taken : Accepts q b′ l′
-  pub added : Adds n l x l′ (run q b′ l′ .replies)
-  pub left : (j : ℕ) → j < lineCount n → persistedAt (run q b′ l′ .bench .machine) j ≡ goal j (persistedAt (b′ .machine) j)
+  pub added : Adds (lineCount n) l x l′ (run q b′ l′ .replies)
+  pub left : (j : ℕ) → j < lineCount n → persistedAt (run q b′ l′ .bench .machine) (lineAt n j) ≡ goal j (persistedAt (b′ .machine) (lineAt n j))
 
 regoal : (n : ℕ) (l : List Event) (x : List Answer) (l′ : List Event) (q : ℕ) (b′ : Bench) (goal goal′ : ℕ → Content → Content)
     → ((j : ℕ) → j < lineCount n → (c : Content) → goal j c ≡ goal′ j c) → Sown n l x l′ q b′ goal → Sown n l x l′ q b′ goal′
-regoal n l x l′ q b′ goal goal′ f s = record { taken = s .taken; added = s .added; left = λ j h. s .left j h ∙ f j h (persistedAt (b′ .machine) j) }
+regoal n l x l′ q b′ goal goal′ f s = record { taken = s .taken; added = s .added; left = λ j h. s .left j h ∙ f j h (persistedAt (b′ .machine) (lineAt n j)) }
 
 -- wherever a machine like m stands, the rest leaves what `goal` says
 abbrev Goes : ℕ → Machine → List Event → List Answer → List Event → (ℕ → Content → Content) → Type 0
@@ -84,45 +86,50 @@ Goes n m l x rest goal = (q : ℕ) (b′ : Bench) → Good b′ → Alike m (b�
 
 -- one write-back in front
 one : (n : ℕ) (m : Machine) → m .n ≡ n → (l : List Event) (x : List Answer) (rest : List Event) (goal : ℕ → Content → Content) (i : ℕ) → i < lineCount n
-    → Goes n m l x rest goal → Goes n m l x (writeBack i ∷ rest) (λ j c. goal j (pick (eqb j i) (cachedAt m j) c))
+    → Goes n m l x rest goal → Goes n m l x (writeBack i ∷ rest) (λ j c. goal j (pick (eqb j i) (cachedAt m (lineAt n j)) c))
 one n m size l x rest goal i h f q b′ g a = record {
   taken = ap (λ (r : Ran). accepted (r .answer)) is ∙ s .taken;
-  added = subst (λ (r : Ran). Adds n l x (writeBack i ∷ rest) (r .replies)) (sym is) (adds i h (s .added));
-  left = λ j k. ap (λ (r : Ran). persistedAt (r .bench .machine) j) is ∙ s .left j k ∙ ap (goal j) (held j);
+  added = subst (λ (r : Ran). Adds (lineCount n) l x (writeBack i ∷ rest) (r .replies)) (sym is) (adds i h (s .added));
+  left = λ j k. ap (λ (r : Ran). persistedAt (r .bench .machine) (lineAt n j)) is ∙ s .left j k ∙ ap (goal j) (held j);
 }
   where
     t : Takes q (b′ .machine) (writeBack i)
-    t = events.back-taken q (b′ .machine) i (omega (arith, alike-size m (b′ .machine) a))
+    t = events.back-taken q (b′ .machine) i (subst (λ x. i < lineCount x) (sym (alike-size m (b′ .machine) a ∙ size)) h)
 
     is : run q b′ (writeBack i ∷ rest) ≡ andBefore (eventAt q (b′ .machine) (writeBack i) .answer) (run (suc q) (onto b′ (writeBack i)) rest)
     is = run-cons q b′ (writeBack i) rest t
 
     s : Sown n l x rest (suc q) (onto b′ (writeBack i)) goal
-    s = f (suc q) (onto b′ (writeBack i)) (events.onto-good q b′ g (writeBack i) (no-crash i) t) (alike-back m (b′ .machine) a i)
+    s = f (suc q) (onto b′ (writeBack i)) (events.onto-good q b′ g (writeBack i) (no-crash i) t) (alike-back m (b′ .machine) a (lineAt (b′ .machine .n) i))
 
-    held : (j : ℕ) → persistedAt (onto b′ (writeBack i) .machine) j ≡ pick (eqb j i) (cachedAt m j) (persistedAt (b′ .machine) j)
+    held : (j : ℕ) → persistedAt (onto b′ (writeBack i) .machine) (lineAt n j) ≡ pick (eqb j i) (cachedAt m (lineAt n j)) (persistedAt (b′ .machine) (lineAt n j))
     held j =
-        events.persisted-next (b′ .machine) (g .even) (writeBack i) (no-crash i) j
-        ∙ ap (λ (c : Content). pick (eqb j i) c (persistedAt (b′ .machine) j)) (back-cached (b′ .machine) i j ∙ alike-cached m (b′ .machine) a j)
+        events.persisted-next (b′ .machine) (g .even) (writeBack i) (no-crash i) (lineAt n j)
+        ∙ ap (λ (t : Bool). pick t (cachedAt (onto b′ (writeBack i) .machine) (lineAt n j)) (persistedAt (b′ .machine) (lineAt n j))) hit
+        ∙ ap (λ (c : Content). pick (eqb j i) c (persistedAt (b′ .machine) (lineAt n j)))
+        (persist-cached (b′ .machine) (lineAt (b′ .machine .n) i) (lineAt n j) ∙ alike-cached m (b′ .machine) a (lineAt n j))
+      where
+        hit : hits (b′ .machine) (writeBack i) (lineAt n j) ≡ eqb j i
+        hit = ap (λ x. sameLine (lineAt n j) (lineAt x i)) (alike-size m (b′ .machine) a ∙ size) ∙ same-number n j i
 
 -- those of one moment
 many : (n : ℕ) (m : Machine) → m .n ≡ n → (l : List Event) (x : List Answer) (rest : List Event) (goal : ℕ → Content → Content) (due : ℕ → ℕ) (r i : ℕ) → i ≤ lineCount n
-    → Goes n m l x rest goal → Goes n m l x (sowAt due r i rest) (λ j c. goal j (afterAt due r i j (cachedAt m j) c))
+    → Goes n m l x rest goal → Goes n m l x (sowAt due r i rest) (λ j c. goal j (afterAt due r i j (cachedAt m (lineAt n j)) c))
 unfolding sowAt afterAt
 many n m size l x rest goal due r zero h f = f
 many n m size l x rest goal due r (suc i) h f = by (eqb (due i) r) (many n m size l x rest goal due r i (omega arith) f)
   where
-    by : (t : Bool) → Goes n m l x (sowAt due r i rest) (λ j c. goal j (afterAt due r i j (cachedAt m j) c))
-        → Goes n m l x (addIf t i (sowAt due r i rest)) (λ j c. goal j (afterAt due r i j (cachedAt m j) (pick (both t (eqb j i)) (cachedAt m j) c)))
-    by true k = one n m size l x (sowAt due r i rest) (λ j c. goal j (afterAt due r i j (cachedAt m j) c)) i (omega arith) k
+    by : (t : Bool) → Goes n m l x (sowAt due r i rest) (λ j c. goal j (afterAt due r i j (cachedAt m (lineAt n j)) c))
+        → Goes n m l x (addIf t i (sowAt due r i rest)) (λ j c. goal j (afterAt due r i j (cachedAt m (lineAt n j)) (pick (both t (eqb j i)) (cachedAt m (lineAt n j)) c)))
+    by true k = one n m size l x (sowAt due r i rest) (λ j c. goal j (afterAt due r i j (cachedAt m (lineAt n j)) c)) i (omega arith) k
     by false k = k
 
 -- all of them, and what each line is left with before the next recorded event
 moment : (n : ℕ) (m : Machine) → m .n ≡ n → (l : List Event) (x : List Answer) (rest : List Event) (goal : ℕ → Content → Content) (due : ℕ → ℕ) (r : ℕ)
-    → Goes n m l x rest goal → Goes n m l x (sowAt due r (lineCount n) rest) (λ j c. goal j (pick (eqb (due j) r) (cachedAt m j) c))
+    → Goes n m l x rest goal → Goes n m l x (sowAt due r (lineCount n) rest) (λ j c. goal j (pick (eqb (due j) r) (cachedAt m (lineAt n j)) c))
 moment n m size l x rest goal due r f q b′ g a =
-    regoal n l x (sowAt due r (lineCount n) rest) q b′ (λ j c. goal j (afterAt due r (lineCount n) j (cachedAt m j) c))
-    (λ j c. goal j (pick (eqb (due j) r) (cachedAt m j) c)) (λ j h c. ap (goal j) (after-is due r (lineCount n) j (cachedAt m j) c h))
+    regoal n l x (sowAt due r (lineCount n) rest) q b′ (λ j c. goal j (afterAt due r (lineCount n) j (cachedAt m (lineAt n j)) c))
+    (λ j c. goal j (pick (eqb (due j) r) (cachedAt m (lineAt n j)) c)) (λ j h c. ap (goal j) (after-is due r (lineCount n) j (cachedAt m (lineAt n j)) c h))
     (many n m size l x rest goal due r (lineCount n) (omega arith) f q b′ g a)
 
 -- no event is left
@@ -130,17 +137,17 @@ nothing-left : (n p : ℕ) (b : Bench) → Goes n (b .machine) [] (run p b [] .r
 nothing-left n p b q b′ g a = record {
   taken = run-taken q b′;
   added = rw (run-silent p b, run-silent q b′) ends;
-  left = λ j h. ap (λ (z : Bench). persistedAt (z .machine) j) (run-nothing q b′);
+  left = λ j h. ap (λ (z : Bench). persistedAt (z .machine) (lineAt n j)) (run-nothing q b′);
 }
 
 -- a recorded event in front
 module _ (n p : ℕ) (b : Bench) (g : Good b) (e : Event) (ne : Crash e → ⊥) (t : Takes p (b .machine) e) (l : List Event) (rest : List Event) (goal : ℕ → Content → Content) where
   before : Goes n (onto b e .machine) l (run (suc p) (onto b e) l .replies) rest goal
-      → Goes n (b .machine) (e ∷ l) (run p b (e ∷ l) .replies) (e ∷ rest) (λ j c. goal j (pick (hits (b .machine) e j) (cachedAt (next (b .machine) e) j) c))
+      → Goes n (b .machine) (e ∷ l) (run p b (e ∷ l) .replies) (e ∷ rest) (λ j c. goal j (pick (hits (b .machine) e (lineAt n j)) (cachedAt (next (b .machine) e) (lineAt n j)) c))
   before f q b′ g′ a = record {
     taken = ap (λ (r : Ran). accepted (r .answer)) is′ ∙ s .taken;
     added = rw (ap (λ (r : Ran). r .replies) is, ap (λ (r : Ran). r .replies) is′, events.alike-reply p q m m′ a e ne t) (keeps (s .added));
-    left = λ j h. ap (λ (r : Ran). persistedAt (r .bench .machine) j) is′ ∙ s .left j h ∙ ap (goal j) (held j);
+    left = λ j h. ap (λ (r : Ran). persistedAt (r .bench .machine) (lineAt n j)) is′ ∙ s .left j h ∙ ap (goal j) (held j);
   }
     where
       m : Machine
@@ -162,24 +169,24 @@ module _ (n p : ℕ) (b : Bench) (g : Good b) (e : Event) (ne : Crash e → ⊥)
       s = f (suc q) (onto b′ e) (events.onto-good q b′ g′ e ne t′)
           (rw (events.onto-machine p b g e ne t, events.onto-machine q b′ g′ e ne t′) (events.alike-next (b .machine) (b′ .machine) a e ne))
 
-      held : (j : ℕ) → persistedAt (onto b′ e .machine) j ≡ pick (hits (b .machine) e j) (cachedAt (next (b .machine) e) j) (persistedAt (b′ .machine) j)
+      held : (j : ℕ) → persistedAt (onto b′ e .machine) (lineAt n j) ≡ pick (hits (b .machine) e (lineAt n j)) (cachedAt (next (b .machine) e) (lineAt n j)) (persistedAt (b′ .machine) (lineAt n j))
       held j =
-          ap (λ (z : Machine). persistedAt z j) (events.onto-machine q b′ g′ e ne t′)
-          ∙ events.persisted-next (b′ .machine) (g′ .even) e ne j
-          ∙ ap (λ (z : Bool). pick z (cachedAt (next (b′ .machine) e) j) (persistedAt (b′ .machine) j)) (events.alike-hits (b .machine) (b′ .machine) a e j)
-          ∙ ap (λ (z : Content). pick (hits (b .machine) e j) z (persistedAt (b′ .machine) j))
-          (alike-cached (next (b .machine) e) (next (b′ .machine) e) (events.alike-next (b .machine) (b′ .machine) a e ne) j)
+          ap (λ (z : Machine). persistedAt z (lineAt n j)) (events.onto-machine q b′ g′ e ne t′)
+          ∙ events.persisted-next (b′ .machine) (g′ .even) e ne (lineAt n j)
+          ∙ ap (λ (z : Bool). pick z (cachedAt (next (b′ .machine) e) (lineAt n j)) (persistedAt (b′ .machine) (lineAt n j))) (events.alike-hits (b .machine) (b′ .machine) a e (lineAt n j))
+          ∙ ap (λ (z : Content). pick (hits (b .machine) e (lineAt n j)) z (persistedAt (b′ .machine) (lineAt n j)))
+          (alike-cached (next (b .machine) e) (next (b′ .machine) e) (events.alike-next (b .machine) (b′ .machine) a e ne) (lineAt n j))
 
 -- the whole list
 pub sown : (n : ℕ) (due : ℕ → ℕ) (l : List Event) (p : ℕ) (b : Bench) → Good b → NoCrash l → b .machine .n ≡ n → Accepts p b l
-    → Goes n (b .machine) l (run p b l .replies) (sow due (lineCount n) l) (λ j c. leftAt j (due j) (b .machine) l c)
+    → Goes n (b .machine) l (run p b l .replies) (sow due (lineCount n) l) (λ j c. leftAt (lineAt n j) (due j) (b .machine) l c)
 unfolding sow leftAt
 sown n due [] p b g nc size h = moment n (b .machine) size [] (run p b [] .replies) [] (λ j c. c) due 0 (nothing-left n p b)
 sown n due (e ∷ l) p b g nc size h =
     let t = run-first p b e l h in
     let is = events.onto-machine p b g e (nc .0) t in
     moment n (b .machine) size (e ∷ l) (run p b (e ∷ l) .replies) (e ∷ sow due (lineCount n) l)
-    (λ j c. leftAt j (due j) (next (b .machine) e) l (pick (hits (b .machine) e j) (cachedAt (next (b .machine) e) j) c)) due (suc (length l))
-    (before n p b g e (nc .0) t l (sow due (lineCount n) l) (λ j c. leftAt j (due j) (next (b .machine) e) l c)
-    (subst (λ (z : Machine). Goes n (onto b e .machine) l (run (suc p) (onto b e) l .replies) (sow due (lineCount n) l) (λ j c. leftAt j (due j) z l c)) is
+    (λ j c. leftAt (lineAt n j) (due j) (next (b .machine) e) l (pick (hits (b .machine) e (lineAt n j)) (cachedAt (next (b .machine) e) (lineAt n j)) c)) due (suc (length l))
+    (before n p b g e (nc .0) t l (sow due (lineCount n) l) (λ j c. leftAt (lineAt n j) (due j) (next (b .machine) e) l c)
+    (subst (λ (z : Machine). Goes n (onto b e .machine) l (run (suc p) (onto b e) l .replies) (sow due (lineCount n) l) (λ j c. leftAt (lineAt n j) (due j) z l c)) is
     (sown n due l (suc p) (onto b e) (events.onto-good p b g e (nc .0) t) (nc .1) (events.onto-size p b g e (nc .0) t ∙ size) (run-rest p b e l h))))

@@ -2,15 +2,14 @@
 use Prim.Native.Nat.{ℕ, _<_}
 use mathlib.Core.Path.{_≡_}
 use mathlib.Core.List.{List, [], _∷_, _++_}
-use Rattle.machine.specs.Line.{lineCount}
 use Rattle.machine.specs.declared.Event.{Event}
 use Rattle.lawful.specs.Added.{writeBack, NoCrash, EndsInStart}
 
--- l′ is l with write-backs of the lines of n nodes added, any number, at any place
+-- l′ is l with write-backs of the first n lines added, any number, at any place
 pub data Longer (n : ℕ) : List Event → List Event → Type 0 where
   ends : Longer n [] []
   keeps : {e : Event} {l l′ : List Event} → Longer n l l′ → Longer n (e ∷ l) (e ∷ l′)
-  adds : (k : ℕ) → k < lineCount n → {l l′ : List Event} → Longer n l l′ → Longer n l (writeBack k ∷ l′)
+  adds : (k : ℕ) → k < n → {l l′ : List Event} → Longer n l l′ → Longer n l (writeBack k ∷ l′)
 
 -- the events l, lengthened after the last start to l′
 pub record LongerLate (n : ℕ) (l l′ : List Event) : Type 0 where

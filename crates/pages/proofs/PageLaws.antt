@@ -1,10 +1,9 @@
 -- From the code's run to the page's answers and bytes.
-use Prim.Native.Nat.{ℕ, suc, _+_, _*_, _<_, _≤_}
+use Prim.Native.Nat.{ℕ, _+_, _*_, _<_, _≤_}
 use mathlib.Core.Path.{_≡_, refl, sym, ap, ap₂, subst, _∙_}
 use mathlib.Core.Bool.{true, false}
 use mathlib.Core.List.{List}
 use native.Mathlib.Omega.{arith}
-use native.Mathlib.Numerals.{add-one}
 use lib.ListN.{length}
 use lib.Dec.{ltb, leb}
 use borrow.Author.Tests.{lt-ltb, le-ltb, le-leb, lt-leb}
@@ -20,6 +19,7 @@ use Rattle.image.specs.declared.Content.{Content}
 use Rattle.image.specs.declared.Image.{Image}
 use Rattle.machine.specs.Line.{lineCount}
 use Rattle.machine.specs.declared.Machine.{Machine}
+use Rattle.machine.proofs.LineLaws.{one-head}
 use Rattle.schedule.specs.Layout.{scheduleAnswer}
 use Rattle.schedule.specs.Run.{Ran, Bench, ran}
 use Rattle.page.specs.Contents.{tableOf}
@@ -62,7 +62,7 @@ module _ (s : List ℕ) (r : Run) (g : RunIs s r) (a : accepted (r .answer) ≡ 
   held = g .tables a
 
   size : r .machine .n + 1 ≡ lineCount (ran s .bench .machine .n)
-  size = add-one (r .machine .n) ∙ ap (λ (x : Machine). suc (x .n)) (g .machine a)
+  size = omega (arith, one-head (ran s .bench .machine .n), ap (λ (x : Machine). x .n) (g .machine a))
 
   pub rows-counted : Counted (countsOf (r .rows)) (r .machine .n + 1)
   rows-counted = subst (Counted (countsOf (r .rows))) (sym size) (endings.bench-counted (ran s .bench) (atsOf (r .rows)) (countsOf (r .rows)) held)
@@ -113,7 +113,7 @@ module _ (s : List ℕ) (r : Run) (p : PageIs s r) (a : accepted (r .answer) ≡
   nodes-are = ap (λ (x : Machine). x .n) (t .machine)
 
   lines-are : r .machine .n + 1 ≡ lineCount (b .machine .n)
-  lines-are = add-one (r .machine .n) ∙ ap suc nodes-are
+  lines-are = omega (arith, one-head (b .machine .n), nodes-are)
 
   pub page-small : r .machine .n ≤ 64
   page-small = omega (arith, nodes-are, t .small)

@@ -13,7 +13,7 @@ use Rattle.lists.specs.Find.{pick}
 use Rattle.lists.specs.Tab.{tab, front}
 use Rattle.lists.proofs.TabLaws as tabs
 use Rattle.image.specs.declared.Content.{Content}
-use Rattle.machine.specs.Line.{cachedAt}
+use Rattle.machine.specs.Line.{lineAt, cachedAt}
 use Rattle.machine.specs.declared.Machine.{Machine}
 use Rattle.machine.specs.declared.Event.{Event}
 use Rattle.endtable.specs.Rows.{rowAfter, countAfter}
@@ -57,27 +57,27 @@ count-of rows l = List·getD-map (λ (r : Row). r .count) rows l noRow
 -- ---- after an event
 
 pub touched-ats : (rows : List Row) (w : Touch) (next : Machine)
-    → atsOf (rowsTouched rows w next) ≡ tableAfter (atsOf rows) (countsOf rows) w (cachedAt next (w .line))
+    → atsOf (rowsTouched rows w next) ≡ tableAfter (atsOf rows) (countsOf rows) w (cachedAt next (lineAt (next .n) (w .line)))
 unfolding tableAfter rowJoined
 touched-ats rows w next = by (ltb (w .line) 65)
   where
-    by : (b : Bool) → atsOf (pick b (set rows (w .line) (rowJoined (getD rows (w .line) noRow) (cachedAt next (w .line)) (w .persisted))) rows)
-        ≡ pick b (set (atsOf rows) (w .line) (rowAfter (getD (atsOf rows) (w .line) []) (getD (countsOf rows) (w .line) 0) (cachedAt next (w .line)) (w .persisted))) (atsOf rows)
+    by : (b : Bool) → atsOf (pick b (set rows (w .line) (rowJoined (getD rows (w .line) noRow) (cachedAt next (lineAt (next .n) (w .line))) (w .persisted))) rows)
+        ≡ pick b (set (atsOf rows) (w .line) (rowAfter (getD (atsOf rows) (w .line) []) (getD (countsOf rows) (w .line) 0) (cachedAt next (lineAt (next .n) (w .line))) (w .persisted))) (atsOf rows)
     by true =
-        map-set (λ (r : Row). r .at) rows (w .line) (rowJoined (getD rows (w .line) noRow) (cachedAt next (w .line)) (w .persisted))
-        ∙ ap₂ (λ (a : List Content) (n : ℕ). set (atsOf rows) (w .line) (rowAfter a n (cachedAt next (w .line)) (w .persisted))) (sym (at-of rows (w .line))) (sym (count-of rows (w .line)))
+        map-set (λ (r : Row). r .at) rows (w .line) (rowJoined (getD rows (w .line) noRow) (cachedAt next (lineAt (next .n) (w .line))) (w .persisted))
+        ∙ ap₂ (λ (a : List Content) (n : ℕ). set (atsOf rows) (w .line) (rowAfter a n (cachedAt next (lineAt (next .n) (w .line))) (w .persisted))) (sym (at-of rows (w .line))) (sym (count-of rows (w .line)))
     by false = refl
 
 pub touched-counts : (rows : List Row) (w : Touch) (next : Machine)
-    → countsOf (rowsTouched rows w next) ≡ countsAfter (atsOf rows) (countsOf rows) w (cachedAt next (w .line))
+    → countsOf (rowsTouched rows w next) ≡ countsAfter (atsOf rows) (countsOf rows) w (cachedAt next (lineAt (next .n) (w .line)))
 unfolding countsAfter rowJoined
 touched-counts rows w next = by (ltb (w .line) 65)
   where
-    by : (b : Bool) → countsOf (pick b (set rows (w .line) (rowJoined (getD rows (w .line) noRow) (cachedAt next (w .line)) (w .persisted))) rows)
-        ≡ pick b (set (countsOf rows) (w .line) (countAfter (getD (atsOf rows) (w .line) []) (getD (countsOf rows) (w .line) 0) (cachedAt next (w .line)) (w .persisted))) (countsOf rows)
+    by : (b : Bool) → countsOf (pick b (set rows (w .line) (rowJoined (getD rows (w .line) noRow) (cachedAt next (lineAt (next .n) (w .line))) (w .persisted))) rows)
+        ≡ pick b (set (countsOf rows) (w .line) (countAfter (getD (atsOf rows) (w .line) []) (getD (countsOf rows) (w .line) 0) (cachedAt next (lineAt (next .n) (w .line))) (w .persisted))) (countsOf rows)
     by true =
-        map-set (λ (r : Row). r .count) rows (w .line) (rowJoined (getD rows (w .line) noRow) (cachedAt next (w .line)) (w .persisted))
-        ∙ ap₂ (λ (a : List Content) (n : ℕ). set (countsOf rows) (w .line) (countAfter a n (cachedAt next (w .line)) (w .persisted))) (sym (at-of rows (w .line))) (sym (count-of rows (w .line)))
+        map-set (λ (r : Row). r .count) rows (w .line) (rowJoined (getD rows (w .line) noRow) (cachedAt next (lineAt (next .n) (w .line))) (w .persisted))
+        ∙ ap₂ (λ (a : List Content) (n : ℕ). set (countsOf rows) (w .line) (countAfter a n (cachedAt next (lineAt (next .n) (w .line))) (w .persisted))) (sym (at-of rows (w .line))) (sym (count-of rows (w .line)))
     by false = refl
 
 -- the three ways of the loop over the events: a crash, no line touched, a line touched
@@ -94,7 +94,7 @@ module _ (rows : List Row) (m : Machine) (e : Event) (next : Machine) where
     pub after-none : 65 ≤ w .line → rows ≡ rowsAfter rows m e next
     after-none h = sym (rw (le-ltb (w .line) 65 h)) ∙ touched-is
 
-    pub after-touch : w .line < 65 → (c : Content) → c ≡ cachedAt next (w .line) → (r : Row) → r ≡ rowJoined (getD rows (w .line) noRow) c (w .persisted)
+    pub after-touch : w .line < 65 → (c : Content) → c ≡ cachedAt next (lineAt (next .n) (w .line)) → (r : Row) → r ≡ rowJoined (getD rows (w .line) noRow) c (w .persisted)
         → set rows (w .line) r ≡ rowsAfter rows m e next
     after-touch h c cached r joined =
         ap (set rows (w .line)) (joined ∙ ap (λ (x : Content). rowJoined (getD rows (w .line) noRow) x (w .persisted)) cached)

@@ -8,7 +8,7 @@ use Rattle.lists.specs.Find.{pick}
 use Rattle.lists.specs.Tab.{front}
 use Rattle.image.specs.Layout.{noContent}
 use Rattle.image.specs.declared.Content.{Content}
-use Rattle.machine.specs.Line.{lineCount, cachedAt}
+use Rattle.machine.specs.Line.{lineCount, lineAt, cachedAt}
 use Rattle.machine.specs.declared.Machine.{Machine}
 use Rattle.machine.specs.declared.Event.{Event}
 use Rattle.endtable.specs.Opened.{openedTable, openedCounts}
@@ -44,7 +44,7 @@ rowJoined r c p = record { count = countAfter (r .at) (r .count) c p; at = rowAf
 
 abbrev pub rowsTouched : List Row → Touch → Machine → List Row
 rowsTouched rows w next =
-    pick (ltb (w .line) 65) (set rows (w .line) (rowJoined (getD rows (w .line) noRow) (cachedAt next (w .line)) (w .persisted))) rows
+    pick (ltb (w .line) 65) (set rows (w .line) (rowJoined (getD rows (w .line) noRow) (cachedAt next (lineAt (next .n) (w .line))) (w .persisted))) rows
 
 unfoldable pub rowsAfter : List Row → Machine → Event → Machine → List Row
 rowsAfter rows m e next = pick (eqb (e .kind) 5) (openedRows next) (rowsTouched rows (touchIn m e) next)

@@ -31,12 +31,12 @@ picks-filled cs n k ps r e l h =
     subst (λ ps. getD ps l 0 < 16) (sym e) (digits.digits-front cs (lineCount n) k (drop (lineCount n) blankCounts) r l h)
 
 pub picked-line : (t : List (List Content)) (cs : List ℕ) (n k : ℕ) (ps : List ℕ) (nodes : List Content) (i : ℕ)
-    → i ≡ n → nodes ≡ front (pickedNode t ps) i noContents → ps ≡ picksOf cs n k
+    → i ≡ n → nodes ≡ front (pickedNode t ps n) i noContents → ps ≡ picksOf cs n k
     → endingLine k (record { n = n; head = contentAt (getD t 0 []) (getD ps 0 0) .index; nodes = nodes }) ≡ lineFrom t cs n k
 unfolding lineFrom endingFrom pickedImage pickedAt
 picked-line t cs n k ps nodes i e f g =
-    ap (λ x. endingLine k (record { n = n; head = contentAt (getD t 0 []) (getD ps 0 0) .index; nodes = x })) (f ∙ ap (λ i. front (pickedNode t ps) i noContents) e)
-    ∙ ap (λ ps. endingLine k (record { n = n; head = contentAt (getD t 0 []) (getD ps 0 0) .index; nodes = front (pickedNode t ps) n noContents })) g
+    ap (λ x. endingLine k (record { n = n; head = contentAt (getD t 0 []) (getD ps 0 0) .index; nodes = x })) (f ∙ ap (λ i. front (pickedNode t ps n) i noContents) e)
+    ∙ ap (λ ps. endingLine k (record { n = n; head = contentAt (getD t 0 []) (getD ps 0 0) .index; nodes = front (pickedNode t ps n) n noContents })) g
 
 -- what is known of the first line once it was written stays known
 pub first-known : (P : ℕ → Type 0) (from k : ℕ) → (from < k → P from) → from ≤ k → P k → from < k + 1 → P from

@@ -2,13 +2,13 @@
 use Prim.Native.Nat.{ℕ, zero, suc}
 use mathlib.Core.Bool.{Bool, true, false}
 use mathlib.Core.List.{List, [], _∷_, _++_}
-use lib.ListN.{length, set, replicate}
+use lib.ListN.{length}
 use Rattle.answer.specs.Answers.{accepted}
 use Rattle.answer.specs.declared.Answer.{Answer}
 use Rattle.answer.specs.declared.Answer.the-variants.{Taken}
 use Rattle.machine.specs.Record.{thread}
 use Rattle.machine.specs.Stage.{Stage, noStep, A1, A2, A3, A4, A5, A6, A7, A8, A9, A10, A11, A12, D1, D2, D3, D4, D5, D6, D7, stage}
-use Rattle.machine.specs.Line.{lineCount, nodeLine}
+use Rattle.machine.specs.Line.{Line, ofHead, ofNode, lineAt, putLine}
 use Rattle.machine.specs.Start.{startOf}
 use Rattle.machine.specs.Event.{Deed, unknown, enqueues, dequeues, steps, writesBack, crashes, deedOf, eventAt}
 use Rattle.machine.specs.declared.Machine.{Machine}
@@ -21,9 +21,9 @@ use Rattle.schedule.specs.declared.Schedule.{Schedule}
 
 pub data Touched : Type 0 where
   noLine : Touched
-  aLine : (l : ℕ) → Touched
+  aLine : (l : Line) → Touched
 
--- A10 persists the thread's own node, D3 and D6 persist line 0
+-- A10 persists the thread's own node, D3 and D6 persist Head's line
 abbrev pub stepPersists : Machine → ℕ → Stage → Touched
 stepPersists m k noStep = noLine
 stepPersists m k A1 = noLine
@@ -35,15 +35,15 @@ stepPersists m k A6 = noLine
 stepPersists m k A7 = noLine
 stepPersists m k A8 = noLine
 stepPersists m k A9 = noLine
-stepPersists m k A10 = aLine (nodeLine (thread m k .node))
+stepPersists m k A10 = aLine (ofNode (thread m k .node))
 stepPersists m k A11 = noLine
 stepPersists m k A12 = noLine
 stepPersists m k D1 = noLine
 stepPersists m k D2 = noLine
-stepPersists m k D3 = aLine 0
+stepPersists m k D3 = aLine (ofHead 0)
 stepPersists m k D4 = noLine
 stepPersists m k D5 = noLine
-stepPersists m k D6 = aLine 0
+stepPersists m k D6 = aLine (ofHead 0)
 stepPersists m k D7 = noLine
 
 abbrev pub persists : Machine → Event → Deed → Touched
@@ -51,7 +51,7 @@ persists m e unknown = noLine
 persists m e enqueues = noLine
 persists m e dequeues = noLine
 persists m e steps = stepPersists m (e .number) (stage m (e .number))
-persists m e writesBack = aLine (e .number)
+persists m e writesBack = aLine (lineAt (m .n) (e .number))
 persists m e crashes = noLine
 
 -- ---- the bench: moments are counted from the last start, which is moment 0; each event since is the next one
@@ -62,15 +62,15 @@ pub record Bench : Type 0 where
   -- the machine at each moment since the last start, moment 0 first, the present one last
   pub past : List Machine
   -- for each line the moment from which its contents count: the last one that persisted it
-  pub from : List ℕ
+  pub from : Line → ℕ
 
 abbrev pub begins : Machine → Bench
-begins m = record { machine = m; past = m ∷ []; from = replicate (lineCount (m .n)) 0 }
+begins m = record { machine = m; past = m ∷ []; from = λ l. 0 }
 
 -- what persisting a line at moment k does to the moments from which contents count
-abbrev pub fromAfter : Touched → ℕ → List ℕ → List ℕ
+abbrev pub fromAfter : Touched → ℕ → (Line → ℕ) → Line → ℕ
 fromAfter noLine k f = f
-fromAfter (aLine l) k f = set f l k
+fromAfter (aLine l) k f = putLine f l k
 
 abbrev pub goesOn : Bench → Machine → Touched → Bench
 goesOn b m w = record { machine = m; past = b .past ++ (m ∷ []); from = fromAfter w (length (b .past)) (b .from) }

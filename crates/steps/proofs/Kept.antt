@@ -11,13 +11,14 @@ use Rattle.lists.proofs.WordLaws as words
 use Rattle.answer.specs.declared.Answer.the-variants.{Full, WornOut}
 use Rattle.machine.specs.Record.{none, top, node, thread, contentOf, ownNode, readTail, readNext, readItem, readHead, atStep, withItem, withNext, withLinked, withIndex, putNode, putTail, putFree, putHead}
 use Rattle.machine.specs.Stage.{Stage, noStep, A1, A2, A3, A4, A5, A6, A7, A8, A9, A10, A11, A12, D1, D2, D3, D4, D5, D6, D7, stageOf, stage}
-use Rattle.machine.specs.Line.{lineCount, persist}
+use Rattle.machine.specs.Line.{Line, ofHead, ofNode, persist}
 use Rattle.machine.specs.Retire.{moving, going, answering, nextFree, freed, left, retired}
 use Rattle.machine.specs.Event.{begun, stepped}
 use Rattle.machine.specs.Range.{inRange}
 use Rattle.machine.specs.declared.Machine.{Machine}
 use Rattle.machine.specs.declared.Node.{Node}
 use Rattle.machine.specs.declared.Thread.{Thread}
+use Rattle.machine.proofs.LineLaws.{LineIn}
 use Rattle.steps.specs.Numbers.{numbersFit}
 use Rattle.steps.proofs.Fit.{Link, link, ThreadFit, Fit, Used, fit-range, fit-numbers, used-range, numbers-fit}
 use Rattle.steps.proofs.Keep.{none-link, fit-thread, fit-node, fit-kept, fit-kept-head, fit-tail, fit-head, fit-free, next-free-lt, fit-left, fit-retired}
@@ -191,7 +192,7 @@ module _ (m : Machine) (k : ℕ) (f : Fit m) (u : Used m k) (l : k < m .t) where
   fit-step A9 e = let p = f .nodes (thread m k .node) (u .own-in (rw e)) in stores (withLinked (node m (thread m k .node)) 1) 10 (p .next-link) (omega arith) (p .waits-in) (omega arith)
   fit-step A10 e =
       let i = thread m k .node in
-      fit-going (persist m (suc i)) k 11 (fit-kept m i (contentOf (node m i)) f (f .nodes i (u .own-in (rw e)) .flag)) l (omega arith)
+      fit-going (persist m (ofNode i)) k 11 (fit-kept m i (contentOf (node m i)) f (f .nodes i (u .own-in (rw e)) .flag)) l (omega arith)
   fit-step A11 e = A11-by (u .own-in (rw e)) (eqb (m .tail) (thread m k .tail))
   fit-step A12 e =
       A12-by (eqb (m .tail) (thread m k .tail)) (f .nodes (thread m k .tail) (u .t-in (rw e)) .next-link (u .t-next (step-12 (thread m k .step) e)))
@@ -201,12 +202,12 @@ module _ (m : Machine) (k : ℕ) (f : Fit m) (u : Used m k) (l : k < m .t) where
       let b = eqb x none in
       fit-moving m k (readNext (thread m k) x) (pick b 15 16) f (read-next (thread m k) x (f .threads k l) (f .nodes (thread m k .head) (u .head-in (rw e)) .next-link))
       (pick-le b 15 16 (omega arith) (omega arith))
-  fit-step D3 e = fit-left (persist m 0) k (thread m k .held) (fit-kept-head m (m .index) f) (f .threads k l .held-link)
+  fit-step D3 e = fit-left (persist m (ofHead 0)) k (thread m k .held) (fit-kept-head m (m .index) f) (f .threads k l .held-link)
   fit-step D4 e = D4-by (u .next-in (rw e)) (both (eqb (m .head) (thread m k .head)) (eqb (m .index) (thread m k .index)))
   fit-step D5 e =
       let x = node m (thread m k .next) .item in
       fit-moving m k (readItem (thread m k) x) 18 f (read-item (thread m k) x (f .threads k l)) (omega arith)
-  fit-step D6 e = fit-going (persist m 0) k 19 (fit-kept-head m (m .index) f) l (omega arith)
+  fit-step D6 e = fit-going (persist m (ofHead 0)) k 19 (fit-kept-head m (m .index) f) l (omega arith)
   fit-step D7 e = D7-by (u .head-in (rw e)) (eqb (thread m k .held) none) refl
 
 -- ---- the laws
@@ -223,10 +224,11 @@ kept-begun m k s v h l q =
     (fit-thread m k (record { step = s; node = 255; tail = 255; head = 255; index = 0; next = 255; item = v; held = thread m k .held }) f
     (record { step-in = q; node-link = none-link; tail-link = none-link; head-link = none-link; next-link = none-link; held-link = f .threads k l .held-link }))
 
-fit-persist : (m : Machine) (i : ℕ) → Fit m → i < lineCount (m .n) → Fit (persist m i)
-fit-persist m zero f h = fit-kept-head m (m .index) f
-fit-persist m (suc i) f h = fit-kept m i (contentOf (node m i)) f (f .nodes i (omega arith) .flag)
+fit-persist : (m : Machine) (l : Line) → Fit m → LineIn (m .n) l → Fit (persist m l)
+fit-persist m (ofHead zero) f h = fit-kept-head m (m .index) f
+fit-persist m (ofHead (suc k)) f h = f
+fit-persist m (ofNode i) f h = fit-kept m i (contentOf (node m i)) f (f .nodes i (omega arith) .flag)
 
 -- a write-back
-pub kept-persist : (m : Machine) (i : ℕ) → numbersFit m ≡ true → i < lineCount (m .n) → numbersFit (persist m i) ≡ true
-kept-persist m i h l = numbers-fit (persist m i) (fit-persist m i (fit-numbers m h) l)
+pub kept-persist : (m : Machine) (l : Line) → numbersFit m ≡ true → LineIn (m .n) l → numbersFit (persist m l) ≡ true
+kept-persist m l h i = numbers-fit (persist m l) (fit-persist m l (fit-numbers m h) i)

@@ -15,7 +15,7 @@ use Rattle.image.specs.Layout.{contentAt}
 use Rattle.image.specs.Recovered.{firstUnclear}
 use Rattle.image.specs.Refusals.{nodesFit, startable, sound}
 use Rattle.machine.specs.Stage.{busy}
-use Rattle.machine.specs.Line.{lineCount, persisted}
+use Rattle.machine.specs.Line.{lineCount, lineAt, persisted}
 use Rattle.machine.specs.Start.{threadsFit, startOf, startAnswer}
 use Rattle.machine.specs.Retire.{out}
 use Rattle.machine.specs.Event.{Deed, unknown, enqueues, dequeues, steps, writesBack, crashes, deedOf, threadTooLarge, lineTooLarge, itemNotZero, eventAnswer, done, eventAt, eventOn}
@@ -24,6 +24,7 @@ use Rattle.machine.specs.declared.Machine.{Machine}
 use Rattle.machine.specs.declared.Event.{Event}
 use Rattle.machine.specs.declared.Out.{Out}
 use Rattle.machine.proofs.RangeLaws.{start-in-range}
+use Rattle.machine.proofs.LineLaws.{line-in}
 use Rattle.steps.specs.Numbers.{numbersFit}
 use Rattle.steps.proofs.Fit.{fit-range, range-numbers}
 use Rattle.steps.proofs.Kept.{kept-step, kept-begun, kept-persist}
@@ -87,7 +88,7 @@ kept-done p m e steps h a =
     kept-step m (e .number) h l
 kept-done p m e writesBack h a =
     let l = leb-false (lineCount (m .n)) (e .number) (passed-number (lineTooLarge m e) p (check (itemNotZero e) (NotZero p) Taken) a) in
-    kept-persist m (e .number) (range-numbers m h) l
+    kept-persist m (lineAt (m .n) (e .number)) (range-numbers m h) (line-in (m .n) (e .number) l)
 kept-done p m e crashes h a = kept-crash m h (passed-zero (pick (eqb (e .number) 0) (itemNotZero e) true) p (startable (persisted m) Taken) a)
 
 -- the event at place p of a run

@@ -10,11 +10,12 @@ use lib.Pow.{pow-mono}
 use Rattle.lists.specs.Find.{pick, least}
 use Rattle.lists.specs.Word.{has, with, without, wordOf}
 use Rattle.lists.proofs.WordLaws as words
-use Rattle.machine.specs.Record.{node, contentOf, withWaits, putNode, putFree, putKept}
+use Rattle.machine.specs.Record.{node, contentOf, withWaits, putNode, putFree, putKept, putKeptHead}
 use Rattle.machine.specs.Stage.{noStep, stages, stageOf}
-use Rattle.machine.specs.Line.{persist}
+use Rattle.machine.specs.Line.{lineAt, persist}
 use Rattle.machine.specs.Retire.{others, nextFree, lastWait, releasedAt, released}
 use Rattle.machine.specs.declared.Machine.{Machine}
+use Rattle.machine.proofs.LineLaws.{line-zero, line-before}
 use Rattle.steps.specs.Others.{isOther, joined, othersBelow}
 
 -- a number above all those in the set
@@ -56,11 +57,13 @@ released-next m r k i e w f rest free =
     ∙ ap (λ (x : Machine). releasedAt x k i) e
     ∙ ap (released m k) (sym (add-one i))
 
--- ---- a node's line, by the line's number
+-- ---- a line by its number
 
-pub persist-node : (m : Machine) (l : ℕ) → 0 < l → persist m l ≡ putKept m (l - 1) (contentOf (node m (l - 1)))
-persist-node m zero h = absurd (omega arith)
-persist-node m (suc i) h = let e : suc i - 1 ≡ i = omega arith in rw e
+pub persist-head : (m : Machine) (l : ℕ) → l ≡ 0 → putKeptHead m (m .index) ≡ persist m (lineAt (m .n) l)
+persist-head m l e = rw (e, line-zero (m .n))
+
+pub persist-node : (m : Machine) (l : ℕ) → 0 < l → putKept m (l - 1) (contentOf (node m (l - 1))) ≡ persist m (lineAt (m .n) l)
+persist-node m l h = rw (line-before (m .n) l h)
 
 -- ---- a number above 19 names no step
 

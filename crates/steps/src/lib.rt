@@ -11,7 +11,7 @@ use machine::Out;
 use machine::Thread;
 ghost use mathlib.Core.Path.{_≡_};
 ghost use Prim.Native.Nat.{ℕ, _<_, _≤_};
-ghost use Rattle.machine.specs.Line.{persist};
+ghost use Rattle.machine.specs.Line.{lineAt, persist};
 ghost use Rattle.machine.specs.Record.{thread};
 ghost use Rattle.machine.specs.Stage.{stage};
 ghost use Rattle.machine.specs.Event.{begun, stepped};
@@ -20,7 +20,7 @@ ghost use Rattle.steps.specs.Ready.{Ready};
 // Line l is written back whole: by a write-back, or by a step that persists it.
 pub fn persist_line(m: Machine, l: usize) -> Machine
     requires { ⌜ l ≤ 64 ⌝ }
-    ensures { λ r. ⌜ r ≡ persist m l ⌝ }
+    ensures { λ r. ⌜ r ≡ persist m (lineAt (m .n) l) ⌝ }
 {
     let mut r = m;
     if l == 0 {

@@ -3,12 +3,13 @@ use mathlib.Core.Path.{_≡_, refl, sym, ap, subst, _∙_}
 use mathlib.Core.List.{List, [], _∷_, map}
 use Prim.Native.Nat.{ℕ, zero, suc, _≤_, _<_}
 use native.Mathlib.Omega.{arith}
-use lib.ListN.{length, getD, drop, replicate, length-replicate, getD-replicate}
 use Rattle.image.specs.declared.Image.{Image}
 use Rattle.image.specs.Recovered.{dummyOf}
-use Rattle.machine.specs.Line.{lineCount, cachedAt, persistedAt}
+use Rattle.machine.specs.Line as memory
+use Rattle.machine.specs.Line.{cachedAt, persistedAt}
 use Rattle.machine.specs.Start.{startWith, startOf, queueOf}
 use Rattle.machine.specs.declared.Machine.{Machine}
+use Rattle.machine.proofs.LineLaws.{LineIn, one-head}
 use Rattle.schedule.specs.Run.{begins}
 use Rattle.page.specs.Contents.{joins, gathered, contentsOf}
 use Rattle.model.specs.Lines.{push}
@@ -31,9 +32,9 @@ pub threads-is : (g : Image) (t : ℕ) → startOf g t .t ≡ t
 unfolding startWith
 threads-is g t = refl
 
-one-moment : (m : Machine) (l : ℕ) → l < lineCount (m .n) → contentsOf (begins m) l ≡ joins (persistedAt m l ∷ []) (cachedAt m l)
+one-moment : (m : Machine) (l : memory.Line) → contentsOf (begins m) l ≡ joins (persistedAt m l ∷ []) (cachedAt m l)
 unfolding contentsOf gathered
-one-moment m l h = ap (λ i. gathered (persistedAt m l ∷ []) (map (λ m. cachedAt m l) (drop i (m ∷ [])))) (getD-replicate (lineCount (m .n)) l 0 0 h)
+one-moment m l = refl
 
 module _ (g : Image) (t : ℕ) (G : recovery.Image) (r : ImageT g t G) (dm : dummyOf g < g .n) where
   d : Tied (imageLine g) (startOf g t) (start G)
@@ -42,19 +43,19 @@ module _ (g : Image) (t : ℕ) (G : recovery.Image) (r : ImageT g t G) (dm : dum
   pub startedT : Tied (persistedAt (startOf g t)) (startOf g t) (start G)
   startedT = own-kept _ _ _ d
 
-  line-is : (l : ℕ) → l < lineCount (g .n) → imageHas G (lineShown l) ≡ shownContent (imageLine g l)
-  line-is zero h = ap hd (r .head)
-  line-is (suc i) h = r .at i (omega arith)
+  line-is : (l : memory.Line) → LineIn (g .n) l → imageHas G (lineShown l) ≡ shownContent (imageLine g l)
+  line-is (memory.ofHead zero) h = ap hd (r .head)
+  line-is (memory.ofHead (suc k)) h = absurd (omega (arith, one-head (g .n)))
+  line-is (memory.ofNode i) h = r .at i h
 
   pub beginsT : ListsT (begins (startOf g t)) (starts G .hist)
   beginsT = record {
     lists = λ l h.
-        let h′ : l < lineCount (g .n) = subst (λ n. l < lineCount n) (size-is g t) h in
+        let h′ : LineIn (g .n) l = subst (λ n. LineIn n l) (size-is g t) h in
         ap (λ z. push sameNode (z ∷ []) (content (start G) (lineShown l))) (line-is l h′ ∙ ap shownContent (sym (kept-is _ _ _ d l h)))
         ∙ ap (push sameNode (shownContent (persistedAt (startOf g t) l) ∷ [])) (shown-cached _ _ _ d l h)
         ∙ sym (joins-shown (persistedAt (startOf g t) l ∷ []) (cachedAt (startOf g t) l) (kept-flag _ _ _ d l h, tt) (cached-flag _ _ _ d l h))
-        ∙ ap (map shownContent) (sym (one-moment (startOf g t) l h));
-    flags = λ l h. subst Flags (sym (one-moment (startOf g t) l h)) (joins-flags (persistedAt (startOf g t) l ∷ []) (cachedAt (startOf g t) l) (kept-flag _ _ _ d l h, tt) (cached-flag _ _ _ d l h));
-    size = length-replicate (lineCount (startOf g t .n)) 0;
-    early = λ l h. let z : _≡_ {A = ℕ} (getD (replicate (lineCount (startOf g t .n)) 0) l 0) 0 = getD-replicate (lineCount (startOf g t .n)) l 0 0 h in omega arith;
+        ∙ ap (map shownContent) (sym (one-moment (startOf g t) l));
+    flags = λ l h. subst Flags (sym (one-moment (startOf g t) l)) (joins-flags (persistedAt (startOf g t) l ∷ []) (cachedAt (startOf g t) l) (kept-flag _ _ _ d l h, tt) (cached-flag _ _ _ d l h));
+    early = λ l. omega arith;
   }

@@ -11,8 +11,11 @@ use lib.Dec.{eqb}
 use lib.ListN.{getD}
 use Rattle.lists.specs.Word.{has, with, without}
 use Rattle.image.specs.declared.Content.{Content}
+use Rattle.machine.specs.Line as memory
 use Rattle.machine.specs.Record.{top, node, thread, contentOf, withNext, putNode, putTail, putHead, putFree, putThread}
-use Rattle.machine.specs.Line.{lineCount, cachedAt, persist, headContent}
+use Rattle.machine.specs.Line.{putLine, cachedAt, persist, headContent}
+use Rattle.machine.proofs.LineLaws as lines
+use Rattle.machine.proofs.LineLaws.{LineIn}
 use Rattle.machine.specs.declared.Machine.{Machine}
 use Rattle.machine.specs.declared.Node.{Node}
 use Rattle.machine.specs.declared.Thread.{Thread}
@@ -46,7 +49,7 @@ withoutT n w f r i = record { bits = λ j l. by j l (ℕ-discrete j i); fits = w
 
 -- ---- the changes
 
-module _ (p : ℕ → Content) (m : Machine) (c : Core) (d : Tied p m c) where
+module _ (p : memory.Line → Content) (m : Machine) (c : Core) (d : Tied p m c) where
   -- a thread moves on
   pub moveT : (k : ℕ) → k < m .t → (v : Thread) (s : Th) → ThreadAt (m .n) v s (c .held k) → Tied p (putThread m k v) (setTh c k s)
   moveT k h v s a = record {
@@ -170,8 +173,8 @@ module _ (p : ℕ → Content) (m : Machine) (c : Core) (d : Tied p m c) where
   }
 
   -- a line is persisted
-  pub persistT : (l : ℕ) → l < lineCount (m .n) → Tied (upd p l (cachedAt m l)) (persist m l) c
-  persistT zero h = record {
+  pub persistT : (l : memory.Line) → LineIn (m .n) l → Tied (putLine p l (cachedAt m l)) (persist m l) c
+  persistT (memory.ofHead zero) h = record {
     conf = d .conf;
     sizes = d .sizes;
     hnode = d .hnode;
@@ -183,13 +186,18 @@ module _ (p : ℕ → Content) (m : Machine) (c : Core) (d : Tied p m c) where
     threads = d .threads;
     kept = record {
       size = d .kept .size;
-      head = upd-same p 0 (headContent (m .index));
-      at = λ i l. upd-other p 0 (headContent (m .index)) (λ e. omega arith) ∙ d .kept .at i l;
-      flag = λ i l. subst (λ y. y .linked ≤ 1) (sym (upd-other p 0 (headContent (m .index)) {j = suc i} (λ e. omega arith))) (d .kept .flag i l);
-      narrow = λ j l. upd-ind p 0 (headContent (m .index)) (λ k c. c .index ≤ top) j (d .narrow) (λ ne. d .kept .narrow j l);
+      head = lines.put-same p (memory.ofHead 0) (headContent (m .index));
+      at = λ i l. other i ∙ d .kept .at i l;
+      flag = λ i l. subst (λ y. y .linked ≤ 1) (sym (other i)) (d .kept .flag i l);
+      narrow-head = subst (λ y. y .index ≤ top) (sym (lines.put-same p (memory.ofHead 0) (headContent (m .index)))) (d .narrow);
+      narrow = λ i l. subst (λ y. y .index ≤ top) (sym (other i)) (d .kept .narrow i l);
     };
   }
-  persistT (suc i) h = record {
+    where
+      other : (i : ℕ) → putLine p (memory.ofHead 0) (headContent (m .index)) (memory.ofNode i) ≡ p (memory.ofNode i)
+      other i = lines.put-other p (memory.ofHead 0) (headContent (m .index)) (memory.ofNode i) (λ e. lines.head-not-node 0 i (sym e))
+  persistT (memory.ofHead (suc k)) h = absurd (omega (arith, lines.one-head (m .n)))
+  persistT (memory.ofNode i) h = record {
     conf = d .conf;
     sizes = d .sizes;
     hnode = d .hnode;
@@ -199,7 +207,7 @@ module _ (p : ℕ → Content) (m : Machine) (c : Core) (d : Tied p m c) where
     nodes = d .nodes;
     free = d .free;
     threads = d .threads;
-    kept = putKepts (m .n) p (m .«kept_head») (m .kept) (d .kept) (d .sizes .nodes-hi) i (omega arith) (contentOf (node m i)) (d .nodes .at i (omega arith) .flag) (d .nodes .at i (omega arith) .narrow);
+    kept = putKepts (m .n) p (m .«kept_head») (m .kept) (d .kept) (d .sizes .nodes-hi) i h (contentOf (node m i)) (d .nodes .at i h .flag) (d .nodes .at i h .narrow);
   }
 
   -- the shape

@@ -10,8 +10,9 @@ use lib.Dec.{eqb, eqb-refl}
 use Rattle.lists.specs.Find.{both}
 use Rattle.lists.proofs.BoolLaws.{no-way}
 use Rattle.image.specs.declared.Content.{Content}
+use Rattle.image.specs.Layout.{sameContent}
 use Rattle.machine.specs.Record.{top}
-use Rattle.page.specs.Contents.{sameContent, joins, gathered}
+use Rattle.page.specs.Contents.{joins, gathered}
 use Rattle.model.specs.Basics.{bothb}
 use Rattle.model.specs.Lines.{push, headOr}
 use Rattle.model.specs.Core as core

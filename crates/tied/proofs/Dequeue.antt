@@ -7,8 +7,10 @@ use native.Mathlib.Omega.{arith}
 use lib.Dec.{eqb}
 use Rattle.lists.specs.Find.{pick, both}
 use Rattle.image.specs.declared.Content.{Content}
+use Rattle.machine.specs.Line as memory
 use Rattle.machine.specs.Record.{node, thread, atStep, readHead, readNext, readItem, putHead}
 use Rattle.machine.specs.Line.{persist}
+use Rattle.machine.proofs.LineLaws.{one-head}
 use Rattle.machine.specs.Stage.{stage, D1, D2, D3, D4, D5, D6, D7}
 use Rattle.machine.specs.Retire.{moving, going}
 use Rattle.machine.specs.Event.{stepped}
@@ -31,7 +33,7 @@ same-both : (a b : Bool) → bothb a b ≡ both a b
 same-both true b = refl
 same-both false b = refl
 
-module _ (p : ℕ → Content) (m : Machine) (c : Core) (d : Tied p m c) (r : InRange c) (k : ℕ) (hk : k < m .t) where
+module _ (p : memory.Line → Content) (m : Machine) (c : Core) (d : Tied p m c) (r : InRange c) (k : ℕ) (hk : k < m .t) where
   pub sD1 : stage m k ≡ D1 → StepT p m noLine (stepped m k D1) (step c k (threadOf D1 (thread m k)))
   sD1 e = record {
     tied = moveT p m c d k hk (atStep (readHead (thread m k) (m .head) (m .index)) 14) (d2 (c .hnode) (c .hidx))
@@ -73,9 +75,9 @@ module _ (p : ℕ → Content) (m : Machine) (c : Core) (d : Tied p m c) (r : In
       subst (λ o. StepT p m noLine (stepped m k D2) (stepD2 c k (thread m k .head) (thread m k .index) o)) (sym (d .nodes .at (thread m k .head) h .link))
       (eD2 h (eqb (node m (thread m k .head) .next) 255))
 
-  pub sD3 : stage m k ≡ D3 → StepT p m (aLine 0) (stepped m k D3) (step c k (threadOf D3 (thread m k)))
+  pub sD3 : stage m k ≡ D3 → StepT p m (aLine (memory.ofHead 0)) (stepped m k D3) (step c k (threadOf D3 (thread m k)))
   sD3 e = record {
-    tied = leavesT _ _ _ (persistT p m c d 0 (omega arith)) k hk;
+    tied = leavesT _ _ _ (persistT p m c d (memory.ofHead 0) (omega (arith, one-head (m .n)))) k hk;
     says = refl;
     touch = ap (λ E. ofHead (lineOf E k)) (engine-is p m c d k hk);
   }
@@ -112,9 +114,9 @@ module _ (p : ℕ → Content) (m : Machine) (c : Core) (d : Tied p m c) (r : In
     touch = tt;
   }
 
-  pub sD6 : stage m k ≡ D6 → StepT p m (aLine 0) (stepped m k D6) (step c k (threadOf D6 (thread m k)))
+  pub sD6 : stage m k ≡ D6 → StepT p m (aLine (memory.ofHead 0)) (stepped m k D6) (step c k (threadOf D6 (thread m k)))
   sD6 e = record {
-    tied = moveT _ _ _ (persistT p m c d 0 (omega arith)) k hk (atStep (thread m k) 19) _ (goes-on p m c d k hk 19 _ (omega arith) refl);
+    tied = moveT _ _ _ (persistT p m c d (memory.ofHead 0) (omega (arith, one-head (m .n)))) k hk (atStep (thread m k) 19) _ (goes-on p m c d k hk 19 _ (omega arith) refl);
     says = refl;
     touch = ap (λ E. ofHead (lineOf E k)) (engine-is p m c d k hk);
   }

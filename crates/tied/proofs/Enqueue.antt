@@ -13,9 +13,10 @@ use Rattle.lists.specs.Word.{has, with, without}
 use Rattle.lists.proofs.BoolLaws.{no-way}
 use Rattle.answer.specs.declared.Answer.the-variants.{Done, Full, WornOut}
 use Rattle.image.specs.declared.Content.{Content}
+use Rattle.machine.specs.Line as memory
 use Rattle.machine.specs.Record as rec
 use Rattle.machine.specs.Record.{top, node, thread, atStep, ownNode, readTail, putNode, putTail, putFree}
-use Rattle.machine.specs.Line.{persist, nodeLine}
+use Rattle.machine.specs.Line.{persist}
 use Rattle.machine.specs.Stage.{stage, A1, A2, A3, A4, A5, A6, A7, A8, A9, A10, A11, A12}
 use Rattle.machine.specs.Retire as retire
 use Rattle.machine.specs.Retire.{moving, going, answering, nextFree}
@@ -44,7 +45,7 @@ top-test x h = by (ℕ-discrete x top)
     by (yes e) = rw (e) refl
     by (no ne) = not-le top x (omega arith) ∙ sym (eq-no x top ne)
 
-module _ (p : ℕ → Content) (m : Machine) (c : Core) (d : Tied p m c) (r : InRange c) (k : ℕ) (hk : k < m .t) where
+module _ (p : memory.Line → Content) (m : Machine) (c : Core) (d : Tied p m c) (r : InRange c) (k : ℕ) (hk : k < m .t) where
   -- the choice is the record's
   chosen : (b : Bool) → eqb (m .free) 0 ≡ b → c .conf .chooser .pick (c .conf .nodes) (c .last) (c .free) ≡ linkIf b (nextFree m)
   unfolding lowestFirst nextFree
@@ -183,9 +184,9 @@ module _ (p : ℕ → Content) (m : Machine) (c : Core) (d : Tied p m c) (r : In
     touch = tt;
   }
 
-  pub sA10 : stage m k ≡ A10 → StepT p m (aLine (nodeLine (thread m k .node))) (stepped m k A10) (step c k (threadOf A10 (thread m k)))
+  pub sA10 : stage m k ≡ A10 → StepT p m (aLine (memory.ofNode (thread m k .node))) (stepped m k A10) (step c k (threadOf A10 (thread m k)))
   sA10 e = let h = used p m c d k hk r A10 e in record {
-    tied = moveT _ _ _ (persistT p m c d (nodeLine (thread m k .node)) (omega (arith, h .0))) k hk (atStep (thread m k) 11) _ (goes-on p m c d k hk 11 _ (omega arith) refl);
+    tied = moveT _ _ _ (persistT p m c d (memory.ofNode (thread m k .node)) (h .0)) k hk (atStep (thread m k) 11) _ (goes-on p m c d k hk 11 _ (omega arith) refl);
     says = refl;
     touch = refl;
   }

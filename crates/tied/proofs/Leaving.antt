@@ -13,6 +13,7 @@ use Rattle.lists.specs.Find.{pick}
 use Rattle.lists.specs.Word.{has, with, without}
 use Rattle.lists.proofs.BoolLaws.{both-true, no-way}
 use Rattle.image.specs.declared.Content.{Content}
+use Rattle.machine.specs.Line as memory
 use Rattle.machine.specs.Record.{node, thread, withWaits, idleThread, putThread}
 use Rattle.machine.specs.Retire.{lastWait, releasedAt, released, left}
 use Rattle.machine.specs.declared.Machine.{Machine}
@@ -70,7 +71,7 @@ freeAt n w f r i h false a e = record { bits = λ j l. by j l (ℕ-discrete j i)
     by j l (yes z) = upd-at f i a z ∙ e ∙ ap f (sym z) ∙ r .bits j l
     by j l (no z) = upd-other f i a z ∙ r .bits j l
 
-pub releasedAtT : (p : ℕ → Content) (m : Machine) (c : Core) → Tied p m c → (k : ℕ) → k < m .t → (i : ℕ) → i < m .n
+pub releasedAtT : (p : memory.Line → Content) (m : Machine) (c : Core) → Tied p m c → (k : ℕ) → k < m .t → (i : ℕ) → i < m .n
     → Tied p (releasedAt m k i) (setFree c (upd (c .free) i (freed (c .free i) (c .wait i) (remove k (c .wait i)))) (upd (c .wait) i (remove k (c .wait i))))
 unfolding releasedAt
 releasedAtT p m c d k hk i hi = record {
@@ -115,7 +116,7 @@ lt-suc j i ne = at (decLt j i)
     at (yes h) = lt-true j (suc i) (omega arith) ∙ sym (lt-true j i h)
     at (no h) = lt-no j (suc i) (omega arith) ∙ sym (lt-no j i (omega arith))
 
-module _ (p : ℕ → Content) (m : Machine) (c : Core) (d : Tied p m c) (k : ℕ) (hk : k < m .t) where
+module _ (p : memory.Line → Content) (m : Machine) (c : Core) (d : Tied p m c) (k : ℕ) (hk : k < m .t) where
   releasedT : (i : ℕ) → i ≤ m .n → Tied p (released m k i) (setFree c (freeTo c k i) (waitTo c k i))
   unfolding released
   releasedT zero h = sameT p m c d (freeTo c k 0) (waitTo c k 0) (λ j l. rw (lt-no j 0 (omega arith)) refl) (λ j l. rw (lt-no j 0 (omega arith)) refl)

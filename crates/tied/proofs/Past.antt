@@ -3,14 +3,14 @@ use mathlib.Core.Path.{_≡_, refl, sym, ap, subst, _∙_}
 use mathlib.Core.List.{List, [], _∷_, _++_, map, map-append}
 use mathlib.Core.Logic.{_≢_, _⊎_, inl, inr}
 use Prim.Native.Nat.{ℕ, suc, _<_}
-use native.Mathlib.Decide.{ℕ-discrete}
 use lib.ListN.{getD}
 use Rattle.image.specs.declared.Content.{Content}
-use Rattle.machine.specs.Line.{lineCount, cachedAt, persistedAt}
+use Rattle.machine.specs.Line.{Line, cachedAt, persistedAt}
 use Rattle.machine.specs.declared.Machine.{Machine}
+use Rattle.machine.proofs.LineLaws as lines
+use Rattle.machine.proofs.LineLaws.{LineIn}
 use Rattle.schedule.specs.Run as run
 use Rattle.schedule.specs.Run.{Touched, noLine, aLine, begins, goesOn}
-use Rattle.model.proofs.Basics.{upd-at, upd-other}
 use Rattle.tied.specs.Always.{Among, atStart, WasThere}
 use Rattle.tied.proofs.Stepping.{keeps}
 
@@ -24,45 +24,45 @@ among-last c [] = inl refl
 among-last c (d ∷ l) = inr (among-last c l)
 
 -- a moment more
-seen-on : (past : List Machine) (m : Machine) (l : ℕ) (c : Content) → Among c (map (λ m. cachedAt m l) past) → Among c (map (λ m. cachedAt m l) (past ++ m ∷ []))
+seen-on : (past : List Machine) (m : Machine) (l : Line) (c : Content) → Among c (map (λ m. cachedAt m l) past) → Among c (map (λ m. cachedAt m l) (past ++ m ∷ []))
 seen-on past m l c h = subst (Among c) (sym (map-append (λ m. cachedAt m l) past (m ∷ []))) (among-left c (map (λ m. cachedAt m l) past) (cachedAt m l ∷ []) h)
 
 pub record PastT (b : run.Bench) : Type 0 where
   pub first : Machine
   pub then : List Machine
   pub is : b .past ≡ first ∷ then
-  pub was : (l : ℕ) → l < lineCount (b .machine .n) → WasThere b l
-  pub now : (l : ℕ) → Among (cachedAt (b .machine) l) (map (λ m. cachedAt m l) (b .past))
+  pub was : (l : Line) → LineIn (b .machine .n) l → WasThere b l
+  pub now : (l : Line) → Among (cachedAt (b .machine) l) (map (λ m. cachedAt m l) (b .past))
 
 pub pastBegins : (m : Machine) → PastT (begins m)
 pastBegins m = record { first = m; then = []; is = refl; was = λ l h. inl refl; now = λ l. inl refl }
 
 pub pastOn : (b : run.Bench) (m : Machine) (w : Touched) → PastT b → m .n ≡ b .machine .n
-    → ((l : ℕ) → l < lineCount (m .n) → persistedAt m l ≡ keeps w (b .machine) (persistedAt (b .machine)) l) → PastT (goesOn b m w)
+    → ((l : Line) → LineIn (m .n) l → persistedAt m l ≡ keeps w (b .machine) (persistedAt (b .machine)) l) → PastT (goesOn b m w)
 pastOn b m w r en k = record {
   first = r .first;
   then = r .then ++ m ∷ [];
   is = ap (λ l. l ++ m ∷ []) (r .is);
-  was = λ l h. was l (subst (λ n. l < lineCount n) en h) w (k l h);
+  was = λ l h. was l (subst (λ n. LineIn n l) en h) w (k l h);
   now = λ l. subst (Among (cachedAt m l)) (sym (map-append (λ m. cachedAt m l) (b .past) (m ∷ []))) (among-last (cachedAt m l) (map (λ m. cachedAt m l) (b .past)));
 }
   where
     start-same : getD (b .past ++ m ∷ []) 0 m ≡ getD (b .past) 0 (b .machine)
     start-same = ap (λ l. getD (l ++ m ∷ []) 0 m) (r .is) ∙ sym (ap (λ l. getD l 0 (b .machine)) (r .is))
 
-    older : (l : ℕ) (c : Content) → Among c (persistedAt (getD (b .past) 0 (b .machine)) l ∷ map (λ m. cachedAt m l) (b .past))
+    older : (l : Line) (c : Content) → Among c (persistedAt (getD (b .past) 0 (b .machine)) l ∷ map (λ m. cachedAt m l) (b .past))
         → Among c (persistedAt (getD (b .past ++ m ∷ []) 0 m) l ∷ map (λ m. cachedAt m l) (b .past ++ m ∷ []))
     older l c (inl e) = inl (e ∙ ap (λ z. persistedAt z l) (sym start-same))
     older l c (inr h) = inr (seen-on (b .past) m l c h)
 
-    was : (l : ℕ) → l < lineCount (b .machine .n) → (w : Touched) → persistedAt m l ≡ keeps w (b .machine) (persistedAt (b .machine)) l
+    was : (l : Line) → LineIn (b .machine .n) l → (w : Touched) → persistedAt m l ≡ keeps w (b .machine) (persistedAt (b .machine)) l
         → Among (persistedAt m l) (persistedAt (getD (b .past ++ m ∷ []) 0 m) l ∷ map (λ m. cachedAt m l) (b .past ++ m ∷ []))
     was l h noLine e = older l (persistedAt m l) (subst (λ c. Among c (persistedAt (getD (b .past) 0 (b .machine)) l ∷ map (λ m. cachedAt m l) (b .past))) (sym e) (r .was l h))
-    was l h (aLine j) e = by (ℕ-discrete l j)
+    was l h (aLine j) e = by (lines.line-eq l j)
       where
         by : Dec (l ≡ j) → Among (persistedAt m l) (persistedAt (getD (b .past ++ m ∷ []) 0 m) l ∷ map (λ m. cachedAt m l) (b .past ++ m ∷ []))
         by (yes z) = inr (seen-on (b .past) m l (persistedAt m l)
             (subst (λ c. Among c (map (λ m. cachedAt m l) (b .past)))
-            (sym (e ∙ upd-at (persistedAt (b .machine)) j (cachedAt (b .machine) j) z ∙ ap (cachedAt (b .machine)) (sym z))) (r .now l)))
+            (sym (e ∙ lines.put-at (persistedAt (b .machine)) j (cachedAt (b .machine) j) l z ∙ ap (cachedAt (b .machine)) (sym z))) (r .now l)))
         by (no z) = older l (persistedAt m l) (subst (λ c. Among c (persistedAt (getD (b .past) 0 (b .machine)) l ∷ map (λ m. cachedAt m l) (b .past)))
-            (sym (e ∙ upd-other (persistedAt (b .machine)) j (cachedAt (b .machine) j) z)) (r .was l h))
+            (sym (e ∙ lines.put-other (persistedAt (b .machine)) j (cachedAt (b .machine) j) l z)) (r .was l h))

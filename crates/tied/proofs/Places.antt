@@ -10,6 +10,7 @@ use lib.Dec.{eqb, eqb-refl}
 use Rattle.lists.specs.Find.{pick, both, any, count}
 use Rattle.lists.proofs.BoolLaws.{no-way}
 use Rattle.image.specs.declared.Content.{Content}
+use Rattle.machine.specs.Line as memory
 use Rattle.machine.specs.Record.{node, thread}
 use Rattle.machine.specs.Stage.{Stage, noStep, A1, A2, A3, A4, A5, A6, A7, A8, A9, A10, A11, A12, D1, D2, D3, D4, D5, D6, D7, stage, enqueueOwns, dequeueOwns}
 use Rattle.machine.specs.Place as place
@@ -139,7 +140,7 @@ unfolding walk
 walk-end next zero x e = e
 walk-end next (suc k) x e = ap (λ o. elim o as (λ _. Option ℕ) [ none ↦ none | some z ↦ next z ]) (walk-end next k x e)
 
-module _ (p : ℕ → Content) (m : Machine) (c : Core) (d : Tied p m c) (r : InRange c) where
+module _ (p : memory.Line → Content) (m : Machine) (c : Core) (d : Tied p m c) (r : InRange c) where
   abbrev Reach : Bool → Bool → ℕ → ℕ → ℕ → Bool
   Reach a b k x i = elim a as (λ _. Bool) [ true ↦ true | false ↦ elim b as (λ _. Bool) [ true ↦ false | false ↦ reached m k (node m x .next) i ] ]
 

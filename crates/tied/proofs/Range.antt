@@ -10,6 +10,7 @@ use Rattle.lists.specs.Find.{pick}
 use Rattle.lists.proofs.BoolLaws.{both-of}
 use Rattle.lists.proofs.FindLaws.{any-none}
 use Rattle.image.specs.declared.Content.{Content}
+use Rattle.machine.specs.Line as memory
 use Rattle.machine.specs.Record.{node, kept, thread}
 use Rattle.machine.specs.Stage.{Stage, noStep, A1, A2, A3, A4, A5, A6, A7, A8, A9, A10, A11, A12, D1, D2, D3, D4, D5, D6, D7, own, t, theHead, theNext, uses, stage, stageOf}
 use Rattle.machine.specs.Range.{isNode, isLink, readFits, nextFits, nodeFits, threadFits, inRange}
@@ -58,7 +59,7 @@ module _ (m : Machine) (v : Thread) (next : ℕ → Option ℕ) (g : Regs (m .n)
   reads D6 u = (is-link m _ (g .node), is-link m _ (g .tail), is-link m _ (g .head), is-link m _ (g .next))
   reads D7 u = (is-link m _ (g .node), is-link m _ (g .tail), is-node m _ (u), is-link m _ (g .next))
 
-module _ (p : ℕ → Content) (m : Machine) (c : Core) (d : Tied p m c) (r : InRange c) where
+module _ (p : memory.Line → Content) (m : Machine) (c : Core) (d : Tied p m c) (r : InRange c) where
   node-fits : (i : ℕ) → i < m .n → nodeFits m i ≡ true
   unfolding nodeFits
   node-fits i h =

@@ -14,12 +14,14 @@ use Rattle.answer.specs.declared.Answer.{Answer}
 use Rattle.answer.specs.declared.Answer.the-variants.{Taken, Kind, Number, Busy, Idle, NotZero}
 use Rattle.image.specs.Refusals.{startable}
 use Rattle.machine.specs.Line.{lineCount, persisted}
+use Rattle.machine.specs.Line as memory
+use Rattle.machine.proofs.LineLaws as lines
 use Rattle.machine.specs.Stage as stage
 use Rattle.machine.specs.Event.{Deed, unknown, enqueues, dequeues, steps, writesBack, crashes, deedOf, eventAnswer, threadTooLarge, lineTooLarge, itemNotZero}
 use Rattle.machine.specs.declared.Machine.{Machine}
 use Rattle.machine.specs.declared.Event.{Event}
 use Rattle.schedule.specs.Run as run
-use Rattle.model.specs.Lines.{ofNode, back}
+use Rattle.model.specs.Lines.{back}
 use Rattle.model.specs.Conf.{headLines}
 use Rattle.model.specs.Core.{Core, busy}
 use Rattle.model.specs.Machine as machine
@@ -52,17 +54,14 @@ deed-is (suc (suc (suc (suc (suc zero))))) = refl
 deed-is (suc (suc (suc (suc (suc (suc k)))))) = refl
 
 -- the event that the abstract machine reads from the three numbers is the one shown
-pub event-is : (n t : ℕ) (e : Event) → eventOf (confOf n t) (kindOf (e .kind)) (rawOf e) ≡ eventShown e
-event-is n t e = by (kindOf (e .kind)) ∙ ap (λ δ. eventBy δ e) (sym (deed-is (e .kind)))
+pub event-is : (n t : ℕ) (e : Event) → eventOf (confOf n t) (kindOf (e .kind)) (rawOf e) ≡ eventShown n e
+event-is n t e = by (kindOf (e .kind)) ∙ ap (λ δ. eventBy n δ e) (sym (deed-is (e .kind)))
   where
-    line-is : (l : ℕ) → lineAt 1 l ≡ lineShown l
-    line-is zero = refl
-    line-is (suc i) = ap (λ b. lineIf b 1 (suc i)) (lt-no (suc i) 1 (omega arith)) ∙ ap ofNode (less i)
-      where
-        less : (i : ℕ) → suc i - 1 ≡ i
-        less i = omega arith
+    line-is : (l : ℕ) → lineAt 1 l ≡ lineShown (memory.lineAt n l)
+    line-is zero = ap lineShown (sym (lines.line-zero n))
+    line-is (suc i) = ap (λ b. lineIf b 1 (suc i)) (lt-no (suc i) 1 (omega arith)) ∙ ap lineShown (sym (lines.line-before n (suc i) (omega arith)))
 
-    by : (k : events.Kind) → eventOf (confOf n t) k (rawOf e) ≡ eventBy (deedBy k) e
+    by : (k : events.Kind) → eventOf (confOf n t) k (rawOf e) ≡ eventBy n (deedBy k) e
     by kEnq = refl
     by kDeq = refl
     by kMove = refl
@@ -105,8 +104,8 @@ module _ (b : run.Bench) (B : Bench) (r : BenchT b B) (q : ℕ) (e : Event) wher
   line-test : lineTooLarge m e ≡ not (ltb (e .number) (headLines (c .conf) + c .conf .nodes))
   line-test = ap (λ n. leb n (e .number)) (sym (ap (λ z. headLines z + z .nodes) (r .tied .conf) ∙ one (m .n))) ∙ turn-test (headLines (c .conf) + c .conf .nodes) (e .number)
     where
-      one : (n : ℕ) → 1 + n ≡ suc n
-      one n = omega arith
+      one : (n : ℕ) → 1 + n ≡ lineCount n
+      one n = omega (arith, lines.one-head n)
 
   -- a crash passes 7 and 8
   pub crash-starts : (rest : Answer) → startable (persisted m) rest ≡ rest

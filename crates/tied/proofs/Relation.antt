@@ -13,14 +13,13 @@ use Rattle.lists.specs.Word.{has, with, without}
 use Rattle.image.specs.declared.Content.{Content}
 use Rattle.image.specs.Layout.{noContent}
 use Rattle.machine.specs.Record.{top, zeroNode, zeroThread, contentOf}
-use Rattle.machine.specs.Line.{headContent}
+use Rattle.machine.specs.Line.{Line, ofHead, ofNode, putLine, headContent}
 use Rattle.machine.specs.declared.Machine.{Machine}
 use Rattle.machine.specs.declared.Node.{Node}
 use Rattle.machine.specs.declared.Thread.{Thread}
-use Rattle.model.specs.Basics.{upd}
+use Rattle.machine.proofs.LineLaws as lines
 use Rattle.model.specs.Core as core
 use Rattle.model.specs.Core.{Core, Th}
-use Rattle.model.proofs.Basics.{upd-at, upd-other, upd-ind}
 use Rattle.tied.specs.Shown.{shownContent, linkOf, members, shownThread, confOf}
 use Rattle.tied.proofs.Words.{has-with, has-without, with-fits, without-fits}
 
@@ -93,30 +92,28 @@ putThreads n t l thr held r h i hi v thr′ held′ a en ex = record { size = le
 
 -- ---- the persisted copies: p is what each line holds
 
-pub record KeptT (n : ℕ) (p : ℕ → Content) (h : ℕ) (l : List Content) : Type 0 where
+pub record KeptT (n : ℕ) (p : Line → Content) (h : ℕ) (l : List Content) : Type 0 where
   pub size : length l ≡ 64
-  pub head : p 0 ≡ headContent h
-  pub at : (i : ℕ) → i < n → p (suc i) ≡ getD l i noContent
-  pub flag : (i : ℕ) → i < n → p (suc i) .linked ≤ 1
-  pub narrow : (i : ℕ) → i < suc n → p i .index ≤ top
+  pub head : p (ofHead 0) ≡ headContent h
+  pub at : (i : ℕ) → i < n → p (ofNode i) ≡ getD l i noContent
+  pub flag : (i : ℕ) → i < n → p (ofNode i) .linked ≤ 1
+  pub narrow-head : p (ofHead 0) .index ≤ top
+  pub narrow : (i : ℕ) → i < n → p (ofNode i) .index ≤ top
 
-pub putKepts : (n : ℕ) (p : ℕ → Content) (h : ℕ) (l : List Content) → KeptT n p h l → n ≤ 64 → (i : ℕ) → i < n → (v : Content) → v .linked ≤ 1 → v .index ≤ top
-    → KeptT n (upd p (suc i) v) h (set l i v)
+pub putKepts : (n : ℕ) (p : Line → Content) (h : ℕ) (l : List Content) → KeptT n p h l → n ≤ 64 → (i : ℕ) → i < n → (v : Content) → v .linked ≤ 1 → v .index ≤ top
+    → KeptT n (putLine p (ofNode i) v) h (set l i v)
 putKepts n p h l r hn i hi v fl nr = record {
   size = length-set l i v ∙ r .size;
-  head = upd-other p (suc i) v (λ e. omega arith) ∙ r .head;
+  head = lines.put-other p (ofNode i) v (ofHead 0) (λ e. lines.head-not-node 0 i e) ∙ r .head;
   at = λ j hj. by j hj (ℕ-discrete j i);
-  flag = λ j hj. fl-by j hj (ℕ-discrete j i);
-  narrow = λ j hj. upd-ind p (suc i) v (λ k c. c .index ≤ top) j nr (λ ne. r .narrow j hj);
+  flag = λ j hj. lines.put-ind p (ofNode i) v (λ k c. c .linked ≤ 1) (ofNode j) fl (λ ne. r .flag j hj);
+  narrow-head = lines.put-ind p (ofNode i) v (λ k c. c .index ≤ top) (ofHead 0) nr (λ ne. r .narrow-head);
+  narrow = λ j hj. lines.put-ind p (ofNode i) v (λ k c. c .index ≤ top) (ofNode j) nr (λ ne. r .narrow j hj);
 }
   where
-    by : (j : ℕ) → j < n → Dec (j ≡ i) → upd p (suc i) v (suc j) ≡ getD (set l i v) j noContent
-    by j hj (yes e) = upd-at p (suc i) v (ap suc e) ∙ sym (getD-set-same l i v noContent (omega (arith, r .size))) ∙ ap (λ j. getD (set l i v) j noContent) (sym e)
-    by j hj (no ne) = upd-other p (suc i) v (λ z. ne (omega arith)) ∙ r .at j hj ∙ sym (getD-set-other l i j v noContent ne)
-
-    fl-by : (j : ℕ) → j < n → Dec (j ≡ i) → upd p (suc i) v (suc j) .linked ≤ 1
-    fl-by j hj (yes e) = subst (λ y. y .linked ≤ 1) (sym (upd-at p (suc i) v (ap suc e))) fl
-    fl-by j hj (no ne) = subst (λ y. y .linked ≤ 1) (sym (upd-other p (suc i) v (λ z. ne (omega arith)))) (r .flag j hj)
+    by : (j : ℕ) → j < n → Dec (j ≡ i) → putLine p (ofNode i) v (ofNode j) ≡ getD (set l i v) j noContent
+    by j hj (yes e) = lines.put-at p (ofNode i) v (ofNode j) (ap ofNode e) ∙ sym (getD-set-same l i v noContent (omega (arith, r .size))) ∙ ap (λ j. getD (set l i v) j noContent) (sym e)
+    by j hj (no ne) = lines.put-other p (ofNode i) v (ofNode j) (λ z. ne (let w : j ≡ i = cc in w)) ∙ r .at j hj ∙ sym (getD-set-other l i j v noContent ne)
 
 -- ---- the whole
 
@@ -126,7 +123,7 @@ pub record Sizes (n t : ℕ) : Type 0 where
   pub threads-lo : 1 ≤ t
   pub threads-hi : t ≤ 8
 
-pub record Tied (p : ℕ → Content) (m : Machine) (c : Core) : Type 0 where
+pub record Tied (p : Line → Content) (m : Machine) (c : Core) : Type 0 where
   pub conf : c .conf ≡ confOf (m .n) (m .t)
   pub sizes : Sizes (m .n) (m .t)
   pub hnode : c .hnode ≡ m .head

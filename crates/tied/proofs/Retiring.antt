@@ -13,6 +13,7 @@ use Rattle.lists.specs.Find.{pick, both}
 use Rattle.lists.specs.Word.{has, with, wordOf}
 use Rattle.lists.proofs.BoolLaws.{no-way}
 use Rattle.image.specs.declared.Content.{Content}
+use Rattle.machine.specs.Line as memory
 use Rattle.machine.specs.Record.{node, thread, withWaits}
 use Rattle.machine.specs.Stage as stage
 use Rattle.machine.specs.Stage.{stageOf}
@@ -59,7 +60,7 @@ busy-at (suc (suc (suc (suc (suc (suc (suc (suc (suc (suc (suc (suc (suc (suc (s
 pub busy-shown : (v : Thread) → v .step ≤ 19 → busy (shownThread v) ≡ not (eqb (v .step) 0)
 busy-shown v h = busy-at (v .step) v h
 
-pub busy-tied : (p : ℕ → Content) (m : Machine) (c : Core) → Tied p m c → (k : ℕ) → k < m .t → busy (c .thr k) ≡ stage.busy m k
+pub busy-tied : (p : memory.Line → Content) (m : Machine) (c : Core) → Tied p m c → (k : ℕ) → k < m .t → busy (c .thr k) ≡ stage.busy m k
 busy-tied p m c d k h = ap busy (d .threads .at k h .stage) ∙ busy-shown (thread m k) (d .threads .at k h .regs .step)
 
 -- ---- the others
@@ -93,7 +94,7 @@ others-fit : (m : Machine) (k : ℕ) → retire.others m k < 2 ^ m .t
 unfolding retire.others
 others-fit m k = word-fits (λ u. both (not (eqb u k)) (stage.busy m u)) (m .t)
 
-module _ (p : ℕ → Content) (m : Machine) (c : Core) (d : Tied p m c) (k : ℕ) (hk : k < m .t) where
+module _ (p : memory.Line → Content) (m : Machine) (c : Core) (d : Tied p m c) (k : ℕ) (hk : k < m .t) where
   others-are : others (c .conf .threads) k (c .thr) ≡ members (m .t) (retire.others m k)
   unfolding retire.others
   others-are =

@@ -34,9 +34,9 @@ use Rattle.tied.proofs.Range.{tied-in-range}
 use Rattle.tied.proofs.Accepted.{Sound, sound-is, shownT, tidy, fit-of}
 use Rattle.tied.proofs.Bench.{BenchT}
 use Rattle.tied.proofs.Past.{pastBegins}
-use Rattle.tied.proofs.Begins.{startedT, beginsT}
+use Rattle.tied.proofs.Begins.{size-is, startedT, beginsT}
 use Rattle.tied.proofs.Refusals.{refused-same, not-7-8}
-use Rattle.tied.proofs.Turn.{ranged, takes, turns, answers-same}
+use Rattle.tied.proofs.Turn.{ranged, takes, turns, turned-size, answers-same}
 
 -- ---- one event of a run
 
@@ -80,7 +80,7 @@ says-taken (item v) = refl
 pub run-taken : (q : ℕ) (b : schedule.Bench) (B : Bench) (r : BenchT b B) (e : Event) (l : List Event) → accepted (eventAnswer q (b .machine) e (deedOf (e .kind))) ≡ true
     → run q b (e ∷ l) ≡ andBefore (done (b .machine) e (deedOf (e .kind)) .answer) (run (suc q) (turned b (done (b .machine) e (deedOf (e .kind)) .machine) e (deedOf (e .kind))) l)
 run-taken q b B r e l a = run-by q b e l (done (b .machine) e (deedOf (e .kind))) (event-taken q (b .machine) e a) true
-    (ap accepted (answers-same b B r q e (deedOf (e .kind)) a) ∙ says-taken (answer (B .mach) (eventShown e)))
+    (ap accepted (answers-same b B r q e (deedOf (e .kind)) a) ∙ says-taken (answer (B .mach) (eventShown (b .machine .n) e)))
 
 pub run-refused : (q : ℕ) (b : schedule.Bench) (e : Event) (l : List Event) → accepted (eventAnswer q (b .machine) e (deedOf (e .kind))) ≡ false
     → run q b (e ∷ l) ≡ stopped (eventAnswer q (b .machine) e (deedOf (e .kind))) b
@@ -101,18 +101,18 @@ abbrev pub Stops : M → Answer → ℕ → List Event → Type 0
 Stops m a q [] = a ≡ Taken
 Stops m a q (e ∷ l) = (refuse m (kindOf (e .kind)) (rawOf e) ≢ 0) × (told a ≡ toldBy (refuse m (kindOf (e .kind)) (rawOf e)) q)
 
--- the events that were taken, all of them if none was refused; what they answered; what the benches show in the end
-pub record RunT (q : ℕ) (B : Bench) (l : List Event) (R : Ran) : Type 0 where
+-- the events that were taken, all of them if none was refused; what they answered; what the benches of n nodes show in the end
+pub record RunT (n q : ℕ) (B : Bench) (l : List Event) (R : Ran) : Type 0 where
   pub taken : List Event
   pub rest : List Event
   pub begin : l ≡ taken ++ rest
   pub all : accepted (R .answer) ≡ true → taken ≡ l
-  pub takes : TakesAll (B .mach) (map eventShown taken)
-  pub replies : R .replies ≡ map answerOf (answers (B .mach) (map eventShown taken))
-  pub ends : BenchT (R .bench) (bench B (map eventShown taken))
-  pub stops : Stops (bench B (map eventShown taken) .mach) (R .answer) (q + length taken) rest
+  pub takes : TakesAll (B .mach) (map (eventShown n) taken)
+  pub replies : R .replies ≡ map answerOf (answers (B .mach) (map (eventShown n) taken))
+  pub ends : BenchT (R .bench) (bench B (map (eventShown n) taken))
+  pub stops : Stops (bench B (map (eventShown n) taken) .mach) (R .answer) (q + length taken) rest
 
-pub runT : (l : List Event) (q : ℕ) (b : schedule.Bench) (B : Bench) → BenchT b B → RunT q B l (run q b l)
+pub runT : (l : List Event) (q : ℕ) (b : schedule.Bench) (B : Bench) → BenchT b B → RunT (b .machine .n) q B l (run q b l)
 unfolding run bench answers
 runT [] q b B r = record { taken = []; rest = []; begin = refl; all = λ h. refl; takes = tt; replies = refl; ends = r; stops = refl }
 runT (e ∷ l) q b B r = by (accepted (eventAnswer q (b .machine) e (deedOf (e .kind)))) refl (runT l)
@@ -126,11 +126,13 @@ runT (e ∷ l) q b B r = by (accepted (eventAnswer q (b .machine) e (deedOf (e .
         (λ z. no-way (sym (ap (λ w. eqb (w .number) 0) (t ∙ ap (λ n. toldBy n q) z)) ∙ a), t ∙ ap (toldBy (refuse (B .mach) (kindOf (e .kind)) (rawOf e))) (sym (add-zero q)))
 
     by : (x : Bool) → accepted (eventAnswer q (b .machine) e (deedOf (e .kind))) ≡ x
-        → ((q : ℕ) (b : schedule.Bench) (B : Bench) → BenchT b B → RunT q B l (run q b l)) → RunT q B (e ∷ l) (run q b (e ∷ l))
+        → ((q : ℕ) (b : schedule.Bench) (B : Bench) → BenchT b B → RunT (b .machine .n) q B l (run q b l)) → RunT (b .machine .n) q B (e ∷ l) (run q b (e ∷ l))
     by true a rec =
         let says = answers-same b B r q e (deedOf (e .kind)) a in
-        let s = rec (suc q) (turned b (done (b .machine) e (deedOf (e .kind)) .machine) e (deedOf (e .kind))) (turn B (eventShown e)) (turns b B r q e (deedOf (e .kind)) a) in
-        subst (RunT q B (e ∷ l)) (sym (run-taken q b B r e l a))
+        let b′ = turned b (done (b .machine) e (deedOf (e .kind)) .machine) e (deedOf (e .kind)) in
+        let s = subst (λ n. RunT n (suc q) (turn B (eventShown (b .machine .n) e)) l (run (suc q) b′ l)) (turned-size b B r q e (deedOf (e .kind)) a)
+        (rec (suc q) b′ (turn B (eventShown (b .machine .n) e)) (turns b B r q e (deedOf (e .kind)) a)) in
+        subst (RunT (b .machine .n) q B (e ∷ l)) (sym (run-taken q b B r e l a))
         (record {
           taken = e ∷ s .taken;
           rest = s .rest;
@@ -139,10 +141,10 @@ runT (e ∷ l) q b B r = by (accepted (eventAnswer q (b .machine) e (deedOf (e .
           takes = (takes b B r q e (deedOf (e .kind)) a, s .takes);
           replies = ap₂ (λ x y. x ∷ y) says (s .replies);
           ends = s .ends;
-          stops = subst (λ n. Stops (bench B (map eventShown (e ∷ s .taken)) .mach) (run (suc q) (turned b (done (b .machine) e (deedOf (e .kind)) .machine) e (deedOf (e .kind))) l .answer) n (s .rest)) (later q (length (s .taken))) (s .stops);
+          stops = subst (λ n. Stops (bench B (map (eventShown (b .machine .n)) (e ∷ s .taken)) .mach) (run (suc q) (turned b (done (b .machine) e (deedOf (e .kind)) .machine) e (deedOf (e .kind))) l .answer) n (s .rest)) (later q (length (s .taken))) (s .stops);
         })
     by false a rec =
-        subst (RunT q B (e ∷ l)) (sym (run-refused q b e l a))
+        subst (RunT (b .machine .n) q B (e ∷ l)) (sym (run-refused q b e l a))
         (record { taken = []; rest = e ∷ l; begin = refl; all = λ h. no-way (sym h ∙ a); takes = tt; replies = refl; ends = r; stops = stop a })
 
 -- no run stops with 7 or 8
@@ -154,8 +156,8 @@ stop-by : (m : M) (a : Answer) (p : ℕ) (rest : List Event) → Stops m a p res
 stop-by m a p [] s x lo hi e = omega (arith, sym (ap (λ a. told a .number) s) ∙ e)
 stop-by m a p (d ∷ l) s x lo hi e = not-7-8 m (kindOf (d .kind)) (rawOf d) x lo hi (sym (told-number _ p) ∙ sym (ap (λ w. w .number) (s .1)) ∙ e)
 
-pub stop-number : (q : ℕ) (B : Bench) (l : List Event) (R : Ran) → RunT q B l R → (told (R .answer) .number ≢ 7) × (told (R .answer) .number ≢ 8)
-stop-number q B l R r = (stop-by _ _ _ (r .rest) (r .stops) 7 (omega arith) (omega arith), stop-by _ _ _ (r .rest) (r .stops) 8 (omega arith) (omega arith))
+pub stop-number : (n q : ℕ) (B : Bench) (l : List Event) (R : Ran) → RunT n q B l R → (told (R .answer) .number ≢ 7) × (told (R .answer) .number ≢ 8)
+stop-number n q B l R r = (stop-by _ _ _ (r .rest) (r .stops) 7 (omega arith) (omega arith), stop-by _ _ _ (r .rest) (r .stops) 8 (omega arith) (omega arith))
 
 -- ---- from an accepted start
 
@@ -171,8 +173,8 @@ module _ (g : Image) (t : ℕ) (a : accepted (startAnswer g t) ≡ true) (w : Na
         past = pastBegins (startOf g t);
       }
 
-  pub startT : (q : ℕ) (l : List Event) → RunT q (opening (imageShown g t)) l (run q (begins (startOf g t)) l)
-  startT q l = runT l q (begins (startOf g t)) (opening (imageShown g t)) opensT
+  pub startT : (q : ℕ) (l : List Event) → RunT (g .n) q (opening (imageShown g t)) l (run q (begins (startOf g t)) l)
+  startT q l = subst (λ n. RunT n q (opening (imageShown g t)) l (run q (begins (startOf g t)) l)) (size-is g t) (runT l q (begins (startOf g t)) (opening (imageShown g t)) opensT)
 
 -- 18 refuses no record of a run, at whatever event it stopped
 pub bench-in-range : (b : schedule.Bench) (B : Bench) → BenchT b B → inRange (b .machine) ≡ true

@@ -19,7 +19,7 @@ use Rattle.image.specs.declared.Image.{Image}
 use Rattle.image.specs.Layout.{contentAt, noContent, noContents}
 use Rattle.image.specs.Recovered.{recoveredAt, dummyOf}
 use Rattle.machine.specs.Record.{top, zeroNode, zeroThread, blankNodes, idleThread, idleThreads, contentOf}
-use Rattle.machine.specs.Line.{headContent}
+use Rattle.machine.specs.Line.{Line, ofHead, ofNode, headContent}
 use Rattle.machine.specs.Start as machine
 use Rattle.machine.specs.Start.{startNode, spare, startWith, startOf, queueOf, behind}
 use Rattle.model.specs.Basics.{sel, bothb, upd}
@@ -72,9 +72,9 @@ last-is d (k ∷ q) = last-is k q
 -- ---- the start
 
 -- what the lines hold persisted
-abbrev pub imageLine : Image → ℕ → Content
-imageLine g zero = headContent (g .head)
-imageLine g (suc i) = contentAt (g .nodes) i
+abbrev pub imageLine : Image → Line → Content
+imageLine g (ofHead k) = headContent (g .head)
+imageLine g (ofNode i) = contentAt (g .nodes) i
 
 module _ (g : Image) (t : ℕ) (G : recovery.Image) (r : ImageT g t G) where
   node-at : (d : ℕ) → Under (g .n) (queueOf g) → (i : ℕ) → i < g .n
@@ -142,13 +142,10 @@ module _ (g : Image) (t : ℕ) (G : recovery.Image) (r : ImageT g t G) where
           head = refl;
           at = λ i h. sym (front-at (contentAt (g .nodes)) (g .n) (replicate 64 noContent) i noContent h);
           flag = λ i h. r .flag i h;
-          narrow = low;
+          narrow-head = r .narrow-head;
+          narrow = λ i h. r .narrow i h;
         };
       }
-    where
-      low : (i : ℕ) → i < suc (g .n) → imageLine g i .index ≤ top
-      low zero h = r .narrow-head
-      low (suc i) h = r .narrow i (omega arith)
 
   -- a start from an image with a dummy
   pub startT : dummyOf g < g .n → Tied (imageLine g) (startOf g t) (start G)

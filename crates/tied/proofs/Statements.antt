@@ -8,7 +8,8 @@ use Rattle.answer.specs.Answers.{told, accepted}
 use Rattle.answer.specs.declared.Answer.{Answer}
 use Rattle.image.specs.declared.Image.{Image}
 use Rattle.image.specs.Refusals.{startable}
-use Rattle.machine.specs.Line.{lineCount, persisted}
+use Rattle.machine.specs.Line.{Line, persisted}
+use Rattle.machine.proofs.LineLaws.{LineIn}
 use Rattle.machine.specs.Start.{startOf, startAnswer}
 use Rattle.machine.specs.Range.{inRange}
 use Rattle.machine.specs.declared.Machine.{Machine}
@@ -48,7 +49,7 @@ module _ (g : Image) (t : ℕ) (a : accepted (startAnswer g t) ≡ true) (w : Na
   tidies = tidy g t (sound-is g t a) w
 
   -- the same run there
-  r : RunT q (model.opening G) l R
+  r : RunT (g .n) q (model.opening G) l R
   r = startT g t a w q l
 
   sizes : G .conf .nodes ≡ g .n
@@ -67,37 +68,37 @@ module _ (g : Image) (t : ℕ) (a : accepted (startAnswer g t) ≡ true) (w : Na
 
   -- N and T stay
   pub run-size : m .n ≡ g .n
-  run-size = sym (size-run G fits tidies (map eventShown (r .taken)) (r .takes) (R .bench) (r .ends)) ∙ sizes
+  run-size = sym (size-run G fits tidies (map (eventShown (g .n)) (r .taken)) (r .takes) (R .bench) (r .ends)) ∙ sizes
 
   pub run-threads : m .t ≡ t
-  run-threads = sym (threads-run G fits tidies (map eventShown (r .taken)) (r .takes) (R .bench) (r .ends)) ∙ desks
+  run-threads = sym (threads-run G fits tidies (map (eventShown (g .n)) (r .taken)) (r .takes) (R .bench) (r .ends)) ∙ desks
 
   -- no event is refused by 7 or 8, and a crash would not be either
   pub run-not-7-8 : (told (R .answer) .number ≢ 7) × (told (R .answer) .number ≢ 8)
-  run-not-7-8 = stop-number q (model.opening G) l R r
+  run-not-7-8 = stop-number (g .n) q (model.opening G) l R r
 
   pub crash-not-7-8 : (rest : Answer) → startable (persisted m) rest ≡ rest
   crash-not-7-8 = crash-starts _ _ (r .ends) 0 (record { kind = 5; number = 0; item = 0 })
 
   -- "At every moment each node is in exactly one place"; "the six numbers add up to N"
   pub run-one-place : (i : ℕ) → i < g .n → ExactlyOne m i
-  run-one-place i h = exactly-one G fits tidies (map eventShown (r .taken)) (r .takes) (R .bench) (r .ends) i (subst (λ n. i < n) (sym run-size) h)
+  run-one-place i h = exactly-one G fits tidies (map (eventShown (g .n)) (r .taken)) (r .takes) (R .bench) (r .ends) i (subst (λ n. i < n) (sym run-size) h)
 
   pub run-adds-up : AddUp m
-  run-adds-up = add-up G fits tidies (map eventShown (r .taken)) (r .takes) (R .bench) (r .ends)
+  run-adds-up = add-up G fits tidies (map (eventShown (g .n)) (r .taken)) (r .takes) (R .bench) (r .ends)
 
   -- "the persisted copy is always some earlier or present content": that of the last start, or one cached since
-  pub run-was-there : (k : ℕ) → k < lineCount (g .n) → WasThere (R .bench) k
-  run-was-there k h = r .ends .past .was k (subst (λ n. k < lineCount n) (sym run-size) h)
+  pub run-was-there : (k : Line) → LineIn (g .n) k → WasThere (R .bench) k
+  run-was-there k h = r .ends .past .was k (subst (λ n. LineIn n k) (sym run-size) h)
 
   -- ---- of the abstract machine's run of the same events, where none is refused
 
   module _ (all : accepted (R .answer) ≡ true) where
     abbrev L : List machine.Event
-    L = map eventShown l
+    L = map (eventShown (g .n)) l
 
-    whole : map eventShown (r .taken) ≡ L
-    whole = ap (map eventShown) (r .all all)
+    whole : map (eventShown (g .n)) (r .taken) ≡ L
+    whole = ap (map (eventShown (g .n))) (r .all all)
 
     -- it takes them all
     pub run-takes : TakesAll (machine.starts G) L
@@ -112,8 +113,8 @@ module _ (g : Image) (t : ℕ) (a : accepted (startAnswer g t) ≡ true) (w : Na
     run-ends = subst (λ l. BenchT (R .bench) (model.bench (model.opening G) l)) whole (r .ends)
 
     -- its lists of contents are those of the record's moments
-    pub run-contents : (k : ℕ) → k < lineCount (g .n) → model.bench (model.opening G) L .mach .hist (lineShown k) ≡ map shownContent (contentsOf (R .bench) k)
-    run-contents k h = run-ends .lists .lists k (subst (λ n. k < lineCount n) (sym run-size) h)
+    pub run-contents : (k : Line) → LineIn (g .n) k → model.bench (model.opening G) L .mach .hist (lineShown k) ≡ map shownContent (contentsOf (R .bench) k)
+    run-contents k h = run-ends .lists .lists k (subst (λ n. LineIn n k) (sym run-size) h)
 
     -- its persisted copies are the record's
     pub run-persisted : ImageT (persisted m) (m .t) (machine.persisted (model.bench (model.opening G) L .mach))

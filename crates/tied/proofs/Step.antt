@@ -4,6 +4,7 @@ use mathlib.Core.Logic.{inl, inr}
 use Prim.Native.Nat.{ℕ, _≤_, _<_}
 use native.Mathlib.Omega.{arith}
 use Rattle.image.specs.declared.Content.{Content}
+use Rattle.machine.specs.Line as memory
 use Rattle.machine.specs.Record.{thread}
 use Rattle.machine.specs.Stage.{Stage, noStep, A1, A2, A3, A4, A5, A6, A7, A8, A9, A10, A11, A12, D1, D2, D3, D4, D5, D6, D7, stage}
 use Rattle.machine.specs.Event.{stepped, begun}
@@ -20,7 +21,7 @@ use Rattle.tied.proofs.Stepping.{StepT}
 use Rattle.tied.proofs.Enqueue.{sA1, sA2, sA3, sA4, sA5, sA6, sA7, sA8, sA9, sA10, sA11, sA12}
 use Rattle.tied.proofs.Dequeue.{sD1, sD2, sD3, sD4, sD5, sD6, sD7}
 
-module _ (p : ℕ → Content) (m : Machine) (c : Core) (d : Tied p m c) (r : InRange c) (k : ℕ) (hk : k < m .t) where
+module _ (p : memory.Line → Content) (m : Machine) (c : Core) (d : Tied p m c) (r : InRange c) (k : ℕ) (hk : k < m .t) where
   stepBy : (s : Stage) → stage m k ≡ s → StepT p m (stepPersists m k s) (stepped m k s) (step c k (threadOf s (thread m k)))
   stepBy noStep e = record { tied = d; says = refl; touch = tt }
   stepBy A1 e = sA1 p m c d r k hk e

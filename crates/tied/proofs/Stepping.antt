@@ -9,15 +9,15 @@ use lib.Dec.{eqb}
 use Rattle.lists.proofs.BoolLaws.{no-way}
 use Rattle.answer.specs.declared.Answer.{Answer}
 use Rattle.image.specs.declared.Content.{Content}
+use Rattle.machine.specs.Line as memory
 use Rattle.machine.specs.Record.{thread, atStep}
-use Rattle.machine.specs.Line.{cachedAt}
+use Rattle.machine.specs.Line.{putLine, cachedAt}
 use Rattle.machine.specs.Stage.{Stage, stage}
 use Rattle.machine.specs.Retire.{left}
 use Rattle.machine.specs.declared.Machine.{Machine}
 use Rattle.machine.specs.declared.Thread.{Thread}
 use Rattle.machine.specs.declared.Out as machine
 use Rattle.schedule.specs.Run.{Touched, noLine, aLine}
-use Rattle.model.specs.Basics.{upd}
 use Rattle.model.specs.Lines.{Touch, nowhere, stores, flushes}
 use Rattle.model.specs.Conf.{shared}
 use Rattle.model.specs.Core.{Core, Th}
@@ -31,9 +31,9 @@ use Rattle.tied.proofs.Changes.{count-n}
 use Rattle.tied.proofs.Leaving.{leftT}
 
 -- what the lines hold persisted after one is, or none
-abbrev pub keeps : Touched → Machine → (ℕ → Content) → ℕ → Content
+abbrev pub keeps : Touched → Machine → (memory.Line → Content) → memory.Line → Content
 keeps noLine m p = p
-keeps (aLine l) m p = upd p l (cachedAt m l)
+keeps (aLine l) m p = putLine p l (cachedAt m l)
 
 -- the record persists what the core flushes
 abbrev pub Touches : Touched → Touch → Type 0
@@ -44,7 +44,7 @@ Touches (aLine k) nowhere = ⊥
 Touches (aLine k) (stores l) = ⊥
 Touches (aLine k) (flushes l) = l ≡ lineShown k
 
-pub record StepT (p : ℕ → Content) (m : Machine) (w : Touched) (o : machine.Out) (O : Out) : Type 0 where
+pub record StepT (p : memory.Line → Content) (m : Machine) (w : Touched) (o : machine.Out) (O : Out) : Type 0 where
   pub tied : Tied (keeps w m p) (o .machine) (O .core)
   pub says : o .answer ≡ answerOf (O .ans)
   pub touch : Touches w (O .touch)
@@ -62,7 +62,7 @@ link-is x y e = by (eqb x 255) refl e
     by false h e = (h, let z : x ≡ y = cc in sym z)
 
 -- which node was handed out last is not in the record
-pub lastT : (p : ℕ → Content) (m : Machine) (c : Core) → Tied p m c → (n : ℕ) → Tied p m (setLast c n)
+pub lastT : (p : memory.Line → Content) (m : Machine) (c : Core) → Tied p m c → (n : ℕ) → Tied p m (setLast c n)
 lastT p m c d n = record {
   conf = d .conf;
   sizes = d .sizes;
@@ -76,7 +76,7 @@ lastT p m c d n = record {
   kept = d .kept;
 }
 
-module _ (p : ℕ → Content) (m : Machine) (c : Core) (d : Tied p m c) (k : ℕ) (hk : k < m .t) where
+module _ (p : memory.Line → Content) (m : Machine) (c : Core) (d : Tied p m c) (k : ℕ) (hk : k < m .t) where
   pub engine-is : c .conf .engine ≡ shared
   engine-is = ap (λ z. z .engine) (d .conf)
 

@@ -17,10 +17,13 @@ use Rattle.image.specs.Layout.{contentAt}
 use Rattle.image.specs.Recovered.{dummyOf}
 use Rattle.machine.specs.Record.{kept}
 use Rattle.machine.specs.Line.{lineCount, persistedAt, persisted}
+use Rattle.machine.specs.Line as memory
 use Rattle.machine.specs.Stage as stage
 use Rattle.machine.specs.Start.{startOf}
 use Rattle.machine.specs.Event.{Deed, unknown, enqueues, dequeues, steps, writesBack, crashes, eventAnswer, threadTooLarge, lineTooLarge, itemNotZero, begun, done}
 use Rattle.machine.specs.declared.Machine.{Machine}
+use Rattle.machine.proofs.LineLaws as lines
+use Rattle.machine.proofs.LineLaws.{LineIn}
 use Rattle.machine.specs.declared.Event.{Event}
 use Rattle.schedule.specs.Run as run
 use Rattle.schedule.specs.Run.{noLine, aLine, turned, persists}
@@ -49,7 +52,7 @@ use Rattle.tied.proofs.Accepted.{pass, fit-dummy}
 use Rattle.tied.proofs.Contents.{gathered-first}
 use Rattle.tied.proofs.Bench.{own-kept, kept-flag, BenchT, ListsT, present, goesOnT, nextPast}
 use Rattle.tied.proofs.Past.{pastBegins}
-use Rattle.tied.proofs.Begins.{startedT, beginsT}
+use Rattle.tied.proofs.Begins.{size-is, startedT, beginsT}
 
 pub lt-of : (a b : ℕ) → leb a b ≡ false → b < a
 lt-of a b e = by (decLt b a)
@@ -58,7 +61,7 @@ lt-of a b e = by (decLt b a)
     by (yes h) = h
     by (no h) = no-way (sym (le-true a b (omega arith)) ∙ e)
 
-first-of : (b : run.Bench) (l : ℕ) → headOr (map shownContent (contentsOf b l)) zeroNode ≡ shownContent (persistedAt (b .machine) l)
+first-of : (b : run.Bench) (l : memory.Line) → headOr (map shownContent (contentsOf b l)) zeroNode ≡ shownContent (persistedAt (b .machine) l)
 unfolding contentsOf
 first-of b l = gathered-first _ (persistedAt (b .machine) l)
 
@@ -77,11 +80,11 @@ module _ (b : run.Bench) (B : Bench) (r : BenchT b B) where
   persistedT = record {
     conf = r .tied .conf;
     sizes = r .tied .sizes;
-    head = ap (λ l. headOr l zeroNode .index) (r .lists .lists 0 (omega arith)) ∙ ap (λ z. z .index) (first-of b 0);
-    at = λ i h. ap (λ l. headOr l zeroNode) (r .lists .lists (suc i) (omega arith)) ∙ first-of b (suc i);
-    flag = λ i h. kept-flag _ m c (r .tied) (suc i) (omega arith) .0;
-    narrow-head = r .tied .kept .narrow 0 (omega arith);
-    narrow = λ i h. r .tied .kept .narrow (suc i) (omega arith);
+    head = ap (λ l. headOr l zeroNode .index) (r .lists .lists (memory.ofHead 0) (omega (arith, lines.one-head (m .n)))) ∙ ap (λ z. z .index) (first-of b (memory.ofHead 0));
+    at = λ i h. ap (λ l. headOr l zeroNode) (r .lists .lists (memory.ofNode i) h) ∙ first-of b (memory.ofNode i);
+    flag = λ i h. kept-flag _ m c (r .tied) (memory.ofNode i) h .0;
+    narrow-head = r .tied .kept .narrow-head;
+    narrow = λ i h. r .tied .kept .narrow i h;
   }
 
   pub persisted-fit : Fit (machine.persisted (B .mach))
@@ -91,8 +94,15 @@ module _ (b : run.Bench) (B : Bench) (r : BenchT b B) where
     thread-in : threadTooLarge m e ≡ false → e .number < m .t
     thread-in f = lt-of (m .t) (e .number) f
 
+    -- the line that a write-back names
+    abbrev line-of : Event → memory.Line
+    line-of e = memory.lineAt (m .n) (e .number)
+
+    line-there : lineTooLarge m e ≡ false → LineIn (m .n) (line-of e)
+    line-there f = lines.line-in (m .n) (e .number) (lt-of (lineCount (m .n)) (e .number) f)
+
     -- taken here, taken there
-    pub takes : (δ : Deed) → accepted (eventAnswer q m e δ) ≡ true → Takes (B .mach) (eventBy δ e)
+    pub takes : (δ : Deed) → accepted (eventAnswer q m e δ) ≡ true → Takes (B .mach) (eventBy (m .n) δ e)
     takes unknown a = no-way (sym a)
     takes enqueues a =
         let x = pass (threadTooLarge m e) (Number q) _ refl a in let y = pass (stage.busy m (e .number)) (Busy q) Taken refl (x .1) in
@@ -103,15 +113,15 @@ module _ (b : run.Bench) (B : Bench) (r : BenchT b B) where
     takes steps a =
         let x = pass (threadTooLarge m e) (Number q) _ refl a in let z = pass (itemNotZero e) (NotZero q) _ refl (x .1) in let y = pass (not (stage.busy m (e .number))) (Idle q) Taken refl (z .1) in
         let h = thread-in (x .0) in (omega (arith, count-t _ m c (r .tied)), busy-tied _ m c (r .tied) (e .number) h ∙ not-false _ (y .0))
-    takes writesBack a = let x = pass (lineTooLarge m e) (Number q) _ refl a in by (e .number) (lt-of (lineCount (m .n)) (e .number) (x .0))
+    takes writesBack a = let x = pass (lineTooLarge m e) (Number q) _ refl a in by (line-of e) (line-there (x .0))
       where
-        by : (l : ℕ) → l < lineCount (m .n) → Within (c .conf) (lineShown l)
-        by zero h = subst (λ z. 0 < headLines z) (sym (r .tied .conf)) (omega arith)
-        by (suc i) h = omega (arith, count-n _ m c (r .tied))
+        by : (l : memory.Line) → LineIn (m .n) l → Within (c .conf) (lineShown l)
+        by (memory.ofHead k) h = subst (λ z. k < headLines z) (sym (r .tied .conf)) (omega (arith, lines.one-head (m .n)))
+        by (memory.ofNode i) h = omega (arith, count-n _ m c (r .tied))
     takes crashes a = tt
 
     -- and the same after it
-    pub turns : (δ : Deed) → accepted (eventAnswer q m e δ) ≡ true → BenchT (turned b (done m e δ .machine) e δ) (turn B (eventBy δ e))
+    pub turns : (δ : Deed) → accepted (eventAnswer q m e δ) ≡ true → BenchT (turned b (done m e δ .machine) e δ) (turn B (eventBy (m .n) δ e))
     turns unknown a = no-way (sym a)
     turns enqueues a =
         let x = pass (threadTooLarge m e) (Number q) _ refl a in
@@ -145,12 +155,12 @@ module _ (b : run.Bench) (B : Bench) (r : BenchT b B) where
         }
     turns writesBack a =
         let x = pass (lineTooLarge m e) (Number q) _ refl a in
-        let d = persistT _ m c (r .tied) (e .number) (lt-of (lineCount (m .n)) (e .number) (x .0)) in
+        let d = persistT _ m c (r .tied) (line-of e) (line-there (x .0)) in
         record {
-          kept = turnKept B (ev (back (lineShown (e .number)))) (r .kept) (takes writesBack a);
+          kept = turnKept B (ev (back (lineShown (line-of e)))) (r .kept) (takes writesBack a);
           tied = own-kept _ _ _ d;
-          lists = goesOnT b c c (B .mach .hist) _ (aLine (e .number)) (flushes (lineShown (e .number))) (r .lists) (r .tied) d (present b B r) refl (λ l ne. refl) refl;
-          past = nextPast b c c (B .mach .hist) _ (aLine (e .number)) (flushes (lineShown (e .number))) (r .lists) (r .tied) d (present b B r) refl (λ l ne. refl) refl (r .past);
+          lists = goesOnT b c c (B .mach .hist) _ (aLine (line-of e)) (flushes (lineShown (line-of e))) (r .lists) (r .tied) d (present b B r) refl (λ l ne. refl) refl;
+          past = nextPast b c c (B .mach .hist) _ (aLine (line-of e)) (flushes (lineShown (line-of e))) (r .lists) (r .tied) d (present b B r) refl (λ l ne. refl) refl (r .past);
         }
     turns crashes a =
         let dm = fit-dummy (persisted m) (m .t) (machine.persisted (B .mach)) persistedT persisted-fit in
@@ -161,7 +171,21 @@ module _ (b : run.Bench) (B : Bench) (r : BenchT b B) where
           past = pastBegins (startOf (persisted m) (m .t));
         }
 
-    pub answers-same : (δ : Deed) → accepted (eventAnswer q m e δ) ≡ true → done m e δ .answer ≡ answerOf (answer (B .mach) (eventBy δ e))
+    -- N stays
+    pub turned-size : (δ : Deed) → accepted (eventAnswer q m e δ) ≡ true → turned b (done m e δ .machine) e δ .machine .n ≡ m .n
+    turned-size unknown a = no-way (sym a)
+    turned-size enqueues a = refl
+    turned-size dequeues a = refl
+    turned-size steps a =
+        let x = pass (threadTooLarge m e) (Number q) _ refl a in
+        let s = stepT _ m c (r .tied) ranged (e .number) (thread-in (x .0)) in
+        sym (count-n _ _ _ (s .tied)) ∙ ap (λ z. z .nodes) (conf-same c (move (e .number))) ∙ count-n _ m c (r .tied)
+    turned-size writesBack a =
+        let x = pass (lineTooLarge m e) (Number q) _ refl a in
+        sym (count-n _ _ _ (persistT _ m c (r .tied) (line-of e) (line-there (x .0)))) ∙ count-n _ m c (r .tied)
+    turned-size crashes a = size-is (persisted m) (m .t)
+
+    pub answers-same : (δ : Deed) → accepted (eventAnswer q m e δ) ≡ true → done m e δ .answer ≡ answerOf (answer (B .mach) (eventBy (m .n) δ e))
     answers-same unknown a = no-way (sym a)
     answers-same enqueues a = refl
     answers-same dequeues a = refl

@@ -6,7 +6,7 @@ use mathlib.Core.Logic.{_⊎_}
 use Prim.Native.Nat.{ℕ, _+_, _<_}
 use lib.ListN.{getD}
 use Rattle.image.specs.declared.Content.{Content}
-use Rattle.machine.specs.Line.{lineCount, cachedAt, persistedAt}
+use Rattle.machine.specs.Line.{Line, cachedAt, persistedAt}
 use Rattle.machine.specs.Place.{inQueue, isFree, isWaiting, isHeld, inEnqueue, inDequeue, placesOf}
 use Rattle.machine.specs.declared.Machine.{Machine}
 use Rattle.machine.specs.declared.Places.{Places}
@@ -47,5 +47,5 @@ abbrev pub atStart : Bench → Machine
 atStart b = getD (b .past) 0 (b .machine)
 
 -- line l's persisted copy is what was persisted at the last start, or a cached content since
-abbrev pub WasThere : Bench → ℕ → Type 0
+abbrev pub WasThere : Bench → Line → Type 0
 WasThere b l = Among (persistedAt (b .machine) l) (persistedAt (atStart b) l ∷ map (λ m. cachedAt m l) (b .past))

@@ -13,6 +13,7 @@ use Rattle.image.specs.declared.Content.{Content}
 use Rattle.image.specs.declared.Image.{Image}
 use Rattle.image.specs.Layout.{contentAt}
 use Rattle.machine.specs.Record.{top}
+use Rattle.machine.specs.Line as memory
 use Rattle.machine.specs.Stage.{Stage, noStep, A1, A2, A3, A4, A5, A6, A7, A8, A9, A10, A11, A12, D1, D2, D3, D4, D5, D6, D7, stageOf}
 use Rattle.machine.specs.declared.Thread.{Thread}
 use Rattle.machine.specs.declared.Event.{Event}
@@ -83,10 +84,10 @@ shownThread v = threadOf (stageOf (v .step)) v
 abbrev pub confOf : ℕ → ℕ → Conf
 confOf n t = record { nodes = n; threads = t; top = top; engine = shared; chooser = lowestFirst }
 
--- line 0 is Head, line i + 1 is node i
-abbrev pub lineShown : ℕ → Line
-lineShown zero = ofHead 0
-lineShown (suc i) = ofNode i
+-- a line
+abbrev pub lineShown : memory.Line → Line
+lineShown (memory.ofHead k) = ofHead k
+lineShown (memory.ofNode i) = ofNode i
 
 -- an image: nothing is there beyond its N nodes
 unfoldable pub imageShown : Image → ℕ → recovery.Image
@@ -96,17 +97,17 @@ imageShown g t = record {
   at = λ i. sel (ltb i (g .n)) (shownContent (contentAt (g .nodes) i)) core.zeroNode;
 }
 
--- an event that is not refused
-abbrev pub eventBy : Deed → Event → machine.Event
-eventBy unknown e = machine.crash
-eventBy enqueues e = machine.ev (act (enq (e .number) (e .item)))
-eventBy dequeues e = machine.ev (act (deq (e .number)))
-eventBy steps e = machine.ev (act (move (e .number)))
-eventBy writesBack e = machine.ev (back (lineShown (e .number)))
-eventBy crashes e = machine.crash
+-- an event that is not refused, on a machine of n nodes
+abbrev pub eventBy : ℕ → Deed → Event → machine.Event
+eventBy n unknown e = machine.crash
+eventBy n enqueues e = machine.ev (act (enq (e .number) (e .item)))
+eventBy n dequeues e = machine.ev (act (deq (e .number)))
+eventBy n steps e = machine.ev (act (move (e .number)))
+eventBy n writesBack e = machine.ev (back (lineShown (memory.lineAt n (e .number))))
+eventBy n crashes e = machine.crash
 
-abbrev pub eventShown : Event → machine.Event
-eventShown e = eventBy (deedOf (e .kind)) e
+abbrev pub eventShown : ℕ → Event → machine.Event
+eventShown n e = eventBy n (deedOf (e .kind)) e
 
 -- the answer of an operation, or none yet
 abbrev pub answerOf : Ans → Answer

@@ -1,12 +1,11 @@
 use Rattle.steps.proofs.StepLaws as laws
-use mathlib.Core.Path.{sym}
 use native.Mathlib.Nat.{pos-of-ne-zero}
 use borrow.Author.Needs.{needs}
 use Rattle.steps.proofs.persist_line.Statement.{statement}
 use Rattle.steps.proofs.persist_line.Tie as tie
 
 returns : tie.Need-returns
-returns c = rw (c .if1 .taken)
+returns c = laws.persist-head (c .before .args .m) (c .before .args .l) (c .if1 .taken)
 
 sub-v : tie.Need-sub-v
 sub-v c = search needs
@@ -27,7 +26,7 @@ element-set-from-r : tie.Need-element-set-from-r
 element-set-from-r c = search needs
 
 returns-2 : tie.Need-returns-2
-returns-2 c = sym (laws.persist-node (c .before .before .args .m) (c .before .before .args .l) (pos-of-ne-zero (c .before .if1 .left)))
+returns-2 c = laws.persist-node (c .before .before .args .m) (c .before .before .args .l) (pos-of-ne-zero (c .before .if1 .left))
 
 pub persist-line-spec : {M : Type 1} → statement M
 persist-line-spec =

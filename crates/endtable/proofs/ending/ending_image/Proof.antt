@@ -6,12 +6,13 @@ use Rattle.endtable.proofs.Openings as laws
 use Prim.Native.Nat.{_+_, _-_, _≤_}
 use mathlib.Core.Path.{_≡_, _∙_}
 use native.Mathlib.Omega.{arith}
+use Rattle.machine.proofs.LineLaws.{one-head}
 use borrow.Author.Needs.{needs}
 use Rattle.endtable.proofs.ending.ending_image.Statement.{statement}
 use Rattle.endtable.proofs.ending.ending_image.Tie as tie
 
 abbrev Inv-loop : tie.InvT-loop
-Inv-loop n t picks nodes₀ count i₀ nodes i = (i ≤ count) × (nodes ≡ front (pickedNode t picks) i noContents)
+Inv-loop n t picks nodes₀ count i₀ nodes i = (i ≤ count) × (nodes ≡ front (pickedNode t picks n) i noContents)
 
 abbrev μ-loop : tie.MeasureT-loop
 μ-loop n t picks nodes₀ count i₀ nodes i = count - i
@@ -22,7 +23,7 @@ no-contents-requires c κs = tt
 loop-holds : tie.Need-loop-holds Inv-loop μ-loop
 loop-holds c =
     let a = c .before .args in
-    (omega arith, c .no-contents .ensures ∙ tabs.front-none (pickedNode (a .t1) (a .t2)) noContents)
+    (omega arith, c .no-contents .ensures ∙ tabs.front-none (pickedNode (a .t1) (a .t2) (a .n)) noContents)
 
 add-j : tie.Need-add-j Inv-loop μ-loop
 add-j c = omega arith
@@ -40,13 +41,13 @@ mul-nodes : tie.Need-mul-nodes Inv-loop μ-loop
 mul-nodes c = omega arith
 
 mul-nodes-2 : tie.Need-mul-nodes-2 Inv-loop μ-loop
-mul-nodes-2 c = omega (arith, c .before .before .before .pre .1 (c .before .loop .i + 1) (omega arith))
+mul-nodes-2 c = omega (arith, c .before .before .before .pre .1 (c .before .loop .i + 1) (omega (arith, one-head (c .before .before .before .args .n))))
 
 index-1-nodes : tie.Need-index-1-nodes Inv-loop μ-loop
 index-1-nodes c = omega arith
 
 index-2-nodes : tie.Need-index-2-nodes Inv-loop μ-loop
-index-2-nodes c = c .before .before .before .pre .1 (c .before .loop .i + 1) (omega arith)
+index-2-nodes c = c .before .before .before .pre .1 (c .before .loop .i + 1) (omega (arith, one-head (c .before .before .before .args .n)))
 
 mul-nodes-3 : tie.Need-mul-nodes-3 Inv-loop μ-loop
 mul-nodes-3 c = omega arith
@@ -64,7 +65,7 @@ loop-again : tie.Need-loop-again Inv-loop μ-loop
 loop-again c =
     let a = c .before .before .before .before .args in
     let p = c .before .before .loop in
-    (omega arith, rw (p .inv .1) (laws.picked-next (a .t1) (a .t2) (p .i) (omega arith)))
+    (omega arith, rw (p .inv .1) (laws.picked-next (a .t1) (a .t2) (a .n) (p .i) (omega arith)))
 
 array-read-j-2 : tie.Need-array-read-j-2 Inv-loop μ-loop
 array-read-j-2 c = omega arith
@@ -73,20 +74,20 @@ cast-j-2 : tie.Need-cast-j-2 Inv-loop μ-loop
 cast-j-2 c = search needs
 
 mul-head : tie.Need-mul-head Inv-loop μ-loop
-mul-head c = omega (arith, c .before .before .before .pre .1 0 (omega arith))
+mul-head c = omega (arith, c .before .before .before .pre .1 0 (omega (arith, one-head (c .before .before .before .args .n))))
 
 index-1-head : tie.Need-index-1-head Inv-loop μ-loop
 index-1-head c = omega arith
 
 index-2-head : tie.Need-index-2-head Inv-loop μ-loop
-index-2-head c = c .before .before .before .pre .1 0 (omega arith)
+index-2-head c = c .before .before .before .pre .1 0 (omega (arith, one-head (c .before .before .before .args .n)))
 
 returns : tie.Need-returns Inv-loop μ-loop
 unfolding pickedImage pickedAt
 returns c =
     let p = c .before .before .loop in
     let e : p .i ≡ c .before .before .before .before .args .n = omega arith in
-    rw (← e, p .inv .1)
+    rw (p .inv .1, e)
 
 pub ending-image-spec : {M : Type 1} → statement M
 ending-image-spec =

@@ -1,4 +1,7 @@
-use native.Mathlib.Numerals.{add-one}
+use mathlib.Core.Path.{_≡_}
+use Prim.Native.Nat.{_+_}
+use Rattle.machine.specs.Line.{lineCount}
+use Rattle.machine.proofs.LineLaws.{one-head}
 use native.Mathlib.Omega.{arith}
 use borrow.Author.Needs.{needs}
 use Rattle.endtable.specs.Opened.{blankCounts}
@@ -10,11 +13,13 @@ add-split : tie.Need-add-split
 add-split c = search needs
 
 split-requires : tie.Need-split-requires
-split-requires c κs = (omega arith, λ l h. c .pre .1 l (omega arith))
+split-requires c κs = (omega arith, λ l h. c .pre .1 l (omega (arith, one-head (c .args .n))))
 
 returns : tie.Need-returns
 unfolding picksOf blankCounts
-returns c = rw (c .split .ensures, add-one)
+returns c =
+    let e : c .before .args .n + 1 ≡ lineCount (c .before .args .n) = omega (arith, one-head (c .before .args .n)) in
+    rw (c .split .ensures, e)
 
 pub ending-picks-spec : {M : Type 1} → statement M
 ending-picks-spec = tie.close (tie.spec add-split split-requires returns)

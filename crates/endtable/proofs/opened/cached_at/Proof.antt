@@ -8,7 +8,7 @@ head-content-requires : tie.Need-head-content-requires
 head-content-requires c κs = search needs
 
 returns : tie.Need-returns
-returns c = rw (c .before .if1 .taken) (c .head-content .ensures)
+returns c = c .head-content .ensures ∙ laws.cached-head (c .before .before .args .t1) (c .before .before .args .l) (c .before .if1 .taken)
 
 sub-v : tie.Need-sub-v
 sub-v c = search needs

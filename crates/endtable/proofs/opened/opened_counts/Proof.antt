@@ -1,8 +1,8 @@
-use native.Mathlib.Numerals.{add-one}
+use Rattle.machine.proofs.LineLaws.{one-head}
 use Rattle.endtable.specs.Opened.{openedCounts}
 use Rattle.endtable.proofs.Openings as laws
 use Prim.Native.Nat.{_+_, _-_, _≤_}
-use mathlib.Core.Path.{_≡_}
+use mathlib.Core.Path.{_≡_, ap, _∙_}
 use native.Mathlib.Omega.{arith}
 use borrow.Author.Needs.{needs}
 use Rattle.endtable.proofs.opened.opened_counts.Statement.{statement}
@@ -73,8 +73,8 @@ loop-again c =
 returns : tie.Need-returns Inv-loop μ-loop
 returns c =
     let p = c .before .loop in
-    let e : p .i ≡ c .before .before .before .before .before .before .args .t1 .n = omega arith in
-    rw (p .inv .1, add-one, e)
+    let m = c .before .before .before .before .before .before .args .t1 in
+    p .inv .1 ∙ ap (openedCounts m) (omega (arith, one-head (m .n)))
 
 pub opened-counts-spec : {M : Type 1} → statement M
 opened-counts-spec =

@@ -1,4 +1,5 @@
 use Rattle.machine.specs.Record.{zeroThread}
+use Rattle.machine.specs.Line.{headLines}
 use lib.ListN.{length, List·getD-eq-default}
 use mathlib.Core.Path.{_≡_}
 use native.Mathlib.Omega.{arith}
@@ -21,7 +22,7 @@ step-touch-requires : tie.Need-step-touch-requires
 step-touch-requires c κs = search needs
 
 returns : tie.Need-returns
-unfolding touchIn
+unfolding touchIn headLines
 returns c = rw (c .before .before .before .match .keys1) (c .step-touch .ensures)
 
 returns-2 : tie.Need-returns-2

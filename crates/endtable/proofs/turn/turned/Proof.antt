@@ -1,8 +1,8 @@
 use native.Mathlib.Omega.{arith}
 use borrow.Author.Needs.{needs}
-use Prim.Native.Nat.{_+_, _-_, _≤_}
+use Prim.Native.Nat.{ℕ, _+_, _-_, _≤_}
 use mathlib.Core.Path.{_≡_, sym, ap, _∙_}
-use native.Mathlib.Numerals.{add-one}
+use Rattle.machine.proofs.LineLaws.{one-head}
 use lib.ListN.{getD}
 use mir.Val.{Fits}
 use mir.Syntax.{w8}
@@ -11,6 +11,9 @@ use Rattle.endtable.specs.Picks.{turnedOf}
 use Rattle.endtable.proofs.Turns as laws
 use Rattle.endtable.proofs.turn.turned.Statement.{statement}
 use Rattle.endtable.proofs.turn.turned.Tie as tie
+
+lines : (n : ℕ) → n + 1 ≡ lineCount n
+lines n = omega (arith, one-head n)
 
 abbrev Inv-loop : tie.InvT-loop
 Inv-loop n counts p₀ i₀ p i = (i ≤ n + 1) × (turnedOf counts i p ≡ turnedOf counts (lineCount n) p₀)
@@ -22,7 +25,7 @@ add-i : tie.Need-add-i Inv-loop μ-loop
 add-i c = omega arith
 
 loop-holds : tie.Need-loop-holds Inv-loop μ-loop
-loop-holds c = (omega arith, ap (λ x. turnedOf (c .args .t1) x (c .args .picks)) (add-one (c .args .n)))
+loop-holds c = (omega arith, ap (λ x. turnedOf (c .args .t1) x (c .args .picks)) (lines (c .args .n)))
 
 sub-i : tie.Need-sub-i Inv-loop μ-loop
 sub-i c = omega arith
@@ -34,7 +37,7 @@ array-read-if1 : tie.Need-array-read-if1 Inv-loop μ-loop
 array-read-if1 c = omega arith
 
 sub-if1 : tie.Need-sub-if1 Inv-loop μ-loop
-sub-if1 c = c .before .before .pre .1 (c .before .loop .i - 1) (omega arith)
+sub-if1 c = c .before .before .pre .1 (c .before .loop .i - 1) (omega (arith, lines (c .before .before .args .n)))
 
 add-p : tie.Need-add-p Inv-loop μ-loop
 add-p c =

@@ -1,10 +1,11 @@
-use Prim.Native.Nat.{suc}
 use mathlib.Core.Path.{refl}
 use native.Mathlib.Omega.{arith}
 use borrow.Author.Tests.{eq-eqb, ne-eqb, le-leb, lt-leb}
 use borrow.Author.Needs.{needs}
 use Rattle.answer.specs.declared.Answer.the-variants.{Taken, Number, NotZero}
+use Rattle.machine.specs.Line.{lineCount}
 use Rattle.machine.specs.Event.{writesBack}
+use Rattle.machine.proofs.LineLaws.{one-head}
 use Rattle.events.proofs.ByAnswer as by
 use Rattle.range.proofs.InRange as range
 use Rattle.events.proofs.arms.write_back.Statement.{statement}
@@ -13,12 +14,12 @@ use Rattle.events.proofs.arms.write_back.Tie as tie
 returns : tie.Need-returns
 returns c =
     let a = c .before .before .before .args in
-    by.refused (a .p) (a .m) (a .e) writesBack (Number (a .p)) (rw (le-leb (suc (a .m .n)) (a .e .number) (c .if1 .taken))) refl
+    by.refused (a .p) (a .m) (a .e) writesBack (Number (a .p)) (rw (le-leb (lineCount (a .m .n)) (a .e .number) (omega (arith, one-head (a .m .n), c .if1 .taken)))) refl
 
 returns-2 : tie.Need-returns-2
 returns-2 c =
     let a = c .before .before .before .before .before .args in
-    by.refused (a .p) (a .m) (a .e) writesBack (NotZero (a .p)) (rw (lt-leb (suc (a .m .n)) (a .e .number) (omega (arith, c .before .before .if1 .left)), ne-eqb _ _ (c .if2 .taken))) refl
+    by.refused (a .p) (a .m) (a .e) writesBack (NotZero (a .p)) (rw (lt-leb (lineCount (a .m .n)) (a .e .number) (omega (arith, one-head (a .m .n), c .before .before .if1 .left)), ne-eqb _ _ (c .if2 .taken))) refl
 
 cast-persist-line : tie.Need-cast-persist-line
 cast-persist-line c = search needs
@@ -29,7 +30,7 @@ persist-line-requires c κs = omega (arith, range.in-range _ (c .before .before 
 returns-3 : tie.Need-returns-3
 returns-3 c =
     let a = c .before .before .before .before .before .before .before .args in
-    rw (c .persist-line .ensures) (by.taken (a .p) (a .m) (a .e) writesBack Taken (rw (lt-leb (suc (a .m .n)) (a .e .number) (omega (arith, c .before .before .before .before .if1 .left)), eq-eqb _ _ (c .before .before .if2 .left))) refl)
+    rw (c .persist-line .ensures) (by.taken (a .p) (a .m) (a .e) writesBack Taken (rw (lt-leb (lineCount (a .m .n)) (a .e .number) (omega (arith, one-head (a .m .n), c .before .before .before .before .if1 .left)), eq-eqb _ _ (c .before .before .if2 .left))) refl)
 
 pub write-back-spec : {M : Type 1} → statement M
 write-back-spec =

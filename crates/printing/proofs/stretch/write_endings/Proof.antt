@@ -5,6 +5,7 @@ use Rattle.lists.specs.Tab.{over, front}
 use Rattle.lists.proofs.TabLaws as tabs
 use Rattle.image.specs.Layout.{noContents}
 use Rattle.machine.specs.Line.{lineCount}
+use Rattle.machine.proofs.LineLaws.{one-head}
 use Rattle.page.specs.Filled.{linesOn, fitting}
 use Rattle.endtable.specs.Picks.{picksOf, pickedNode, turnedOf}
 use Rattle.endtable.proofs.Turns as turns
@@ -18,7 +19,7 @@ use Rattle.printing.proofs.stretch.write_endings.Statement.{statement}
 use Rattle.printing.proofs.stretch.write_endings.Tie as tie
 
 abbrev Inv-loop2 : tie.InvT-loop2
-Inv-loop2 b at counts n from to t count picks k p nodes₀ i₀ nodes i = (i ≤ count) × (nodes ≡ front (pickedNode t picks) i noContents)
+Inv-loop2 b at counts n from to t count picks k p nodes₀ i₀ nodes i = (i ≤ count) × (nodes ≡ front (pickedNode t picks n) i noContents)
 
 abbrev μ-loop2 : tie.MeasureT-loop2
 μ-loop2 b at counts n from to t count picks k p nodes₀ i₀ nodes i = count - i
@@ -48,7 +49,7 @@ no-contents-requires c κs = tt
 loop2-holds : tie.Need-loop2-holds Inv-loop2 μ-loop2 Inv-loop μ-loop
 loop2-holds c =
     let a = c .before .before .before .before .before .args in
-    (omega arith, c .no-contents .ensures ∙ tabs.front-none (pickedNode (a .t3) (c .before .before .loop .picks)) noContents)
+    (omega arith, c .no-contents .ensures ∙ tabs.front-none (pickedNode (a .t3) (c .before .before .loop .picks) (a .n)) noContents)
 
 add-j : tie.Need-add-j Inv-loop2 μ-loop2 Inv-loop μ-loop
 add-j c = omega arith
@@ -57,7 +58,7 @@ array-read-j : tie.Need-array-read-j Inv-loop2 μ-loop2 Inv-loop μ-loop
 array-read-j c = omega arith
 
 cast-j : tie.Need-cast-j Inv-loop2 μ-loop2 Inv-loop μ-loop
-cast-j c = omega (arith, picked.picks-filled (c .before .before .before .before .before .before .before .args .counts) (c .before .before .before .before .before .before .before .args .n) (c .before .before .before .before .loop .k) (c .before .before .before .before .loop .picks) (c .before .before .before .before .before .before .before .pre .1) (c .before .before .before .before .loop .inv .6) (c .before .loop2 .i + 1) (omega arith))
+cast-j c = omega (arith, picked.picks-filled (c .before .before .before .before .before .before .before .args .counts) (c .before .before .before .before .before .before .before .args .n) (c .before .before .before .before .loop .k) (c .before .before .before .before .loop .picks) (c .before .before .before .before .before .before .before .pre .1) (c .before .before .before .before .loop .inv .6) (c .before .loop2 .i + 1) (omega (arith, one-head (c .before .before .before .before .before .before .before .args .n))))
 
 add-nodes : tie.Need-add-nodes Inv-loop2 μ-loop2 Inv-loop μ-loop
 add-nodes c = omega arith
@@ -66,13 +67,13 @@ mul-nodes : tie.Need-mul-nodes Inv-loop2 μ-loop2 Inv-loop μ-loop
 mul-nodes c = omega arith
 
 mul-nodes-2 : tie.Need-mul-nodes-2 Inv-loop2 μ-loop2 Inv-loop μ-loop
-mul-nodes-2 c = omega (arith, picked.picks-filled (c .before .before .before .before .before .before .before .args .counts) (c .before .before .before .before .before .before .before .args .n) (c .before .before .before .before .loop .k) (c .before .before .before .before .loop .picks) (c .before .before .before .before .before .before .before .pre .1) (c .before .before .before .before .loop .inv .6) (c .before .loop2 .i + 1) (omega arith))
+mul-nodes-2 c = omega (arith, picked.picks-filled (c .before .before .before .before .before .before .before .args .counts) (c .before .before .before .before .before .before .before .args .n) (c .before .before .before .before .loop .k) (c .before .before .before .before .loop .picks) (c .before .before .before .before .before .before .before .pre .1) (c .before .before .before .before .loop .inv .6) (c .before .loop2 .i + 1) (omega (arith, one-head (c .before .before .before .before .before .before .before .args .n))))
 
 index-1-nodes : tie.Need-index-1-nodes Inv-loop2 μ-loop2 Inv-loop μ-loop
 index-1-nodes c = omega arith
 
 index-2-nodes : tie.Need-index-2-nodes Inv-loop2 μ-loop2 Inv-loop μ-loop
-index-2-nodes c = picked.picks-filled (c .before .before .before .before .before .before .before .args .counts) (c .before .before .before .before .before .before .before .args .n) (c .before .before .before .before .loop .k) (c .before .before .before .before .loop .picks) (c .before .before .before .before .before .before .before .pre .1) (c .before .before .before .before .loop .inv .6) (c .before .loop2 .i + 1) (omega arith)
+index-2-nodes c = picked.picks-filled (c .before .before .before .before .before .before .before .args .counts) (c .before .before .before .before .before .before .before .args .n) (c .before .before .before .before .loop .k) (c .before .before .before .before .loop .picks) (c .before .before .before .before .before .before .before .pre .1) (c .before .before .before .before .loop .inv .6) (c .before .loop2 .i + 1) (omega (arith, one-head (c .before .before .before .before .before .before .before .args .n)))
 
 mul-nodes-3 : tie.Need-mul-nodes-3 Inv-loop2 μ-loop2 Inv-loop μ-loop
 mul-nodes-3 c = omega arith
@@ -90,22 +91,22 @@ loop2-again : tie.Need-loop2-again Inv-loop2 μ-loop2 Inv-loop μ-loop
 loop2-again c =
     let a = c .before .before .before .before .before .before .before .before .args in
     let p = c .before .before .loop2 in
-    (omega arith, rw (p .inv .1) (openings.picked-next (a .t3) (c .before .before .before .before .before .loop .picks) (p .i) (omega arith)))
+    (omega arith, rw (p .inv .1) (openings.picked-next (a .t3) (c .before .before .before .before .before .loop .picks) (a .n) (p .i) (omega arith)))
 
 array-read-h : tie.Need-array-read-h Inv-loop2 μ-loop2 Inv-loop μ-loop
 array-read-h c = omega arith
 
 cast-h : tie.Need-cast-h Inv-loop2 μ-loop2 Inv-loop μ-loop
-cast-h c = omega (arith, picked.picks-filled (c .before .before .before .before .before .before .before .args .counts) (c .before .before .before .before .before .before .before .args .n) (c .before .before .before .before .loop .k) (c .before .before .before .before .loop .picks) (c .before .before .before .before .before .before .before .pre .1) (c .before .before .before .before .loop .inv .6) 0 (omega arith))
+cast-h c = omega (arith, picked.picks-filled (c .before .before .before .before .before .before .before .args .counts) (c .before .before .before .before .before .before .before .args .n) (c .before .before .before .before .loop .k) (c .before .before .before .before .loop .picks) (c .before .before .before .before .before .before .before .pre .1) (c .before .before .before .before .loop .inv .6) 0 (omega (arith, one-head (c .before .before .before .before .before .before .before .args .n))))
 
 mul-head : tie.Need-mul-head Inv-loop2 μ-loop2 Inv-loop μ-loop
-mul-head c = omega (arith, picked.picks-filled (c .before .before .before .before .before .before .before .args .counts) (c .before .before .before .before .before .before .before .args .n) (c .before .before .before .before .loop .k) (c .before .before .before .before .loop .picks) (c .before .before .before .before .before .before .before .pre .1) (c .before .before .before .before .loop .inv .6) 0 (omega arith))
+mul-head c = omega (arith, picked.picks-filled (c .before .before .before .before .before .before .before .args .counts) (c .before .before .before .before .before .before .before .args .n) (c .before .before .before .before .loop .k) (c .before .before .before .before .loop .picks) (c .before .before .before .before .before .before .before .pre .1) (c .before .before .before .before .loop .inv .6) 0 (omega (arith, one-head (c .before .before .before .before .before .before .before .args .n))))
 
 index-1-head : tie.Need-index-1-head Inv-loop2 μ-loop2 Inv-loop μ-loop
 index-1-head c = omega arith
 
 index-2-head : tie.Need-index-2-head Inv-loop2 μ-loop2 Inv-loop μ-loop
-index-2-head c = picked.picks-filled (c .before .before .before .before .before .before .before .args .counts) (c .before .before .before .before .before .before .before .args .n) (c .before .before .before .before .loop .k) (c .before .before .before .before .loop .picks) (c .before .before .before .before .before .before .before .pre .1) (c .before .before .before .before .loop .inv .6) 0 (omega arith)
+index-2-head c = picked.picks-filled (c .before .before .before .before .before .before .before .args .counts) (c .before .before .before .before .before .before .before .args .n) (c .before .before .before .before .loop .k) (c .before .before .before .before .loop .picks) (c .before .before .before .before .before .before .before .pre .1) (c .before .before .before .before .loop .inv .6) 0 (omega (arith, one-head (c .before .before .before .before .before .before .before .args .n)))
 
 fit-ending-requires : tie.Need-fit-ending-requires Inv-loop2 μ-loop2 Inv-loop μ-loop
 fit-ending-requires c κs =

@@ -1,3 +1,4 @@
+use Rattle.machine.proofs.LineLaws.{line-zero}
 use borrow.Author.Needs.{needs}
 use Rattle.steps.proofs.dequeue.d3.Statement.{statement}
 use Rattle.steps.proofs.dequeue.d3.Tie as tie
@@ -12,10 +13,10 @@ element-copy-out-th : tie.Need-element-copy-out-th
 element-copy-out-th c = search needs
 
 leave-requires : tie.Need-leave-requires
-leave-requires c κs = (c .before .before .pre .0, rw (c .before .persist-line .ensures) (c .before .before .pre .1))
+leave-requires c κs = (c .before .before .pre .0, rw (c .before .persist-line .ensures, line-zero) (c .before .before .pre .1))
 
 returns : tie.Need-returns
-returns c = rw (c .leave .ensures, c .before .before .persist-line .ensures)
+returns c = rw (c .leave .ensures, c .before .before .persist-line .ensures, line-zero)
 
 pub d3-spec : {M : Type 1} → statement M
 d3-spec =

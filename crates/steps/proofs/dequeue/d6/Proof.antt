@@ -1,3 +1,4 @@
+use Rattle.machine.proofs.LineLaws.{line-zero}
 use borrow.Author.Needs.{needs}
 use Rattle.steps.proofs.dequeue.d6.Statement.{statement}
 use Rattle.steps.proofs.dequeue.d6.Tie as tie
@@ -12,7 +13,7 @@ way-write-given-r : tie.Need-way-write-given-r
 way-write-given-r c = search needs
 
 returns : tie.Need-returns
-returns c = rw (c .before .persist-line .ensures)
+returns c = rw (c .before .persist-line .ensures, line-zero)
 
 pub d6-spec : {M : Type 1} → statement M
 d6-spec = tie.close (tie.spec persist-line-requires mul-r way-write-given-r returns)

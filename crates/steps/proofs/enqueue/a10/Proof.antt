@@ -1,4 +1,4 @@
-use native.Mathlib.Numerals.{add-one}
+use Rattle.machine.proofs.LineLaws.{line-next}
 use borrow.Author.Needs.{needs}
 use Rattle.steps.proofs.enqueue.a10.Statement.{statement}
 use Rattle.steps.proofs.enqueue.a10.Tie as tie
@@ -25,7 +25,7 @@ way-write-given-r : tie.Need-way-write-given-r
 way-write-given-r c = search needs
 
 returns : tie.Need-returns
-returns c = rw (c .before .persist-line .ensures, add-one)
+returns c = rw (c .before .persist-line .ensures, line-next)
 
 pub a10-spec : {M : Type 1} → statement M
 a10-spec =

@@ -1,7 +1,7 @@
-use Rattle.page.specs.Contents.{sameContent}
+use Rattle.image.specs.Layout.{sameContent}
 use borrow.Author.Tests.{eq-eqb, ne-eqb}
-use Rattle.endtable.proofs.row.is_same.Statement.{statement}
-use Rattle.endtable.proofs.row.is_same.Tie as tie
+use Rattle.image.proofs.same.is_same.Statement.{statement}
+use Rattle.image.proofs.same.is_same.Tie as tie
 
 returns : tie.Need-returns
 unfolding sameContent
