@@ -2,7 +2,6 @@
 pub mod Plain
 pub mod Range
 pub mod Runs
-pub mod Persisted
 pub mod Six
 pub mod Count
 pub mod Numbers

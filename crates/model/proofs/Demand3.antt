@@ -1,4 +1,3 @@
--- The two halves of demand 3.
+-- The lawful half of demand 3.
 pub mod Endings
 pub mod ThreeB
-pub mod ThreeA

@@ -1,9 +1,7 @@
--- What is proved of the abstract machine. The two halves of demand 3 are in Demand3, what is so after every event in Always.
+-- What is proved of the abstract machine. The lawful half of demand 3 is in Demand3, what is so after every event in Always.
 pub mod Basics
 pub mod Lines
-pub mod Shown
 pub mod Words
-pub mod Events
 pub mod Queue
 pub mod Layer1
 pub mod Layer2

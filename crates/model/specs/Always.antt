@@ -1,18 +1,16 @@
--- What is so after every event of a run, as types: every number is in its range; a persisted copy is an earlier or present content; the
--- numbers of nodes in the six places add up to N.
+-- What is so after every event of a run, as types: every number is in its range; the numbers of nodes in the six places add up to N.
 use mathlib.Core.Path.{_≡_}
 use mathlib.Core.Bool.{Bool, true, false, not}
-use mathlib.Core.List.{List, [], _∷_, _++_}
+use mathlib.Core.List.{List, [], _∷_}
 use mathlib.Core.Logic.{_≢_, _↔_}
 use mathlib.Core.Option.{Option, none, some}
 use Prim.Native.Nat.{ℕ, zero, suc, _+_, _<_}
 use lib.Dec.{eqb}
 use Rattle.model.specs.Basics.{sel, has}
-use Rattle.model.specs.Lines.{Line}
-use Rattle.model.specs.Core.{Core, Node, content, Th, busy, idle, a1, a2, a3, a4, a5, a6, a7, a8, a9, a10, a11, a12, d1, d2, d3, d4, d5, d6, d7}
+use Rattle.model.specs.Core.{Core, Th, busy, idle, a1, a2, a3, a4, a5, a6, a7, a8, a9, a10, a11, a12, d1, d2, d3, d4, d5, d6, d7}
 use Rattle.model.specs.Core.{s3, s6}
-use Rattle.model.specs.Recovery.{Image, imageHas, start}
-use Rattle.model.specs.Machine.{M, Event, ev, crash, event, starts, persisted, run, hasNode}
+use Rattle.model.specs.Recovery.{Image}
+use Rattle.model.specs.Machine.{Event, starts, run}
 use Rattle.model.specs.Demand3.{Fit, Tidy, TakesAll}
 use Rattle.model.specs.Places.{PlaceKind, inQueue, isWaiting, inDeq, isHeld, inEnq, isFree, walk, At, ownsE, ownsD}
 
@@ -56,21 +54,6 @@ pub record InRange (m : Core) : Type 0 where
 
 abbrev pub AlwaysInRange : Type 0
 AlwaysInRange = (g : Image) → Fit g → Tidy g → (l : List Event) → TakesAll (starts g) l → InRange (run (starts g) l .core)
-
--- ---- a persisted copy is an earlier or present content
-
--- what a line held at a start: its persisted content, and its cached content at the end
-abbrev pub atStart : Image → Line → List Node
-atStart g k = imageHas g k ∷ content (start g) k ∷ []
-
--- what each line has held since the last start: that, and its cached content after each event since
-unfoldable pub seen : M → (Line → List Node) → List Event → Line → List Node
-seen m s [] k = s k
-seen m s (ev e ∷ l) k = seen (event m (ev e)) (λ j. s j ++ content (event m (ev e) .core) j ∷ []) l k
-seen m s (crash ∷ l) k = seen (event m crash) (atStart (persisted m)) l k
-
-abbrev pub PersistedWasThere : Type 0
-PersistedWasThere = (g : Image) (l : List Event) (k : Line) → hasNode (imageHas (persisted (run (starts g) l)) k) (seen (starts g) (atStart g) l k)
 
 -- ---- the six places, and the six numbers
 

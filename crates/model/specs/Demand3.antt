@@ -1,15 +1,15 @@
--- Demand 3 as two types: 3a, the endings are what added write-backs leave; 3b, every ending recovers to a lawful queue.
+-- Demand 3's second half as a type: every ending recovers to a lawful queue.
 use mathlib.Core.Path.{_≡_}
 use mathlib.Core.Bool.{true, false}
-use mathlib.Core.List.{List, [], _∷_, _++_, map}
-use mathlib.Core.Logic.{_≢_, _↔_}
+use mathlib.Core.List.{List, [], _∷_}
+use mathlib.Core.Logic.{_≢_}
 use Prim.Native.Nat.{ℕ, _≤_, _<_}
-use Rattle.model.specs.Lines.{Line, Ev, act, back, Adds}
+use Rattle.model.specs.Lines.{Line, act, back}
 use Rattle.model.specs.Conf.{headLines, Within}
 use Rattle.model.specs.Core.{Core, busy}
 use Rattle.model.specs.Steps.{Act, enq, deq, move}
 use Rattle.model.specs.Recovery.{Image, imageHas, headOf, recovered, itemsOf}
-use Rattle.model.specs.Machine.{M, Event, ev, crash, event, starts, persisted, hasNode}
+use Rattle.model.specs.Machine.{M, Event, ev, crash, event, starts, hasNode}
 use Rattle.model.specs.Lawful.{Lawful}
 use Rattle.model.specs.Bench.{bench, opening}
 
@@ -19,15 +19,6 @@ use Rattle.model.specs.Bench.{bench, opening}
 pub record Ending (m : M) (e : Image) : Type 0 where
   pub conf : e .conf ≡ m .core .conf
   pub lines : (l : Line) → Within (m .core .conf) l → hasNode (imageHas e l) (m .hist l)
-
--- the second list of events is the first with write-backs added after the last start: behind `before` there is no crash
-pub record AddsLate (In : Line → Type 0) (l l′ : List Event) : Type 0 where
-  pub before : List Event
-  pub post : List (Ev Act)
-  pub post′ : List (Ev Act)
-  pub adds : Adds In post post′
-  pub is : l ≡ before ++ map ev post
-  pub is′ : l′ ≡ before ++ map ev post′
 
 -- ---- what is taken: none of 10, 11, 12 refuses the event
 
@@ -55,15 +46,6 @@ pub record Fit (g : Image) : Type 0 where
 -- an image holds nothing beyond its N nodes
 abbrev pub Tidy : Image → Type 0
 Tidy g = (n : ℕ) → g .conf .nodes ≤ n → g .at n .linked ≡ false
-
-abbrev pub SameImage : Image → Image → Type 0
-SameImage a b = (a .conf ≡ b .conf) × ((l : Line) → Within (a .conf) l → imageHas a l ≡ imageHas b l)
-
--- 3a: the endings are the images that added write-backs leave
-abbrev pub Demand3a : Type 0
-Demand3a = (g : Image) → Fit g → Tidy g → (l : List Event) → TakesAll (starts g) l → (e : Image) →
-    Ending (bench (opening g) l .mach) e
-    ↔ ((l′ : List Event) × AddsLate (Within (g .conf)) l l′ × SameImage e (persisted (bench (opening g) l′ .mach)))
 
 -- 3b: every ending recovers to a queue that the operations since the last start may lawfully leave
 abbrev pub Demand3b : Type 0

@@ -8,7 +8,6 @@ pub mod Steps
 pub mod Choice
 pub mod Recovery
 pub mod Machine
-pub mod Events
 pub mod Page
 pub mod Lawful
 pub mod Bench

@@ -40,9 +40,3 @@ after same (flushes l) con h = updL h l (con l ∷ [])
 pub data Ev (E : Type 0) : Type 0 where
   act : E → Ev E
   back : Line → Ev E
-
--- the second list is the first with write-backs added
-pub data Adds {E : Type 0} (In : Line → Type 0) : List (Ev E) → List (Ev E) → Type 0 where
-  same : Adds In [] []
-  keep : {e : Ev E} {l l′ : List (Ev E)} → Adds In l l′ → Adds In (e ∷ l) (e ∷ l′)
-  add : {k : Line} {l l′ : List (Ev E)} → In k → Adds In l l′ → Adds In l (back k ∷ l′)

@@ -1,12 +1,11 @@
 -- A run: event by event the record and the abstract machine take, answer and show the same, up to the first event that is refused.
 use mathlib.Core.Path.{_≡_, refl, sym, ap, ap₂, subst, _∙_}
-use mathlib.Core.Bool.{Bool, true, false, not}
+use mathlib.Core.Bool.{Bool, true, false}
 use mathlib.Core.List.{List, [], _∷_, _++_, map}
 use mathlib.Core.Logic.{_≢_}
-use Prim.Native.Nat.{ℕ, zero, suc, _+_, _<_}
+use Prim.Native.Nat.{ℕ, suc, _+_}
 use native.Mathlib.Omega.{arith}
 use native.Mathlib.Nat.{add-zero}
-use lib.Dec.{eqb}
 use lib.ListN.{length}
 use Rattle.lists.proofs.BoolLaws.{no-way}
 use Rattle.answer.specs.Answers.{told, accepted}
@@ -16,7 +15,7 @@ use Rattle.image.specs.declared.Image.{Image}
 use Rattle.machine.specs.Start.{startOf, startAnswer}
 use Rattle.machine.specs.Retire.{out}
 use Rattle.machine.specs.Range.{inRange}
-use Rattle.machine.specs.Event.{Deed, deedOf, eventAnswer, eventAt, done}
+use Rattle.machine.specs.Event.{deedOf, eventAnswer, eventAt, done}
 use Rattle.machine.specs.declared.Machine.{Machine}
 use Rattle.machine.specs.declared.Event.{Event}
 use Rattle.machine.specs.declared.Out.{Out}
@@ -24,18 +23,17 @@ use Rattle.schedule.specs.Run as schedule
 use Rattle.schedule.specs.Run.{Ran, run, andBefore, turned, begins}
 use Rattle.model.specs.Core.{Ans, nothing, full, worn, empty, item}
 use Rattle.model.specs.Core as core
-use Rattle.model.specs.Machine.{M, answer, answers}
-use Rattle.model.specs.Events.{kindOf, refuse}
+use Rattle.model.specs.Machine.{answer, answers}
 use Rattle.model.specs.Bench.{Bench, turn, bench, opening}
 use Rattle.model.specs.Demand3.{TakesAll}
 use Rattle.model.proofs.Always.Runs.{openKept}
-use Rattle.tied.specs.Shown.{imageShown, Narrow, eventShown, answerOf, rawOf, toldBy}
+use Rattle.tied.specs.Shown.{imageShown, Narrow, eventShown, answerOf}
 use Rattle.tied.proofs.Range.{tied-in-range}
-use Rattle.tied.proofs.Accepted.{Sound, sound-is, shownT, tidy, fit-of}
+use Rattle.tied.proofs.Accepted.{sound-is, shownT, tidy, fit-of}
 use Rattle.tied.proofs.Bench.{BenchT}
 use Rattle.tied.proofs.Past.{pastBegins}
 use Rattle.tied.proofs.Begins.{size-is, startedT, beginsT}
-use Rattle.tied.proofs.Refusals.{refused-same, not-7-8}
+use Rattle.tied.proofs.Refusals.{Late, taken-late, refused-late}
 use Rattle.tied.proofs.Turn.{ranged, takes, turns, turned-size, answers-same}
 
 -- ---- one event of a run
@@ -96,10 +94,10 @@ first-taken q b e l h = by (accepted (eventAnswer q (b .machine) e (deedOf (e .k
 
 -- ---- the run
 
--- Taken where no event is left; else the first of those left is refused, with the number that the abstract machine gives it, at place q
-abbrev pub Stops : M → Answer → ℕ → List Event → Type 0
+-- Taken where no event is left; else the first of those left is refused, at place q
+abbrev pub Stops : Machine → Answer → ℕ → List Event → Type 0
 Stops m a q [] = a ≡ Taken
-Stops m a q (e ∷ l) = (refuse m (kindOf (e .kind)) (rawOf e) ≢ 0) × (told a ≡ toldBy (refuse m (kindOf (e .kind)) (rawOf e)) q)
+Stops m a q (e ∷ l) = a ≡ eventAnswer q m e (deedOf (e .kind))
 
 -- the events that were taken, all of them if none was refused; what they answered; what the benches of n nodes show in the end
 pub record RunT (n q : ℕ) (B : Bench) (l : List Event) (R : Ran) : Type 0 where
@@ -110,7 +108,7 @@ pub record RunT (n q : ℕ) (B : Bench) (l : List Event) (R : Ran) : Type 0 wher
   pub takes : TakesAll (B .mach) (map (eventShown n) taken)
   pub replies : R .replies ≡ map answerOf (answers (B .mach) (map (eventShown n) taken))
   pub ends : BenchT (R .bench) (bench B (map (eventShown n) taken))
-  pub stops : Stops (bench B (map (eventShown n) taken) .mach) (R .answer) (q + length taken) rest
+  pub stops : Stops (R .bench .machine) (R .answer) (q + length taken) rest
 
 pub runT : (l : List Event) (q : ℕ) (b : schedule.Bench) (B : Bench) → BenchT b B → RunT (b .machine .n) q B l (run q b l)
 unfolding run bench answers
@@ -120,10 +118,8 @@ runT (e ∷ l) q b B r = by (accepted (eventAnswer q (b .machine) e (deedOf (e .
     later : (q n : ℕ) → suc q + n ≡ q + suc n
     later q n = omega arith
 
-    stop : accepted (eventAnswer q (b .machine) e (deedOf (e .kind))) ≡ false → Stops (B .mach) (eventAnswer q (b .machine) e (deedOf (e .kind))) (q + 0) (e ∷ l)
-    stop a =
-        let t = refused-same b B r q e in
-        (λ z. no-way (sym (ap (λ w. eqb (w .number) 0) (t ∙ ap (λ n. toldBy n q) z)) ∙ a), t ∙ ap (toldBy (refuse (B .mach) (kindOf (e .kind)) (rawOf e))) (sym (add-zero q)))
+    stop : Stops (b .machine) (eventAnswer q (b .machine) e (deedOf (e .kind))) (q + 0) (e ∷ l)
+    stop = ap (λ q. eventAnswer q (b .machine) e (deedOf (e .kind))) (sym (add-zero q))
 
     by : (x : Bool) → accepted (eventAnswer q (b .machine) e (deedOf (e .kind))) ≡ x
         → ((q : ℕ) (b : schedule.Bench) (B : Bench) → BenchT b B → RunT (b .machine .n) q B l (run q b l)) → RunT (b .machine .n) q B (e ∷ l) (run q b (e ∷ l))
@@ -141,23 +137,21 @@ runT (e ∷ l) q b B r = by (accepted (eventAnswer q (b .machine) e (deedOf (e .
           takes = (takes b B r q e (deedOf (e .kind)) a, s .takes);
           replies = ap₂ (λ x y. x ∷ y) says (s .replies);
           ends = s .ends;
-          stops = subst (λ n. Stops (bench B (map (eventShown (b .machine .n)) (e ∷ s .taken)) .mach) (run (suc q) (turned b (done (b .machine) e (deedOf (e .kind)) .machine) e (deedOf (e .kind))) l .answer) n (s .rest)) (later q (length (s .taken))) (s .stops);
+          stops = subst (λ n. Stops (run (suc q) b′ l .bench .machine) (run (suc q) b′ l .answer) n (s .rest)) (later q (length (s .taken))) (s .stops);
         })
     by false a rec =
         subst (RunT (b .machine .n) q B (e ∷ l)) (sym (run-refused q b e l a))
-        (record { taken = []; rest = e ∷ l; begin = refl; all = λ h. no-way (sym h ∙ a); takes = tt; replies = refl; ends = r; stops = stop a })
+        (record { taken = []; rest = e ∷ l; begin = refl; all = λ h. no-way (sym h ∙ a); takes = tt; replies = refl; ends = r; stops = stop })
 
 -- no run stops with 7 or 8
-told-number : (n q : ℕ) → toldBy n q .number ≡ n
-told-number zero q = refl
-told-number (suc n) q = refl
-
-stop-by : (m : M) (a : Answer) (p : ℕ) (rest : List Event) → Stops m a p rest → (x : ℕ) → 0 < x → x < 9 → told a .number ≢ x
-stop-by m a p [] s x lo hi e = omega (arith, sym (ap (λ a. told a .number) s) ∙ e)
-stop-by m a p (d ∷ l) s x lo hi e = not-7-8 m (kindOf (d .kind)) (rawOf d) x lo hi (sym (told-number _ p) ∙ sym (ap (λ w. w .number) (s .1)) ∙ e)
+stop-by : (b : schedule.Bench) (B : Bench) → BenchT b B → (a : Answer) (p : ℕ) (rest : List Event) → Stops (b .machine) a p rest → Late a
+stop-by b B r a p [] s = subst Late (sym s) taken-late
+stop-by b B r a p (d ∷ l) s = subst Late (sym s) (refused-late b B r p d (deedOf (d .kind)))
 
 pub stop-number : (n q : ℕ) (B : Bench) (l : List Event) (R : Ran) → RunT n q B l R → (told (R .answer) .number ≢ 7) × (told (R .answer) .number ≢ 8)
-stop-number n q B l R r = (stop-by _ _ _ (r .rest) (r .stops) 7 (omega arith) (omega arith), stop-by _ _ _ (r .rest) (r .stops) 8 (omega arith) (omega arith))
+stop-number n q B l R r =
+    let s = stop-by (R .bench) _ (r .ends) (R .answer) _ (r .rest) (r .stops) in
+    (s .late 7 (omega arith) (omega arith), s .late 8 (omega arith) (omega arith))
 
 -- ---- from an accepted start
 

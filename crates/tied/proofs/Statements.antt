@@ -1,9 +1,9 @@
 -- What is proved of every run of the record from an accepted start, whether or not its last event was refused. The proofs are one line each, from the files before.
 use mathlib.Core.Path.{_≡_, refl, sym, ap, subst, _∙_}
-use mathlib.Core.Bool.{Bool, true}
-use mathlib.Core.List.{List, [], _∷_, map}
+use mathlib.Core.Bool.{true}
+use mathlib.Core.List.{List, map}
 use mathlib.Core.Logic.{_≢_}
-use Prim.Native.Nat.{ℕ, suc, _<_}
+use Prim.Native.Nat.{ℕ, _<_}
 use Rattle.answer.specs.Answers.{told, accepted}
 use Rattle.answer.specs.declared.Answer.{Answer}
 use Rattle.image.specs.declared.Image.{Image}
@@ -14,7 +14,7 @@ use Rattle.machine.specs.Start.{startOf, startAnswer}
 use Rattle.machine.specs.Range.{inRange}
 use Rattle.machine.specs.declared.Machine.{Machine}
 use Rattle.machine.specs.declared.Event.{Event}
-use Rattle.schedule.specs.Run.{Ran, Bench, begins, run}
+use Rattle.schedule.specs.Run.{Ran, begins, run}
 use Rattle.page.specs.Contents.{contentsOf}
 use Rattle.model.specs.Recovery as recovery
 use Rattle.model.specs.Machine as machine
@@ -22,7 +22,7 @@ use Rattle.model.specs.Bench as model
 use Rattle.model.specs.Demand3.{Fit, Tidy, TakesAll}
 use Rattle.tied.specs.Shown.{imageShown, Narrow, eventShown, answerOf, lineShown, shownContent}
 use Rattle.tied.specs.Always.{ExactlyOne, AddUp, WasThere}
-use Rattle.tied.proofs.Accepted.{Sound, sound-is, shownT, tidy, fit-of}
+use Rattle.tied.proofs.Accepted.{sound-is, shownT, tidy, fit-of}
 use Rattle.tied.proofs.Images.{ImageT}
 use Rattle.tied.proofs.Bench.{BenchT}
 use Rattle.tied.proofs.Turn.{persistedT}
@@ -78,7 +78,7 @@ module _ (g : Image) (t : ℕ) (a : accepted (startAnswer g t) ≡ true) (w : Na
   run-not-7-8 = stop-number (g .n) q (model.opening G) l R r
 
   pub crash-not-7-8 : (rest : Answer) → startable (persisted m) rest ≡ rest
-  crash-not-7-8 = crash-starts _ _ (r .ends) 0 (record { kind = 5; number = 0; item = 0 })
+  crash-not-7-8 = crash-starts _ _ (r .ends)
 
   -- "At every moment each node is in exactly one place"; "the six numbers add up to N"
   pub run-one-place : (i : ℕ) → i < g .n → ExactlyOne m i

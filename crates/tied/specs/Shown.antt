@@ -5,8 +5,6 @@ use mathlib.Core.Option.{Option, none, some}
 use Prim.Native.Nat.{ℕ, zero, suc, _≤_, _<_}
 use lib.Dec.{eqb, ltb}
 use Rattle.lists.specs.Word.{has}
-use Rattle.answer.specs.Answers.{replied, refusal}
-use Rattle.answer.specs.declared.Told.{Told}
 use Rattle.answer.specs.declared.Answer.{Answer}
 use Rattle.answer.specs.declared.Answer.the-variants.{Taken, Done, Full, WornOut, Item, Empty}
 use Rattle.image.specs.declared.Content.{Content}
@@ -27,7 +25,6 @@ use Rattle.model.specs.Core.{Th, idle, a1, a2, a3, a4, a5, a6, a7, a8, a9, a10,
 use Rattle.model.specs.Recovery as recovery
 use Rattle.model.specs.Machine as machine
 use Rattle.model.specs.Steps.{enq, deq, move}
-use Rattle.model.specs.Events.{Raw}
 
 -- a content: a linked flag is set where it is 1
 abbrev pub shownContent : Content → core.Node
@@ -122,12 +119,3 @@ answerOf (core.item v) = Item v
 pub record Narrow (g : Image) : Type 0 where
   pub head : g .head ≤ top
   pub at : (i : ℕ) → i < g .n → contentAt (g .nodes) i .index ≤ top
-
--- an event as its three numbers
-abbrev pub rawOf : Event → Raw
-rawOf e = record { kind = e .kind; number = e .number; item = e .item }
-
--- number k of the paper's table at place q; 0 is taken
-abbrev pub toldBy : ℕ → ℕ → Told
-toldBy zero q = replied 0 0
-toldBy (suc k) q = refusal (suc k) q
