@@ -1,8 +1,7 @@
 -- Every ending of an accepted run, one content for each line, recovers to a lawful queue; whether or not 14 and 15 allow a page.
 use mathlib.Core.Path.{_≡_, refl, sym, ap, subst, _∙_}
 use mathlib.Core.Bool.{true}
-use mathlib.Core.List.{List, [], _∷_, map}
-use mathlib.Core.Logic.{inl, inr}
+use mathlib.Core.List.{List, [], map}
 use Prim.Native.Nat.{ℕ, zero, suc, _+_, _≤_, _<_}
 use native.Mathlib.Omega.{arith}
 use lib.ListN.{getD}
@@ -31,7 +30,7 @@ use Rattle.model.specs.Conf.{Conf, headLines, Within}
 use Rattle.model.specs.Core as core
 use Rattle.model.specs.Recovery as recovery
 use Rattle.model.specs.Recovery.{imageHas}
-use Rattle.model.specs.Machine.{hasNode}
+use Rattle.model.specs.Machine.{Has}
 use Rattle.model.specs.Lawful as law
 use Rattle.model.specs.Bench.{Bench, bench, opening}
 use Rattle.model.specs.Demand3.{Ending, Fit}
@@ -40,7 +39,7 @@ use Rattle.model.proofs.Demand3.ThreeB.{demand3b}
 use Rattle.tied.specs.Shown.{shownContent, lineShown, confOf, imageShown, Narrow, eventShown}
 use Rattle.tied.specs.Always.{Among}
 use Rattle.tied.proofs.Images.{ImageT}
-use Rattle.tied.proofs.Contents.{Small, Flags}
+use Rattle.tied.proofs.Contents.{Small}
 use Rattle.tied.proofs.Bench.{BenchT}
 use Rattle.tied.proofs.Statements.{fits, tidies, run-threads, run-takes, run-ends}
 use Rattle.lawproof.proofs.Queues.{starts-accepted, queue-shown}
@@ -50,18 +49,6 @@ use Rattle.lawproof.proofs.Books.{startBook}
 -- c takes for each of the bench's lines one of its contents
 abbrev pub Chosen : schedule.Bench → List Content → Type 0
 Chosen b c = (k : memory.Line) → LineIn (b .machine .n) k → Among (contentAt c (numberOf (b .machine .n) k)) (contentsOf b k)
-
--- ---- contents
-
-among-shown : (l : List Content) (c : Content) → Among c l → hasNode (shownContent c) (map shownContent l)
-among-shown [] c h = h
-among-shown (d ∷ l) c (inl e) = inl (ap shownContent e)
-among-shown (d ∷ l) c (inr h) = inr (among-shown l c h)
-
-among-small : (l : List Content) (c : Content) → Flags l → Among c l → Small c
-among-small [] c f h = absurd h
-among-small (d ∷ l) c f (inl e) = subst Small (sym e) (f .0)
-among-small (d ∷ l) c f (inr h) = among-small l c (f .1) h
 
 -- ---- an image chosen from the contents of a bench
 
@@ -93,10 +80,10 @@ module _ (b : schedule.Bench) (B : Bench) (r : BenchT b B) (c : List Content) (p
   at k = contentAt c (numberOf (m .n) k)
 
   small : (k : memory.Line) → LineIn (m .n) k → Small (at k)
-  small k h = among-small (contentsOf b k) (at k) (r .lists .flags k h) (pick k h)
+  small k h = r .lists .lists k h (at k) (pick k h) .0
 
-  there : (k : memory.Line) → LineIn (m .n) k → hasNode (shownContent (at k)) (B .mach .hist (lineShown k))
-  there k h = subst (hasNode (shownContent (at k))) (sym (r .lists .lists k h)) (among-shown (contentsOf b k) (at k) (pick k h))
+  there : (k : memory.Line) → LineIn (m .n) k → Has (B .mach) (lineShown k) (shownContent (at k))
+  there k h = r .lists .lists k h (at k) (pick k h) .1
 
   E-at : (i : ℕ) → i < m .n → E .at i ≡ shownContent (contentAt (e .nodes) i)
   unfolding imageShown imageOf
@@ -125,18 +112,18 @@ module _ (b : schedule.Bench) (B : Bench) (r : BenchT b B) (c : List Content) (p
   }
 
   -- an ending of the abstract machine
-  pub is-ending : Ending (B .mach) E
+  pub is-ending : Ending (Has (B .mach)) (B .mach .core .conf) E
   is-ending = record { conf = E-conf ∙ sym (r .tied .conf); lines = has }
     where
-      has : (l : Line) → Within (B .mach .core .conf) l → hasNode (imageHas E l) (B .mach .hist l)
+      has : (l : Line) → Within (B .mach .core .conf) l → Has (B .mach) l (imageHas E l)
       has (ofHead zero) h =
           let hn = there (memory.ofHead 0) (omega (arith, one-head (m .n))) in
-          subst (λ x. hasNode x (B .mach .hist (ofHead 0)))
+          subst (Has (B .mach) (ofHead 0))
           (r .kept .all .pinv .head .plain 0 h (shownContent (contentAt c 0)) hn ∙ ap core.hd (sym (E-head ∙ e-head))) hn
       has (ofHead (suc k)) h = let z : suc k < 1 = subst (λ (c : Conf). suc k < headLines c) (r .tied .conf) h in absurd (omega arith)
       has (ofNode i) h =
           let hi : i < m .n = subst (λ (c : Conf). i < c .nodes) (r .tied .conf) h in
-          subst (λ x. hasNode x (B .mach .hist (ofNode i))) (sym (E-at i hi ∙ ap shownContent (e-at i hi))) (there (memory.ofNode i) hi)
+          subst (Has (B .mach) (ofNode i)) (sym (E-at i hi ∙ ap shownContent (e-at i hi))) (there (memory.ofNode i) hi)
 
 -- ---- every ending of an accepted run
 

@@ -1,6 +1,7 @@
 -- What is proved of the abstract machine. The lawful half of demand 3 is in Demand3, what is so after every event in Always.
 pub mod Basics
 pub mod Lines
+pub mod Times
 pub mod Words
 pub mod Queue
 pub mod Layer1

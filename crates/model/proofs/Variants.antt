@@ -3,14 +3,14 @@ use mathlib.Core.Path.{_≡_, refl}
 use mathlib.Core.List.{List, [], _∷_}
 use Prim.Native.Nat.{ℕ, zero, suc}
 use Rattle.model.specs.Basics.{upd}
-use Rattle.model.specs.Lines.{updL, push, headOr, act}
+use Rattle.model.specs.Lines.{updL, act}
 use Rattle.model.specs.Conf.{Engine, Chooser, shared, split}
 use Rattle.model.specs.Core.{a2}
 use Rattle.model.specs.Steps.{enq, deq, move, remove, others}
 use Rattle.model.specs.Choice.{lowest, lowestFirst, rotation, roundTable}
 use Rattle.model.specs.Recovery.{headOf, largest, insert, queueOf, itemsOf, linkUp, lastOf, start′}
 use Rattle.model.specs.Machine.{M, Event, ev, starts, run}
-use Rattle.model.specs.Page.{zeroImage, headImage, page, printed, endings, choice, spread, linesOf, rowFrom, each}
+use Rattle.model.specs.Page.{zeroImage, headImage, page, printed, endings, choice, spread, contentsOf, pushAll, push, linesOf, rowFrom, each}
 
 unfoldable moves : ℕ → ℕ → List Event → List Event
 moves zero t l = l
@@ -47,8 +47,8 @@ split-pages : pageOf putting 2 1 ∷ pageOf (taking 3) 2 1 ∷ pageOf (taking 5)
     ∷ ((1, []) ∷ [])
     ∷ ((2, []) ∷ [])
     ∷ []
-unfolding pageOf putting taking both table moves run start′ zeroImage headImage upd updL push headOr remove others lowest lowestFirst headOf largest
-    insert queueOf itemsOf linkUp lastOf page printed endings choice spread linesOf rowFrom each
+unfolding pageOf putting taking both table moves run start′ zeroImage headImage upd updL remove others lowest lowestFirst headOf largest
+    insert queueOf itemsOf linkUp lastOf page printed endings choice spread contentsOf pushAll push linesOf rowFrom each
 split-pages = refl
 
 -- ---- in rotation node 3 is handed out where the lowest free one is node 0
@@ -59,6 +59,6 @@ again = ev (act (enq 0 5)) ∷ moves 11 0 (ev (act (deq 0)) ∷ moves 6 0
     (ev (act (enq 0 6)) ∷ moves 11 0 (ev (act (deq 0)) ∷ moves 6 0 (ev (act (enq 0 7)) ∷ moves 1 0 []))))
 
 handed-out : table shared lowestFirst again 4 1 .core .thr 0 ∷ table shared rotation again 4 1 .core .thr 0 ∷ [] ≡ a2 7 0 ∷ a2 7 3 ∷ []
-unfolding table again moves run start′ zeroImage headImage upd updL push headOr remove others lowest lowestFirst rotation roundTable headOf largest
+unfolding table again moves run start′ zeroImage headImage upd updL remove others lowest lowestFirst rotation roundTable headOf largest
     insert queueOf linkUp lastOf
 handed-out = refl

@@ -5,20 +5,20 @@ use mathlib.Core.List.{List, [], _∷_}
 use mathlib.Core.Logic.{_≢_}
 use Prim.Native.Nat.{ℕ, _≤_, _<_}
 use Rattle.model.specs.Lines.{Line, act, back}
-use Rattle.model.specs.Conf.{headLines, Within}
-use Rattle.model.specs.Core.{Core, busy}
+use Rattle.model.specs.Conf.{Conf, headLines, Within}
+use Rattle.model.specs.Core.{Core, Node, busy}
 use Rattle.model.specs.Steps.{Act, enq, deq, move}
 use Rattle.model.specs.Recovery.{Image, imageHas, headOf, recovered, itemsOf}
-use Rattle.model.specs.Machine.{M, Event, ev, crash, event, starts, hasNode}
+use Rattle.model.specs.Machine.{M, Event, ev, crash, event, starts, Has}
 use Rattle.model.specs.Lawful.{Lawful}
 use Rattle.model.specs.Bench.{bench, opening}
 
 -- ---- endings
 
--- an ending: for each line one of its contents
-pub record Ending (m : M) (e : Image) : Type 0 where
-  pub conf : e .conf ≡ m .core .conf
-  pub lines : (l : Line) → Within (m .core .conf) l → hasNode (imageHas e l) (m .hist l)
+-- an ending: for each line one of its contents, where hs says what these are
+pub record Ending (hs : Line → Node → Type 0) (c : Conf) (e : Image) : Type 0 where
+  pub conf : e .conf ≡ c
+  pub lines : (l : Line) → Within c l → hs l (imageHas e l)
 
 -- ---- what is taken: none of 10, 11, 12 refuses the event
 
@@ -51,4 +51,4 @@ Tidy g = (n : ℕ) → g .conf .nodes ≤ n → g .at n .linked ≡ false
 abbrev pub Demand3b : Type 0
 Demand3b = (g : Image) → Fit g → Tidy g → (l : List Event) → TakesAll (starts g) l → (e : Image) →
     let b = bench (opening g) l in
-    Ending (b .mach) e → Fit e × Lawful (b .book .op) (b .book .count) (b .first) (itemsOf e)
+    Ending (Has (b .mach)) (b .mach .core .conf) e → Fit e × Lawful (b .book .op) (b .book .count) (b .first) (itemsOf e)

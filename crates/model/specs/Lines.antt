@@ -1,6 +1,4 @@
--- Lines of memory: what an event does to them, their lists of contents, write-backs.
-use mathlib.Core.Bool.{Bool, true, false}
-use mathlib.Core.List.{List, [], _∷_}
+-- Lines of memory: what an event does to them, from which time on their contents count, write-backs.
 use Prim.Native.Nat.{ℕ}
 use Rattle.model.specs.Basics.{upd}
 
@@ -21,20 +19,11 @@ pub data Touch : Type 0 where
   nowhere : Touch
   stores flushes : (l : Line) → Touch
 
--- a content joins the end of a line's list, unless it is there: equal contents count once, at the first appearance
-unfoldable pub push {ℓ} : {A : Type ℓ} → (A → A → Bool) → List A → A → List A
-push same [] c = c ∷ []
-push same (b ∷ l) c = elim (same b c) [ true ↦ b ∷ l | false ↦ b ∷ push same l c ]
-
-unfoldable pub headOr : {A : Type 0} → List A → A → A
-headOr [] a = a
-headOr (x ∷ l) a = x
-
--- the lists of contents after an event; con is what the lines hold after it. A persist leaves the present content alone
-abbrev pub after : {C : Type 0} → (C → C → Bool) → Touch → (Line → C) → (Line → List C) → Line → List C
-after same nowhere con h = h
-after same (stores l) con h = updL h l (push same (h l) (con l))
-after same (flushes l) con h = updL h l (con l ∷ [])
+-- the times from which the contents of each line count, after an event at time k: that of the line persisted is k
+abbrev pub fromAfter : Touch → ℕ → (Line → ℕ) → Line → ℕ
+fromAfter nowhere k f = f
+fromAfter (stores l) k f = f
+fromAfter (flushes l) k f = updL f l k
 
 -- an act of the threads, or a write-back of a line
 pub data Ev (E : Type 0) : Type 0 where

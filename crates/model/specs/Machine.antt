@@ -1,35 +1,39 @@
--- The machine: the core, and for each line the list of its contents since it was last persisted; events and runs.
+-- The machine: the core, and what each line has held at each time since the last start; events and runs.
 use mathlib.Core.Path.{_≡_}
 use mathlib.Core.List.{List, [], _∷_}
-use mathlib.Core.Logic.{_⊎_}
-use Rattle.model.specs.Lines.{Line, ofHead, ofNode, updL, push, headOr, after, Ev, act, back}
-use Rattle.model.specs.Core.{Core, Node, Ans, nothing, content, sameNode, zeroNode}
+use Prim.Native.Nat.{ℕ, suc, _≤_}
+use lib.Dec.{eqb}
+use Rattle.model.specs.Basics.{sel, upd}
+use Rattle.model.specs.Lines.{Line, ofHead, ofNode, Touch, flushes, fromAfter, Ev, act, back}
+use Rattle.model.specs.Core.{Core, Node, Ans, nothing, content}
 use Rattle.model.specs.Steps.{Act, does}
 use Rattle.model.specs.Recovery.{Image, imageHas, start}
 
--- for each line: its persisted content, then each cached one since, the present one included
-abbrev pub Hist : Type 0
-Hist = Line → List Node
-
--- c is among the contents
-abbrev pub hasNode : Node → List Node → Type 0
-hasNode c [] = ⊥
-hasNode c (d ∷ l) = (c ≡ d) ⊎ hasNode c l
-
+-- past: the content of each line at each time. Time 0 is what was persisted at the last start, time 1 the content at its end; each event since
+-- is one time more. from: the time from which a line's contents count, that of what is persisted; now: the present time
 pub record M : Type 0 where
   pub core : Core
-  pub hist : Hist
+  pub past : Line → ℕ → Node
+  pub from : Line → ℕ
+  pub now : ℕ
+
+-- c is a content of line l: what is persisted, or a cached content since, the present one included
+pub record Has (m : M) (l : Line) (c : Node) : Type 0 where
+  pub time : ℕ
+  pub since : m .from l ≤ time
+  pub until : time ≤ m .now
+  pub is : c ≡ m .past l time
 
 -- a start counts as one moment: what was persisted, then the content at its end
 abbrev pub starts : Image → M
-starts g = record { core = start g; hist = λ l. push sameNode (imageHas g l ∷ []) (content (start g) l) }
+starts g = record { core = start g; past = λ l k. sel (eqb k 0) (imageHas g l) (content (start g) l); from = λ l. 0; now = 1 }
 
--- the persisted copies: the first of each list
+-- the persisted copies: of each line the first content
 abbrev pub persisted : M → Image
 persisted m = record {
   conf = m .core .conf;
-  heads = λ k. headOr (m .hist (ofHead k)) zeroNode .index;
-  at = λ n. headOr (m .hist (ofNode n)) zeroNode;
+  heads = λ k. m .past (ofHead k) (m .from (ofHead k)) .index;
+  at = λ n. m .past (ofNode n) (m .from (ofNode n));
 }
 
 -- an act, a write-back, a crash followed by recovery
@@ -37,12 +41,18 @@ pub data Event : Type 0 where
   ev : (e : Ev Act) → Event
   crash : Event
 
-abbrev pub goEv : M → Ev Act → M
-goEv m (act a) = record {
-  core = does (m .core) a .core;
-  hist = after sameNode (does (m .core) a .touch) (content (does (m .core) a .core)) (m .hist);
+-- one time more: the core is c, and k is what was done to the lines
+abbrev pub goesOn : M → Core → Touch → M
+goesOn m c k = record {
+  core = c;
+  past = λ l. upd (m .past l) (suc (m .now)) (content c l);
+  from = fromAfter k (suc (m .now)) (m .from);
+  now = suc (m .now);
 }
-goEv m (back l) = record { core = m .core; hist = updL (m .hist) l (content (m .core) l ∷ []) }
+
+abbrev pub goEv : M → Ev Act → M
+goEv m (act a) = goesOn m (does (m .core) a .core) (does (m .core) a .touch)
+goEv m (back l) = goesOn m (m .core) (flushes l)
 
 abbrev pub event : M → Event → M
 event m (ev e) = goEv m e

@@ -1,27 +1,30 @@
 -- A start: the benches after it show the same, and their lists of contents are those of one moment.
 use mathlib.Core.Path.{_≡_, refl, sym, ap, subst, _∙_}
-use mathlib.Core.List.{List, [], _∷_, map}
-use Prim.Native.Nat.{ℕ, zero, suc, _≤_, _<_}
+use mathlib.Core.List.{[], _∷_}
+use mathlib.Core.Logic.{_⊎_, inl, inr}
+use Prim.Native.Nat.{ℕ, zero, suc, _<_}
 use native.Mathlib.Omega.{arith}
+use Rattle.image.specs.declared.Content.{Content}
 use Rattle.image.specs.declared.Image.{Image}
 use Rattle.image.specs.Recovered.{dummyOf}
 use Rattle.machine.specs.Line as memory
 use Rattle.machine.specs.Line.{cachedAt, persistedAt}
-use Rattle.machine.specs.Start.{startWith, startOf, queueOf}
+use Rattle.machine.specs.Start.{startWith, startOf}
 use Rattle.machine.specs.declared.Machine.{Machine}
 use Rattle.machine.proofs.LineLaws.{LineIn, one-head}
 use Rattle.schedule.specs.Run.{begins}
 use Rattle.page.specs.Contents.{joins, gathered, contentsOf}
-use Rattle.model.specs.Lines.{push}
-use Rattle.model.specs.Core.{content, hd, sameNode}
+use Rattle.model.specs.Core.{hd}
 use Rattle.model.specs.Recovery as recovery
 use Rattle.model.specs.Recovery.{imageHas, start}
-use Rattle.model.specs.Machine.{starts}
+use Rattle.model.specs.Machine.{Has, starts}
+use Rattle.model.proofs.Times.{startHere}
+use Rattle.tied.specs.Always.{Among}
 use Rattle.tied.specs.Shown.{shownContent, lineShown}
 use Rattle.tied.proofs.Relation.{Tied}
 use Rattle.tied.proofs.Images.{ImageT}
 use Rattle.tied.proofs.Start.{imageLine, startT}
-use Rattle.tied.proofs.Contents.{Flags, joins-flags, joins-shown}
+use Rattle.tied.proofs.Contents.{Small, joins-old}
 use Rattle.tied.proofs.Bench.{shown-cached, cached-flag, kept-is, kept-flag, own-kept, ListsT}
 
 pub size-is : (g : Image) (t : ℕ) → startOf g t .n ≡ g .n
@@ -48,14 +51,20 @@ module _ (g : Image) (t : ℕ) (G : recovery.Image) (r : ImageT g t G) (dm : dum
   line-is (memory.ofHead (suc k)) h = absurd (omega (arith, one-head (g .n)))
   line-is (memory.ofNode i) h = r .at i h
 
-  pub beginsT : ListsT (begins (startOf g t)) (starts G .hist)
+  pub beginsT : ListsT (begins (startOf g t)) (starts G)
   beginsT = record {
-    lists = λ l h.
-        let h′ : LineIn (g .n) l = subst (λ n. LineIn n l) (size-is g t) h in
-        ap (λ z. push sameNode (z ∷ []) (content (start G) (lineShown l))) (line-is l h′ ∙ ap shownContent (sym (kept-is _ _ _ d l h)))
-        ∙ ap (push sameNode (shownContent (persistedAt (startOf g t) l) ∷ [])) (shown-cached _ _ _ d l h)
-        ∙ sym (joins-shown (persistedAt (startOf g t) l ∷ []) (cachedAt (startOf g t) l) (kept-flag _ _ _ d l h, tt) (cached-flag _ _ _ d l h))
-        ∙ ap (map shownContent) (sym (one-moment (startOf g t) l));
-    flags = λ l h. subst Flags (sym (one-moment (startOf g t) l)) (joins-flags (persistedAt (startOf g t) l ∷ []) (cachedAt (startOf g t) l) (kept-flag _ _ _ d l h, tt) (cached-flag _ _ _ d l h));
+    lists = λ l h a z. by l h a (joins-old (persistedAt (startOf g t) l ∷ []) (cachedAt (startOf g t) l) a (subst (Among a) (one-moment (startOf g t) l) z));
+    kept = same;
     early = λ l. omega arith;
   }
+    where
+      same : (l : memory.Line) → LineIn (startOf g t .n) l → imageHas G (lineShown l) ≡ shownContent (persistedAt (startOf g t) l)
+      same l h = line-is l (subst (λ n. LineIn n l) (size-is g t) h) ∙ ap shownContent (sym (kept-is _ _ _ d l h))
+
+      by : (l : memory.Line) → LineIn (startOf g t .n) l → (a : Content) → Among a (persistedAt (startOf g t) l ∷ []) ⊎ (a ≡ cachedAt (startOf g t) l)
+          → Small a × Has (starts G) (lineShown l) (shownContent a)
+      by l h a (inl (inl e)) = subst (λ a. Small a × Has (starts G) (lineShown l) (shownContent a)) (sym e)
+          (kept-flag _ _ _ d l h, record { time = 0; since = omega arith; until = omega arith; is = sym (same l h) })
+      by l h a (inl (inr z)) = absurd z
+      by l h a (inr e) = subst (λ a. Small a × Has (starts G) (lineShown l) (shownContent a)) (sym e)
+          (cached-flag _ _ _ d l h, subst (Has (starts G) (lineShown l)) (shown-cached _ _ _ d l h) (startHere G (lineShown l)))

@@ -1,9 +1,8 @@
 -- A bench of the code and one of the abstract machine that show the same, the lists of contents included.
 use mathlib.Core.Path.{_≡_, refl, sym, ap, subst, _∙_}
-use mathlib.Core.Bool.{Bool, true, false}
-use mathlib.Core.List.{List, [], _∷_, _++_, map, map-append}
+use mathlib.Core.List.{[], _∷_, _++_, map, map-append}
 use mathlib.Core.Logic.{_≢_, _⊎_, inl, inr}
-use Prim.Native.Nat.{ℕ, zero, suc, _+_, _≤_, _<_}
+use Prim.Native.Nat.{ℕ, zero, suc, _≤_, _<_}
 use native.Mathlib.Omega.{arith}
 use lib.ListN.{length, drop, length-append}
 use lib.Seq.{drop-append-seam, drop-append-le}
@@ -15,22 +14,26 @@ use Rattle.machine.specs.declared.Machine.{Machine}
 use Rattle.machine.proofs.LineLaws as lines
 use Rattle.machine.proofs.LineLaws.{LineIn}
 use Rattle.schedule.specs.Run as run
-use Rattle.schedule.specs.Run.{Touched, noLine, aLine, begins, fromAfter, goesOn}
+use Rattle.schedule.specs.Run.{Touched, noLine, aLine, fromAfter, goesOn}
 use Rattle.page.specs.Contents.{joins, gathered, contentsOf}
-use Rattle.model.specs.Lines.{Line, ofHead, ofNode, updL, Touch, nowhere, stores, flushes, push, after}
-use Rattle.model.specs.Conf.{lineIx, headLines}
+use Rattle.model.specs.Lines as times
+use Rattle.model.specs.Lines.{Line, Touch, nowhere, stores, flushes}
+use Rattle.model.specs.Conf.{lineIx}
 use Rattle.model.specs.Core as core
-use Rattle.model.specs.Core.{Core, content, hd, sameNode}
-use Rattle.model.specs.Machine.{Hist, hasNode}
+use Rattle.model.specs.Core.{Core, content, hd}
+use Rattle.model.specs.Machine as model
+use Rattle.model.specs.Machine.{M, Has}
 use Rattle.model.specs.Bench.{Bench}
-use Rattle.model.proofs.Lines.{no-line, line-eq, updL-at, updL-other}
+use Rattle.model.proofs.Lines.{no-line, updL-other}
+use Rattle.model.proofs.Times.{Timed, onHere, onOld, first-stays, first-new}
 use Rattle.model.proofs.Always.Runs.{Kept}
+use Rattle.tied.specs.Always.{Among}
 use Rattle.tied.specs.Shown.{shownContent, lineShown}
 use Rattle.tied.proofs.Relation.{Tied}
 use Rattle.tied.proofs.Changes.{count-n}
 use Rattle.tied.proofs.Stepping.{keeps, Touches}
 use Rattle.tied.proofs.Past.{PastT, pastOn}
-use Rattle.tied.proofs.Contents.{gathered-snoc, Small, Flags, joins-flags, joins-shown, push-there}
+use Rattle.tied.proofs.Contents.{gathered-snoc, Small, joins-old}
 
 -- ---- a line of the record and of the core
 
@@ -102,128 +105,101 @@ contents-new b m l =
 
 -- ---- the benches
 
--- lists of contents and the moments from which they count
-pub record ListsT (b : run.Bench) (hs : Hist) : Type 0 where
-  pub lists : (l : memory.Line) → LineIn (b .machine .n) l → hs (lineShown l) ≡ map shownContent (contentsOf b l)
-  pub flags : (l : memory.Line) → LineIn (b .machine .n) l → Flags (contentsOf b l)
+-- each content of a line is one of the abstract machine's, what is persisted is the same; and the moments from which they count
+pub record ListsT (b : run.Bench) (B : M) : Type 0 where
+  pub lists : (l : memory.Line) → LineIn (b .machine .n) l → (a : Content) → Among a (contentsOf b l) → Small a × Has B (lineShown l) (shownContent a)
+  pub kept : (l : memory.Line) → LineIn (b .machine .n) l → B .past (lineShown l) (B .from (lineShown l)) ≡ shownContent (persistedAt (b .machine) l)
   pub early : (l : memory.Line) → b .from l ≤ length (b .past)
 
 pub record BenchT (b : run.Bench) (B : Bench) : Type 0 where
   pub kept : Kept B
   pub tied : Tied (persistedAt (b .machine)) (b .machine) (B .mach .core)
-  pub lists : ListsT b (B .mach .hist)
+  pub lists : ListsT b (B .mach)
   pub past : PastT b
 
--- the present content of a line is among its contents
-pub present : (b : run.Bench) (B : Bench) → BenchT b B → (l : memory.Line) → LineIn (b .machine .n) l → hasNode (content (B .mach .core) (lineShown l)) (B .mach .hist (lineShown l))
-present b B r (memory.ofHead k) h = r .kept .all .pinv .head .present k (subst (λ c. k < headLines c) (sym (r .tied .conf)) (omega (arith, lines.one-head (b .machine .n))))
-present b B r (memory.ofNode i) h = r .kept .all .pinv .nodes .cached i
-
-module _ (b : run.Bench) (c c′ : Core) (hs : Hist) (m′ : Machine) (w : Touched) (k : Touch) (r : ListsT b hs)
-    (d : Tied (persistedAt (b .machine)) (b .machine) c) (d′ : Tied (keeps w (b .machine) (persistedAt (b .machine))) m′ c′)
-    (there : (l : memory.Line) → LineIn (b .machine .n) l → hasNode (content c (lineShown l)) (hs (lineShown l)))
-    (shape : c′ .conf ≡ c .conf) (frame : (l : Line) → k ≢ stores l → content c′ l ≡ content c l) (t : Touches w k) where
+module _ (b : run.Bench) (B : M) (c′ : Core) (m′ : Machine) (w : Touched) (k : Touch) (r : ListsT b B) (i : Timed B)
+    (d : Tied (persistedAt (b .machine)) (b .machine) (B .core)) (d′ : Tied (keeps w (b .machine) (persistedAt (b .machine))) m′ c′)
+    (shape : c′ .conf ≡ B .core .conf) (frame : (l : Line) → k ≢ stores l → content c′ l ≡ content (B .core) l) (t : Touches w k) where
   same-n : m′ .n ≡ b .machine .n
-  same-n = sym (count-n _ m′ c′ d′) ∙ ap (λ z. z .nodes) shape ∙ count-n _ (b .machine) c d
+  same-n = sym (count-n _ m′ c′ d′) ∙ ap (λ z. z .nodes) shape ∙ count-n _ (b .machine) (B .core) d
 
-  -- a line that is not touched
-  quiet : (l : memory.Line) → LineIn (b .machine .n) l → k ≢ stores (lineShown l) → hs (lineShown l) ≡ push sameNode (hs (lineShown l)) (content c′ (lineShown l))
-  quiet l h ne = sym (push-there (hs (lineShown l)) (content c′ (lineShown l)) (subst (λ z. hasNode z (hs (lineShown l))) (sym (frame (lineShown l) ne)) (there l h)))
+  -- what is to be shown of a line
+  abbrev Line-at : memory.Line → Type 0
+  Line-at l = ((a : Content) → Among a (contentsOf (goesOn b m′ w) l) → Small a × Has (model.goesOn B c′ k) (lineShown l) (shownContent a))
+      × (model.goesOn B c′ k .past (lineShown l) (model.goesOn B c′ k .from (lineShown l)) ≡ shownContent (persistedAt m′ l))
 
-  -- a line whose list goes on
-  grows : (l : memory.Line) → LineIn (b .machine .n) l → contentsOf (goesOn b m′ w) l ≡ joins (contentsOf b l) (cachedAt m′ l)
-      → push sameNode (hs (lineShown l)) (content c′ (lineShown l)) ≡ map shownContent (contentsOf (goesOn b m′ w) l)
-  grows l h e =
-      let h′ : LineIn (m′ .n) l = subst (λ n. LineIn n l) (sym same-n) h in
-      ap (λ z. push sameNode z (content c′ (lineShown l))) (r .lists l h)
-      ∙ ap (push sameNode (map shownContent (contentsOf b l))) (shown-cached _ m′ c′ d′ l h′)
-      ∙ sym (joins-shown (contentsOf b l) (cachedAt m′ l) (r .flags l h) (cached-flag _ m′ c′ d′ l h′))
-      ∙ ap (map shownContent) (sym e)
+  in-new : (l : memory.Line) → LineIn (b .machine .n) l → LineIn (m′ .n) l
+  in-new l h = subst (λ n. LineIn n l) (sym same-n) h
 
-  -- nothing is persisted
-  module _ (now : w ≡ noLine) where
-    on : (l : memory.Line) → LineIn (b .machine .n) l → contentsOf (goesOn b m′ w) l ≡ joins (contentsOf b l) (cachedAt m′ l)
-    on l h = contents-more b m′ w l (ap (λ w. fromAfter w (length (b .past)) (b .from) l) now) (r .early l)
-        (kept-is _ m′ c′ d′ l (subst (λ n. LineIn n l) (sym same-n) h) ∙ ap (λ w. keeps w (b .machine) (persistedAt (b .machine)) l) now)
+  present : (l : memory.Line) → LineIn (b .machine .n) l → Has (model.goesOn B c′ k) (lineShown l) (shownContent (cachedAt m′ l))
+  present l h = subst (Has (model.goesOn B c′ k) (lineShown l)) (shown-cached _ m′ c′ d′ l (in-new l h)) (onHere B c′ k i (lineShown l))
 
-  -- line j is persisted
-  module _ (j : memory.Line) (now : w ≡ aLine j) (k-is : k ≡ flushes (lineShown j)) where
-    still : (l : Line) → content c′ l ≡ content c l
-    still l = frame l (λ e. let z = sym k-is ∙ e in let y : _≡_ {A = ℕ} 0 1 = cc in omega arith)
-
-    other : (l : memory.Line) → LineIn (b .machine .n) l → l ≢ j → contentsOf (goesOn b m′ w) l ≡ joins (contentsOf b l) (cachedAt m′ l)
-    other l h ne = contents-more b m′ w l (ap (λ w. fromAfter w (length (b .past)) (b .from) l) now ∙ lines.put-other (b .from) j (length (b .past)) l ne) (r .early l)
-        (kept-is _ m′ c′ d′ l (subst (λ n. LineIn n l) (sym same-n) h) ∙ ap (λ w. keeps w (b .machine) (persistedAt (b .machine)) l) now ∙ lines.put-other (persistedAt (b .machine)) j (cachedAt (b .machine) j) l ne)
-
-    here : LineIn (b .machine .n) j → contentsOf (goesOn b m′ w) j ≡ joins (persistedAt m′ j ∷ []) (cachedAt m′ j)
-    here h = ap (λ w. contentsOf (goesOn b m′ w) j) now ∙ contents-new b m′ j
-
-    -- what is persisted is what is cached
-    both-same : (h : LineIn (b .machine .n) j) → shownContent (persistedAt m′ j) ≡ content c′ (lineShown j)
-    both-same h =
-        ap shownContent (kept-is _ m′ c′ d′ j (subst (λ n. LineIn n j) (sym same-n) h) ∙ ap (λ w. keeps w (b .machine) (persistedAt (b .machine)) j) now ∙ lines.put-same (persistedAt (b .machine)) j (cachedAt (b .machine) j))
-        ∙ sym (shown-cached _ (b .machine) c d j h) ∙ sym (still (lineShown j))
-
-    one : LineIn (b .machine .n) j → content c′ (lineShown j) ∷ [] ≡ map shownContent (contentsOf (goesOn b m′ w) j)
-    one h =
-        let h′ : LineIn (m′ .n) j = subst (λ n. LineIn n j) (sym same-n) h in
-        ap (λ z. z ∷ []) (sym (both-same h))
-        ∙ sym (push-there (shownContent (persistedAt m′ j) ∷ []) (content c′ (lineShown j)) (inl (sym (both-same h))))
-        ∙ ap (push sameNode (shownContent (persistedAt m′ j) ∷ [])) (shown-cached _ m′ c′ d′ j h′)
-        ∙ sym (joins-shown (persistedAt m′ j ∷ []) (cachedAt m′ j) (kept-flag _ m′ c′ d′ j h′, tt) (cached-flag _ m′ c′ d′ j h′))
-        ∙ ap (map shownContent) (sym (here h))
-
-  abbrev After : Touch → Line → List core.Node
-  After k = after sameNode k (content c′) hs
-
-  lists-by : (w₀ : Touched) (k₀ : Touch) → w ≡ w₀ → k ≡ k₀ → Touches w₀ k₀ → (l : memory.Line) → LineIn (b .machine .n) l → After k₀ (lineShown l) ≡ map shownContent (contentsOf (goesOn b m′ w) l)
-  lists-by noLine nowhere ew ek t l h = quiet l h (λ e. let z = sym ek ∙ e in let y : _≡_ {A = ℕ} 0 1 = cc in omega arith) ∙ grows l h (on ew l h)
-  lists-by noLine (stores L) ew ek t l h = by (line-eq (lineShown l) L)
+  -- a line that is not persisted
+  grows : (l : memory.Line) → LineIn (b .machine .n) l → fromAfter w (length (b .past)) (b .from) l ≡ b .from l
+      → keeps w (b .machine) (persistedAt (b .machine)) l ≡ persistedAt (b .machine) l → times.fromAfter k (suc (B .now)) (B .from) (lineShown l) ≡ B .from (lineShown l)
+      → Line-at l
+  grows l h fr kp fm = (
+    λ a z. by a (joins-old (contentsOf b l) (cachedAt m′ l) a (subst (Among a) (contents-more b m′ w l fr (r .early l) same) z)),
+    first-stays B c′ i k (lineShown l) fm ∙ r .kept l h ∙ ap shownContent (sym same),
+  )
     where
-      by : Dec (lineShown l ≡ L) → updL hs L (push sameNode (hs L) (content c′ L)) (lineShown l) ≡ map shownContent (contentsOf (goesOn b m′ w) l)
-      by (yes e) = updL-at hs L (push sameNode (hs L) (content c′ L)) e ∙ ap (λ y. push sameNode (hs y) (content c′ y)) (sym e) ∙ grows l h (on ew l h)
-      by (no ne) = updL-other hs L (push sameNode (hs L) (content c′ L)) ne
-          ∙ quiet l h (λ e. let z = sym ek ∙ e in let y : L ≡ lineShown l = cc in ne (sym y)) ∙ grows l h (on ew l h)
-  lists-by noLine (flushes L) ew ek t l h = absurd t
-  lists-by (aLine j) nowhere ew ek t l h = absurd t
-  lists-by (aLine j) (stores L) ew ek t l h = absurd t
-  lists-by (aLine j) (flushes L) ew ek t l h = by (lines.line-eq l j)
+      same : persistedAt m′ l ≡ persistedAt (b .machine) l
+      same = kept-is _ m′ c′ d′ l (in-new l h) ∙ kp
+
+      by : (a : Content) → Among a (contentsOf b l) ⊎ (a ≡ cachedAt m′ l) → Small a × Has (model.goesOn B c′ k) (lineShown l) (shownContent a)
+      by a (inl z) = let o = r .lists l h a z in (o .0, onOld B c′ k (lineShown l) (shownContent a) fm (o .1))
+      by a (inr e) = subst (λ a. Small a × Has (model.goesOn B c′ k) (lineShown l) (shownContent a)) (sym e) (cached-flag _ m′ c′ d′ l (in-new l h), present l h)
+
+  -- the line that is persisted
+  persists : (j : memory.Line) → LineIn (b .machine .n) j → w ≡ aLine j → k ≡ flushes (lineShown j) → Line-at j
+  persists j h ew ek = (
+    λ a z. by a (joins-old (persistedAt m′ j ∷ []) (cachedAt m′ j) a (subst (Among a) new z)),
+    subst (λ k. model.goesOn B c′ k .past (lineShown j) (model.goesOn B c′ k .from (lineShown j)) ≡ shownContent (persistedAt m′ j)) (sym ek)
+        (first-new B c′ (lineShown j) ∙ sym both-same),
+  )
     where
-      fl : k ≡ flushes (lineShown j)
-      fl = ek ∙ ap flushes t
+      new : contentsOf (goesOn b m′ w) j ≡ joins (persistedAt m′ j ∷ []) (cachedAt m′ j)
+      new = ap (λ w. contentsOf (goesOn b m′ w) j) ew ∙ contents-new b m′ j
 
-      by : Dec (l ≡ j) → updL hs L (content c′ L ∷ []) (lineShown l) ≡ map shownContent (contentsOf (goesOn b m′ w) l)
-      by (yes e) = updL-at hs L (content c′ L ∷ []) (ap lineShown e ∙ sym t) ∙ ap (λ y. content c′ y ∷ []) t ∙ one j ew fl (subst (λ y. LineIn (b .machine .n) y) e h)
-          ∙ ap (λ y. map shownContent (contentsOf (goesOn b m′ w) y)) (sym e)
-      by (no ne) = updL-other hs L (content c′ L ∷ []) (λ e. ne (line-one l j (e ∙ t)))
-          ∙ quiet l h (λ e. let z = sym ek ∙ e in let y : _≡_ {A = ℕ} 0 1 = cc in omega arith) ∙ grows l h (other j ew fl l h ne)
+      -- what is persisted is what is cached
+      both-same : shownContent (persistedAt m′ j) ≡ content c′ (lineShown j)
+      both-same =
+          ap shownContent (kept-is _ m′ c′ d′ j (in-new j h) ∙ ap (λ w. keeps w (b .machine) (persistedAt (b .machine)) j) ew ∙ lines.put-same (persistedAt (b .machine)) j (cachedAt (b .machine) j))
+          ∙ sym (shown-cached _ (b .machine) (B .core) d j h) ∙ sym (frame (lineShown j) (λ e. let z = sym ek ∙ e in let y : _≡_ {A = ℕ} 0 1 = cc in omega arith))
 
-  flags-by : (w₀ : Touched) → w ≡ w₀ → Touches w₀ k → (l : memory.Line) → LineIn (b .machine .n) l → Flags (contentsOf (goesOn b m′ w) l)
-  flags-by noLine ew t l h = subst Flags (sym (on ew l h)) (joins-flags (contentsOf b l) (cachedAt m′ l) (r .flags l h) (cached-flag _ m′ c′ d′ l (subst (λ n. LineIn n l) (sym same-n) h)))
-  flags-by (aLine j) ew t l h = by (lines.line-eq l j)
+      kept-one : Small (persistedAt m′ j) × Has (model.goesOn B c′ k) (lineShown j) (shownContent (persistedAt m′ j))
+      kept-one = (kept-flag _ m′ c′ d′ j (in-new j h), subst (Has (model.goesOn B c′ k) (lineShown j)) (sym both-same) (onHere B c′ k i (lineShown j)))
+
+      by : (a : Content) → Among a (persistedAt m′ j ∷ []) ⊎ (a ≡ cachedAt m′ j) → Small a × Has (model.goesOn B c′ k) (lineShown j) (shownContent a)
+      by a (inl (inl e)) = subst (λ a. Small a × Has (model.goesOn B c′ k) (lineShown j) (shownContent a)) (sym e) kept-one
+      by a (inl (inr z)) = absurd z
+      by a (inr e) = subst (λ a. Small a × Has (model.goesOn B c′ k) (lineShown j) (shownContent a)) (sym e) (cached-flag _ m′ c′ d′ j (in-new j h), present j h)
+
+  line-by : (w₀ : Touched) (k₀ : Touch) → w ≡ w₀ → k ≡ k₀ → Touches w₀ k₀ → (l : memory.Line) → LineIn (b .machine .n) l → Line-at l
+  line-by noLine nowhere ew ek t l h = grows l h (ap (λ w. fromAfter w (length (b .past)) (b .from) l) ew)
+      (ap (λ w. keeps w (b .machine) (persistedAt (b .machine)) l) ew) (ap (λ k. times.fromAfter k (suc (B .now)) (B .from) (lineShown l)) ek)
+  line-by noLine (stores L) ew ek t l h = grows l h (ap (λ w. fromAfter w (length (b .past)) (b .from) l) ew)
+      (ap (λ w. keeps w (b .machine) (persistedAt (b .machine)) l) ew) (ap (λ k. times.fromAfter k (suc (B .now)) (B .from) (lineShown l)) ek)
+  line-by noLine (flushes L) ew ek t l h = absurd t
+  line-by (aLine j) nowhere ew ek t l h = absurd t
+  line-by (aLine j) (stores L) ew ek t l h = absurd t
+  line-by (aLine j) (flushes L) ew ek t l h = by (lines.line-eq l j)
     where
-      h′ : LineIn (m′ .n) l
-      h′ = subst (λ n. LineIn n l) (sym same-n) h
-
-      flushed : (k₀ : Touch) → k ≡ k₀ → Touches (aLine j) k₀ → k ≡ flushes (lineShown j)
-      flushed nowhere e t = absurd t
-      flushed (stores L) e t = absurd t
-      flushed (flushes L) e t = e ∙ ap flushes t
-
-      by : Dec (l ≡ j) → Flags (contentsOf (goesOn b m′ w) l)
-      by (yes e) = subst (λ y. Flags (contentsOf (goesOn b m′ w) y)) (sym e) (subst Flags (sym (here j ew (flushed k refl t) (subst (λ y. LineIn (b .machine .n) y) e h)))
-          (subst (λ y. Flags (joins (persistedAt m′ y ∷ []) (cachedAt m′ y))) e (joins-flags (persistedAt m′ l ∷ []) (cachedAt m′ l) (kept-flag _ m′ c′ d′ l h′, tt) (cached-flag _ m′ c′ d′ l h′))))
-      by (no ne) = subst Flags (sym (other j ew (flushed k refl t) l h ne)) (joins-flags (contentsOf b l) (cachedAt m′ l) (r .flags l h) (cached-flag _ m′ c′ d′ l h′))
+      by : Dec (l ≡ j) → Line-at l
+      by (yes e) = subst Line-at (sym e) (persists j (subst (LineIn (b .machine .n)) e h) ew (ek ∙ ap flushes t))
+      by (no ne) = grows l h (ap (λ w. fromAfter w (length (b .past)) (b .from) l) ew ∙ lines.put-other (b .from) j (length (b .past)) l ne)
+          (ap (λ w. keeps w (b .machine) (persistedAt (b .machine)) l) ew ∙ lines.put-other (persistedAt (b .machine)) j (cachedAt (b .machine) j) l ne)
+          (ap (λ k. times.fromAfter k (suc (B .now)) (B .from) (lineShown l)) ek ∙ updL-other (B .from) L (suc (B .now)) (λ e. ne (line-one l j (e ∙ t))))
 
   early-by : (w₀ : Touched) (l : memory.Line) → fromAfter w₀ (length (b .past)) (b .from) l ≤ length (b .past)
   early-by noLine l = r .early l
   early-by (aLine j) l = lines.put-ind (b .from) j (length (b .past)) (λ k y. y ≤ length (b .past)) l (omega arith) (λ ne. r .early l)
 
   -- the lists after one more moment
-  pub goesOnT : ListsT (goesOn b m′ w) (after sameNode k (content c′) hs)
+  pub goesOnT : ListsT (goesOn b m′ w) (model.goesOn B c′ k)
   goesOnT = record {
-    lists = λ l h. lists-by w k refl refl t l (subst (λ n. LineIn n l) same-n h);
-    flags = λ l h. flags-by w refl t l (subst (λ n. LineIn n l) same-n h);
+    lists = λ l h. line-by w k refl refl t l (subst (λ n. LineIn n l) same-n h) .0;
+    kept = λ l h. line-by w k refl refl t l (subst (λ n. LineIn n l) same-n h) .1;
     early = λ l. let e = early-by w l in omega (arith, length-append (b .past) (m′ ∷ []));
   }
 

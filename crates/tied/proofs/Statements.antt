@@ -6,6 +6,7 @@ use mathlib.Core.Logic.{_≢_}
 use Prim.Native.Nat.{ℕ, _<_}
 use Rattle.answer.specs.Answers.{told, accepted}
 use Rattle.answer.specs.declared.Answer.{Answer}
+use Rattle.image.specs.declared.Content.{Content}
 use Rattle.image.specs.declared.Image.{Image}
 use Rattle.image.specs.Refusals.{startable}
 use Rattle.machine.specs.Line.{Line, persisted}
@@ -21,7 +22,7 @@ use Rattle.model.specs.Machine as machine
 use Rattle.model.specs.Bench as model
 use Rattle.model.specs.Demand3.{Fit, Tidy, TakesAll}
 use Rattle.tied.specs.Shown.{imageShown, Narrow, eventShown, answerOf, lineShown, shownContent}
-use Rattle.tied.specs.Always.{ExactlyOne, AddUp, WasThere}
+use Rattle.tied.specs.Always.{Among, ExactlyOne, AddUp, WasThere}
 use Rattle.tied.proofs.Accepted.{sound-is, shownT, tidy, fit-of}
 use Rattle.tied.proofs.Images.{ImageT}
 use Rattle.tied.proofs.Bench.{BenchT}
@@ -112,9 +113,10 @@ module _ (g : Image) (t : ℕ) (a : accepted (startAnswer g t) ≡ true) (w : Na
     pub run-ends : BenchT (R .bench) (model.bench (model.opening G) L)
     run-ends = subst (λ l. BenchT (R .bench) (model.bench (model.opening G) l)) whole (r .ends)
 
-    -- its lists of contents are those of the record's moments
-    pub run-contents : (k : Line) → LineIn (g .n) k → model.bench (model.opening G) L .mach .hist (lineShown k) ≡ map shownContent (contentsOf (R .bench) k)
-    run-contents k h = run-ends .lists .lists k (subst (λ n. LineIn n k) (sym run-size) h)
+    -- each content of the record's is one of its contents
+    pub run-contents : (k : Line) → LineIn (g .n) k → (c : Content) → Among c (contentsOf (R .bench) k)
+        → machine.Has (model.bench (model.opening G) L .mach) (lineShown k) (shownContent c)
+    run-contents k h c z = run-ends .lists .lists k (subst (λ n. LineIn n k) (sym run-size) h) c z .1
 
     -- its persisted copies are the record's
     pub run-persisted : ImageT (persisted m) (m .t) (machine.persisted (model.bench (model.opening G) L .mach))

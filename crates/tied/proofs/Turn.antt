@@ -1,36 +1,29 @@
 -- An event that the record takes: the abstract machine takes it too, answers the same, and the benches show the same after it.
 use mathlib.Core.Path.{_≡_, refl, sym, ap, subst, _∙_}
-use mathlib.Core.Bool.{Bool, true, false, not}
-use mathlib.Core.List.{List, [], _∷_, map}
-use mathlib.Core.Logic.{_≢_, inl, inr}
-use Prim.Native.Nat.{ℕ, zero, suc, _≤_, _<_}
+use mathlib.Core.Bool.{true, false, not}
+use Prim.Native.Nat.{ℕ, _<_}
 use native.Mathlib.Omega.{arith}
 use native.Mathlib.Decide.{decLt}
-use lib.Dec.{eqb, leb}
+use lib.Dec.{leb}
 use borrow.Author.Tests.{not-false}
-use Rattle.lists.specs.Find.{pick}
 use Rattle.lists.proofs.BoolLaws.{no-way}
-use Rattle.answer.specs.Answers.{check, accepted}
-use Rattle.answer.specs.declared.Answer.{Answer}
-use Rattle.answer.specs.declared.Answer.the-variants.{Taken, Kind, Number, Busy, Idle, NotZero}
-use Rattle.image.specs.Layout.{contentAt}
-use Rattle.image.specs.Recovered.{dummyOf}
+use Rattle.answer.specs.Answers.{accepted}
+use Rattle.answer.specs.declared.Answer.the-variants.{Taken, Number, Busy, Idle, NotZero}
 use Rattle.machine.specs.Record.{kept}
-use Rattle.machine.specs.Line.{lineCount, persistedAt, persisted}
+use Rattle.machine.specs.Line.{lineCount, persisted}
 use Rattle.machine.specs.Line as memory
 use Rattle.machine.specs.Stage as stage
 use Rattle.machine.specs.Start.{startOf}
-use Rattle.machine.specs.Event.{Deed, unknown, enqueues, dequeues, steps, writesBack, crashes, eventAnswer, threadTooLarge, lineTooLarge, itemNotZero, begun, done}
+use Rattle.machine.specs.Event.{Deed, unknown, enqueues, dequeues, steps, writesBack, crashes, eventAnswer, threadTooLarge, lineTooLarge, itemNotZero, done}
 use Rattle.machine.specs.declared.Machine.{Machine}
 use Rattle.machine.proofs.LineLaws as lines
 use Rattle.machine.proofs.LineLaws.{LineIn}
 use Rattle.machine.specs.declared.Event.{Event}
 use Rattle.schedule.specs.Run as run
 use Rattle.schedule.specs.Run.{noLine, aLine, turned, persists}
-use Rattle.page.specs.Contents.{contentsOf}
-use Rattle.model.specs.Lines.{act, back, nowhere, flushes, headOr}
+use Rattle.model.specs.Lines.{act, back, nowhere, flushes}
 use Rattle.model.specs.Conf.{Within, headLines}
-use Rattle.model.specs.Core.{Core, busy, a1, d1, zeroNode}
+use Rattle.model.specs.Core.{Core, busy}
 use Rattle.model.specs.Steps.{enq, deq, move}
 use Rattle.model.specs.Machine as machine
 use Rattle.model.specs.Machine.{ev, crash, answer}
@@ -42,15 +35,13 @@ use Rattle.model.proofs.Demand3.Endings.{fit}
 use Rattle.model.proofs.Demand3.ThreeB.{stays-put}
 use Rattle.model.proofs.Page.Frame.{frame, conf-same}
 use Rattle.model.proofs.Always.Runs.{turnKept, keptRange}
-use Rattle.tied.specs.Shown.{shownContent, lineShown, eventBy, answerOf}
-use Rattle.tied.proofs.Relation.{Tied}
+use Rattle.tied.specs.Shown.{lineShown, eventBy, answerOf}
 use Rattle.tied.proofs.Changes.{persistT, count-n, count-t}
 use Rattle.tied.proofs.Retiring.{busy-tied}
 use Rattle.tied.proofs.Step.{stepT, enqueuesT, dequeuesT}
 use Rattle.tied.proofs.Images.{ImageT}
 use Rattle.tied.proofs.Accepted.{pass, fit-dummy}
-use Rattle.tied.proofs.Contents.{gathered-first}
-use Rattle.tied.proofs.Bench.{own-kept, kept-flag, BenchT, ListsT, present, goesOnT, nextPast}
+use Rattle.tied.proofs.Bench.{own-kept, kept-flag, BenchT, goesOnT, nextPast}
 use Rattle.tied.proofs.Past.{pastBegins}
 use Rattle.tied.proofs.Begins.{size-is, startedT, beginsT}
 
@@ -60,10 +51,6 @@ lt-of a b e = by (decLt b a)
     by : Dec (b < a) → b < a
     by (yes h) = h
     by (no h) = no-way (sym (le-true a b (omega arith)) ∙ e)
-
-first-of : (b : run.Bench) (l : memory.Line) → headOr (map shownContent (contentsOf b l)) zeroNode ≡ shownContent (persistedAt (b .machine) l)
-unfolding contentsOf
-first-of b l = gathered-first _ (persistedAt (b .machine) l)
 
 module _ (b : run.Bench) (B : Bench) (r : BenchT b B) where
   abbrev m : Machine
@@ -80,15 +67,15 @@ module _ (b : run.Bench) (B : Bench) (r : BenchT b B) where
   persistedT = record {
     conf = r .tied .conf;
     sizes = r .tied .sizes;
-    head = ap (λ l. headOr l zeroNode .index) (r .lists .lists (memory.ofHead 0) (omega (arith, lines.one-head (m .n)))) ∙ ap (λ z. z .index) (first-of b (memory.ofHead 0));
-    at = λ i h. ap (λ l. headOr l zeroNode) (r .lists .lists (memory.ofNode i) h) ∙ first-of b (memory.ofNode i);
+    head = ap (λ z. z .index) (r .lists .kept (memory.ofHead 0) (omega (arith, lines.one-head (m .n))));
+    at = λ i h. r .lists .kept (memory.ofNode i) h;
     flag = λ i h. kept-flag _ m c (r .tied) (memory.ofNode i) h .0;
     narrow-head = r .tied .kept .narrow-head;
     narrow = λ i h. r .tied .kept .narrow i h;
   }
 
   pub persisted-fit : Fit (machine.persisted (B .mach))
-  persisted-fit = fit _ _ _ _ _ (r .kept .all) (machine.persisted (B .mach)) (stays-put (B .mach) _ _ _ (r .kept .all))
+  persisted-fit = fit _ _ _ _ _ (r .kept .all) (machine.persisted (B .mach)) (stays-put (B .mach) _ _ _ (r .kept .all) (r .kept .timed))
 
   module _ (q : ℕ) (e : Event) where
     thread-in : threadTooLarge m e ≡ false → e .number < m .t
@@ -130,8 +117,8 @@ module _ (b : run.Bench) (B : Bench) (r : BenchT b B) where
         record {
           kept = turnKept B (ev (act (enq (e .number) (e .item)))) (r .kept) (takes enqueues a);
           tied = own-kept _ _ _ d;
-          lists = goesOnT b c _ (B .mach .hist) _ noLine nowhere (r .lists) (r .tied) d (present b B r) refl (λ l ne. refl) tt;
-          past = nextPast b c _ (B .mach .hist) _ noLine nowhere (r .lists) (r .tied) d (present b B r) refl (λ l ne. refl) tt (r .past);
+          lists = goesOnT b (B .mach) _ _ noLine nowhere (r .lists) (r .kept .timed) (r .tied) d refl (λ l ne. refl) tt;
+          past = nextPast b (B .mach) _ _ noLine nowhere (r .lists) (r .kept .timed) (r .tied) d refl (λ l ne. refl) tt (r .past);
         }
     turns dequeues a =
         let x = pass (threadTooLarge m e) (Number q) _ refl a in
@@ -140,8 +127,8 @@ module _ (b : run.Bench) (B : Bench) (r : BenchT b B) where
         record {
           kept = turnKept B (ev (act (deq (e .number)))) (r .kept) (takes dequeues a);
           tied = own-kept _ _ _ d;
-          lists = goesOnT b c _ (B .mach .hist) _ noLine nowhere (r .lists) (r .tied) d (present b B r) refl (λ l ne. refl) tt;
-          past = nextPast b c _ (B .mach .hist) _ noLine nowhere (r .lists) (r .tied) d (present b B r) refl (λ l ne. refl) tt (r .past);
+          lists = goesOnT b (B .mach) _ _ noLine nowhere (r .lists) (r .kept .timed) (r .tied) d refl (λ l ne. refl) tt;
+          past = nextPast b (B .mach) _ _ noLine nowhere (r .lists) (r .kept .timed) (r .tied) d refl (λ l ne. refl) tt (r .past);
         }
     turns steps a =
         let x = pass (threadTooLarge m e) (Number q) _ refl a in
@@ -150,8 +137,8 @@ module _ (b : run.Bench) (B : Bench) (r : BenchT b B) where
         record {
           kept = turnKept B (ev (act (move (e .number)))) (r .kept) (takes steps a);
           tied = own-kept _ _ _ (s .tied);
-          lists = goesOnT b c _ (B .mach .hist) _ (persists m e steps) _ (r .lists) (r .tied) (s .tied) (present b B r) (conf-same c (move (e .number))) (frame c (move (e .number))) (s .touch);
-          past = nextPast b c _ (B .mach .hist) _ (persists m e steps) _ (r .lists) (r .tied) (s .tied) (present b B r) (conf-same c (move (e .number))) (frame c (move (e .number))) (s .touch) (r .past);
+          lists = goesOnT b (B .mach) _ _ (persists m e steps) _ (r .lists) (r .kept .timed) (r .tied) (s .tied) (conf-same c (move (e .number))) (frame c (move (e .number))) (s .touch);
+          past = nextPast b (B .mach) _ _ (persists m e steps) _ (r .lists) (r .kept .timed) (r .tied) (s .tied) (conf-same c (move (e .number))) (frame c (move (e .number))) (s .touch) (r .past);
         }
     turns writesBack a =
         let x = pass (lineTooLarge m e) (Number q) _ refl a in
@@ -159,8 +146,8 @@ module _ (b : run.Bench) (B : Bench) (r : BenchT b B) where
         record {
           kept = turnKept B (ev (back (lineShown (line-of e)))) (r .kept) (takes writesBack a);
           tied = own-kept _ _ _ d;
-          lists = goesOnT b c c (B .mach .hist) _ (aLine (line-of e)) (flushes (lineShown (line-of e))) (r .lists) (r .tied) d (present b B r) refl (λ l ne. refl) refl;
-          past = nextPast b c c (B .mach .hist) _ (aLine (line-of e)) (flushes (lineShown (line-of e))) (r .lists) (r .tied) d (present b B r) refl (λ l ne. refl) refl (r .past);
+          lists = goesOnT b (B .mach) c _ (aLine (line-of e)) (flushes (lineShown (line-of e))) (r .lists) (r .kept .timed) (r .tied) d refl (λ l ne. refl) refl;
+          past = nextPast b (B .mach) c _ (aLine (line-of e)) (flushes (lineShown (line-of e))) (r .lists) (r .kept .timed) (r .tied) d refl (λ l ne. refl) refl (r .past);
         }
     turns crashes a =
         let dm = fit-dummy (persisted m) (m .t) (machine.persisted (B .mach)) persistedT persisted-fit in

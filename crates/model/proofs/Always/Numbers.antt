@@ -8,11 +8,12 @@ use Prim.Native.Nat.{ℕ, _+_, _-_, _≤_, _<_}
 use native.Mathlib.Omega.{arith}
 use Rattle.model.specs.Core.{Core, Th, busy, idle}
 use Rattle.model.specs.Recovery.{Image}
-use Rattle.model.specs.Machine.{Hist, Event, starts, run}
+use Rattle.model.specs.Machine.{Event, starts, run}
 use Rattle.model.specs.Bench.{Book, bench, opening}
 use Rattle.model.specs.Demand3.{Fit, Tidy, TakesAll}
 use Rattle.model.specs.Places.{PlaceKind, inQueue, isWaiting, inDeq, isHeld, inEnq, isFree, walk, At, ownsE, ownsD}
 use Rattle.model.specs.Always.{isIt, isNil, placed, sixTotal, OnePlace, PlacesTested, SixAddUp}
+use Rattle.model.proofs.Times.{Hist}
 use Rattle.model.proofs.Layer1.Ghost.{queue, off}
 use Rattle.model.proofs.Layer1.Stops.{idle-of}
 use Rattle.model.proofs.Layer3.All.{All}

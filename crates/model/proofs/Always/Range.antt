@@ -9,10 +9,10 @@ use native.Mathlib.Omega.{arith}
 use native.Mathlib.Decide.{decLt, decLe}
 use Rattle.model.specs.Basics.{has}
 use Rattle.model.specs.Core.{Core, Th, busy, idle, a1, a2, a3, a4, a5, a6, a7, a8, a9, a10, a11, a12, d1, d2, d3, d4, d5, d6, d7, s3, s6}
-use Rattle.model.specs.Machine.{Hist}
 use Rattle.model.specs.Bench.{Book}
 use Rattle.model.specs.Places.{ownsE, ownsD}
 use Rattle.model.specs.Always.{ThIn, InRange}
+use Rattle.model.proofs.Times.{Hist}
 use Rattle.model.proofs.Layer1.Ghost.{off, posOf, poss, Live, Ref, Lnk, Hd, Hd2}
 use Rattle.model.proofs.Layer1.Places.{tag}
 use Rattle.model.proofs.Layer2.Invariant.{FactsOf}

@@ -4,13 +4,14 @@ use mathlib.Core.List.{List, [], _∷_}
 use Rattle.model.specs.Lines.{act, back}
 use Rattle.model.specs.Steps.{enq, deq, move}
 use Rattle.model.specs.Recovery.{Image, start′}
-use Rattle.model.specs.Machine.{M, Event, ev, crash, event, starts, persisted, run}
+use Rattle.model.specs.Machine.{M, Event, ev, crash, event, starts, persisted, run, Has}
 use Rattle.model.specs.Bench.{Bench, turn, bench, opening}
 use Rattle.model.specs.Demand3.{Fit, Tidy, Takes, TakesAll}
 use Rattle.model.specs.Always.{InRange, AlwaysInRange}
+use Rattle.model.proofs.Times.{Timed, startTimed}
 use Rattle.model.proofs.Layer3.All.{All}
 use Rattle.model.proofs.Demand3.Endings.{fit}
-use Rattle.model.proofs.Demand3.ThreeB.{stays-put, turnAll, openAll}
+use Rattle.model.proofs.Demand3.ThreeB.{stays-put, turnAll, turnTimed, openAll}
 use Rattle.model.proofs.Page.Frame.{conf-same}
 use Rattle.model.proofs.Always.Plain.{Plain, stepPlain, startPlain}
 use Rattle.model.proofs.Always.Range.{free-below, own-e, ranged}
@@ -39,14 +40,19 @@ conf-starts g = refl
 
 -- all that is kept through a run
 pub record Kept (b : Bench) : Type 0 where
-  pub all : All (b .mach .hist) (b .mach .core) (b .book) (b .first) (b .now)
+  pub timed : Timed (b .mach)
+  pub all : All (Has (b .mach)) (b .mach .core) (b .book) (b .first) (b .now)
   pub plain : Plain (b .mach .core)
 
 pub openKept : (g : Image) → Fit g → Tidy g → Kept (opening g)
-openKept g f t = record { all = openAll g f t; plain = startPlain g f }
+openKept g f t = record { timed = startTimed g; all = openAll g f t; plain = startPlain g f }
 
 pub turnKept : (b : Bench) (e : Event) → Kept b → Takes (b .mach) e → Kept (turn b e)
-turnKept b e k t = record { all = turnAll (b .mach) (b .book) (b .first) (b .now) (k .all) e t; plain = by e t }
+turnKept b e k t = record {
+  timed = turnTimed (b .mach) (b .book) (b .first) (b .now) (k .all) (k .timed) e;
+  all = turnAll (b .mach) (b .book) (b .first) (b .now) (k .all) (k .timed) e t;
+  plain = by e t;
+}
   where
     by : (e : Event) → Takes (b .mach) e → Plain (event (b .mach) e .core)
     by (ev (act (enq u v))) t = k .plain
@@ -54,7 +60,7 @@ turnKept b e k t = record { all = turnAll (b .mach) (b .book) (b .first) (b .now
     by (ev (act (move u))) t = stepPlain (b .mach .core) u (k .plain) (free-below _ _ _ _ _ (k .all)) (own-e _ _ _ _ _ (k .all) u)
         (k .all .inv .alive .range u) (b .mach .core .thr u) refl
     by (ev (back l)) t = k .plain
-    by crash t = startPlain (persisted (b .mach)) (fit _ _ _ _ _ (k .all) (persisted (b .mach)) (stays-put (b .mach) _ _ _ (k .all)))
+    by crash t = startPlain (persisted (b .mach)) (fit _ _ _ _ _ (k .all) (persisted (b .mach)) (stays-put (b .mach) _ _ _ (k .all) (k .timed)))
 
 pub benchKept : (b : Bench) (l : List Event) → Kept b → TakesAll (b .mach) l → Kept (bench b l)
 unfolding bench

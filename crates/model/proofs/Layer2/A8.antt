@@ -10,8 +10,8 @@ use Rattle.model.specs.Basics.{upd}
 use Rattle.model.specs.Lines.{ofNode}
 use Rattle.model.specs.Core.{Core, Node, a8, a9}
 use Rattle.model.specs.Changes.{setTh, setNext}
-use Rattle.model.specs.Machine.{Hist, hasNode}
 use Rattle.model.proofs.Basics.{upd-ind, upd-other, upd-at, upd-same}
+use Rattle.model.proofs.Times.{Hist}
 use Rattle.model.proofs.Layer1.Ghost.{Gh, Inv, queue, enqd, poss, Live, ixs}
 use Rattle.model.proofs.Layer1.Places.{before, tag, live-in}
 use Rattle.model.proofs.Layer1.A8.{linkG, was-live, A8yes}
@@ -46,7 +46,7 @@ module _ (hs : Hist) (m : Core) (g : Gh) (p : Pg) (i : Inv m g) (j : PInv hs m g
     nodes = record {
       cached = j .nodes .cached;
       linked = λ k c h l. lk k c (j .nodes .linked k c h l);
-      quiet = λ k c h. rw (io (p .pp) pp-in) (upd-ind (g .own) n (queue (g .len)) (λ k o. hasNode c (hs (ofNode k)) → Quiet (g .idx (p .pp)) c o) k
+      quiet = λ k c h. rw (io (p .pp) pp-in) (upd-ind (g .own) n (queue (g .len)) (λ k o. hs (ofNode k) c → Quiet (g .idx (p .pp)) c o) k
           (λ h. tt) (λ ne h. j .nodes .quiet k c h) h);
       gone = λ q h. gn q h (ℕ-discrete q (g .len));
       values = λ q l. vl q l (ℕ-discrete q (g .len));
@@ -94,7 +94,7 @@ module _ (hs : Hist) (m : Core) (g : Gh) (p : Pg) (i : Inv m g) (j : PInv hs m g
           ap (λ k. m .node k .item) (wo q h′) ∙ j .nodes .values q (was-live m g i t v n x e nx q h′ l) ∙ sym (to q h′)
 
       sf : (q : ℕ) → q < suc (g .len) → upd (p .safe) (g .len) false q ≡ true → Dec (q ≡ g .len)
-          → (q ≤ p .pp) ⊎ ((c : Node) → hasNode c (hs (ofNode (upd (g .who) (g .len) n q)))
+          → (q ≤ p .pp) ⊎ ((c : Node) → hs (ofNode (upd (g .who) (g .len) n q)) c
           → (c .linked ≡ true) × (c .index ≡ upd (g .idx) (g .len) (ixs (m .node) n) q))
       sf q h s (yes f) = let a = upd-at (p .safe) (g .len) false f in let z : _≡_ {A = ℕ} 0 1 = cc in absurd (omega arith)
       sf q h s (no f) = rw (wo q (omega arith), io q (omega arith)) (j .nodes .safely q (omega arith) (sym (upd-other (p .safe) (g .len) false f) ∙ s))

@@ -1,17 +1,13 @@
--- What the lists of contents of nodes can hold: ghost state, clauses, and how a write-back and a store keep them.
-use mathlib.Core.Path.{_≡_, refl, sym, subst, ap, _∙_}
+-- What the contents of nodes can be: ghost state, clauses, and how a write-back and a store keep them.
+use mathlib.Core.Path.{_≡_, sym, subst, ap, _∙_}
 use mathlib.Core.Bool.{Bool, true}
-use mathlib.Core.List.{List, [], _∷_}
 use mathlib.Core.Logic.{_⊎_, inl, inr}
 use Prim.Native.Nat.{ℕ, _≤_, _<_}
 use native.Mathlib.Omega.{arith}
 use native.Mathlib.Decide.{ℕ-discrete}
 use Rattle.model.specs.Basics.{upd}
-use Rattle.model.specs.Lines.{push}
-use Rattle.model.specs.Core.{Node, sameNode}
-use Rattle.model.specs.Machine.{hasNode}
-use Rattle.model.proofs.Basics.{upd-ind, upd-other, upd-at}
-use Rattle.model.proofs.Lines.{push-old, push-new}
+use Rattle.model.specs.Core.{Node}
+use Rattle.model.proofs.Basics.{upd-other, upd-at}
 use Rattle.model.proofs.Layer1.Ghost.{Place, queue, waiting, deqd, kept, enqd, spare, off, poss, Live}
 
 -- item: what was enqueued at each place of the log; pp: the place of the persisted head; safe: the line was persisted behind A9
@@ -48,13 +44,13 @@ Gone pp p (enqd t) = p < pp
 Gone pp p spare = p < pp
 Gone pp p off = p < pp
 
-pub record NodeP (len pp : ℕ) (who idx item : ℕ → ℕ) (own : ℕ → Place) (node : ℕ → Node) (nhist : ℕ → List Node) (safe : ℕ → Bool) : Type 0 where
-  pub cached : (n : ℕ) → hasNode (node n) (nhist n)
-  pub linked : (n : ℕ) (c : Node) → hasNode c (nhist n) → c .linked ≡ true → (c .index ≤ idx pp) ⊎ Known who idx item len n c
-  pub quiet : (n : ℕ) (c : Node) → hasNode c (nhist n) → Quiet (idx pp) c (own n)
+pub record NodeP (len pp : ℕ) (who idx item : ℕ → ℕ) (own : ℕ → Place) (node : ℕ → Node) (nhist : ℕ → Node → Type 0) (safe : ℕ → Bool) : Type 0 where
+  pub cached : (n : ℕ) → nhist n (node n)
+  pub linked : (n : ℕ) (c : Node) → nhist n c → c .linked ≡ true → (c .index ≤ idx pp) ⊎ Known who idx item len n c
+  pub quiet : (n : ℕ) (c : Node) → nhist n c → Quiet (idx pp) c (own n)
   pub gone : (p : ℕ) → p < len → Gone pp p (own (who p))
   pub values : (q : ℕ) → Live who (poss own) q → node (who q) .item ≡ item q
-  pub safely : (p : ℕ) → p < len → safe p ≡ true → (p ≤ pp) ⊎ ((c : Node) → hasNode c (nhist (who p)) → (c .linked ≡ true) × (c .index ≡ idx p))
+  pub safely : (p : ℕ) → p < len → safe p ≡ true → (p ≤ pp) ⊎ ((c : Node) → nhist (who p) c → (c .linked ≡ true) × (c .index ≡ idx p))
 
 -- ---- the persisted head moves on
 
@@ -91,7 +87,7 @@ gone-up pp pp′ p (enqd t) h k = omega arith
 gone-up pp pp′ p spare h k = omega arith
 gone-up pp pp′ p off h k = omega arith
 
-module _ (len pp pp′ : ℕ) (who idx item : ℕ → ℕ) (own : ℕ → Place) (node : ℕ → Node) (nhist : ℕ → List Node) (safe : ℕ → Bool)
+module _ (len pp pp′ : ℕ) (who idx item : ℕ → ℕ) (own : ℕ → Place) (node : ℕ → Node) (nhist : ℕ → Node → Type 0) (safe : ℕ → Bool)
     (i : NodeP len pp who idx item own node nhist safe) (tops : idx pp ≤ idx pp′) (pps : pp ≤ pp′) where
   pub pp-up : NodeP len pp′ who idx item own node nhist safe
   pp-up = record {
@@ -103,48 +99,33 @@ module _ (len pp pp′ : ℕ) (who idx item : ℕ → ℕ) (own : ℕ → Place)
     safely = λ p h s. upOr pps (i .safely p h s);
   }
 
--- ---- a line is written back: it has its present content alone
+-- ---- there are no more contents than there were
 
-module _ (len pp : ℕ) (who idx item : ℕ → ℕ) (own : ℕ → Place) (node : ℕ → Node) (nhist : ℕ → List Node) (safe : ℕ → Bool)
+module _ (len pp : ℕ) (who idx item : ℕ → ℕ) (own : ℕ → Place) (node : ℕ → Node) (nhist nhist′ : ℕ → Node → Type 0) (safe : ℕ → Bool)
     (i : NodeP len pp who idx item own node nhist safe) where
-  pub fewer : (n k : ℕ) (c : Node) → hasNode c (upd nhist n (node n ∷ []) k) → hasNode c (nhist k)
-  fewer n k c = upd-ind nhist n (node n ∷ []) (λ k l. hasNode c l → hasNode c (nhist k)) k one (λ ne h. h)
-    where
-      one : (c ≡ node n) ⊎ ⊥ → hasNode c (nhist n)
-      one (inl e) = rw e (i .cached n)
-      one (inr z) = absurd z
-
-  pub backed : (n : ℕ) → NodeP len pp who idx item own node (upd nhist n (node n ∷ [])) safe
-  backed n = record {
-    cached = λ k. upd-ind nhist n (node n ∷ []) (λ k l. hasNode (node k) l) k (inl refl) (λ ne. i .cached k);
-    linked = λ k c h l. i .linked k c (fewer n k c h) l;
-    quiet = λ k c h. i .quiet k c (fewer n k c h);
+  pub fewerN : ((n : ℕ) (c : Node) → nhist′ n c → nhist n c) → ((n : ℕ) → nhist′ n (node n)) → NodeP len pp who idx item own node nhist′ safe
+  fewerN fewer here = record {
+    cached = here;
+    linked = λ k c h l. i .linked k c (fewer k c h) l;
+    quiet = λ k c h. i .quiet k c (fewer k c h);
     gone = i .gone;
     values = i .values;
     safely = λ p h s. on p (i .safely p h s);
   }
     where
-      on : (p : ℕ) → (p ≤ pp) ⊎ ((c : Node) → hasNode c (nhist (who p)) → (c .linked ≡ true) × (c .index ≡ idx p))
-          → (p ≤ pp) ⊎ ((c : Node) → hasNode c (upd nhist n (node n ∷ []) (who p)) → (c .linked ≡ true) × (c .index ≡ idx p))
+      on : (p : ℕ) → (p ≤ pp) ⊎ ((c : Node) → nhist (who p) c → (c .linked ≡ true) × (c .index ≡ idx p))
+          → (p ≤ pp) ⊎ ((c : Node) → nhist′ (who p) c → (c .linked ≡ true) × (c .index ≡ idx p))
       on p (inl a) = inl a
-      on p (inr b) = inr (λ c h. b c (fewer n (who p) c h))
+      on p (inr b) = inr (λ c h. b c (fewer (who p) c h))
 
   -- a store, with what is to be shown of the new content
-  module _ (n : ℕ) (a : Node)
+  module _ (n : ℕ) (a : Node) (more : (k : ℕ) (c : Node) → nhist′ k c → nhist k c ⊎ ((k ≡ n) × (c ≡ a))) (here : (k : ℕ) → nhist′ k (upd node n a k))
       (okL : a .linked ≡ true → (a .index ≤ idx pp) ⊎ Known who idx item len n a) (okQ : Quiet (idx pp) a (own n))
       (okV : (q : ℕ) → Live who (poss own) q → who q ≡ n → a .item ≡ item q)
       (okS : (p : ℕ) → p < len → who p ≡ n → safe p ≡ true → (p ≤ pp) ⊎ ((a .linked ≡ true) × (a .index ≡ idx p))) where
-    more : (k : ℕ) (c : Node) → hasNode c (upd nhist n (push sameNode (nhist n) a) k) → hasNode c (nhist k) ⊎ ((k ≡ n) × (c ≡ a))
-    more k c = upd-ind nhist n (push sameNode (nhist n) a) (λ k l. hasNode c l → hasNode c (nhist k) ⊎ ((k ≡ n) × (c ≡ a))) k
-        (λ h. one (push-old (nhist n) a c h)) (λ ne h. inl h)
-      where
-        one : hasNode c (nhist n) ⊎ (c ≡ a) → hasNode c (nhist n) ⊎ ((n ≡ n) × (c ≡ a))
-        one (inl h) = inl h
-        one (inr e) = inr (refl, e)
-
-    pub storedP : NodeP len pp who idx item own (upd node n a) (upd nhist n (push sameNode (nhist n) a)) safe
+    pub storedP : NodeP len pp who idx item own (upd node n a) nhist′ safe
     storedP = record {
-      cached = λ k. cd k (ℕ-discrete k n);
+      cached = here;
       linked = λ k c h l. lk k c l (more k c h);
       quiet = λ k c h. qt k c (more k c h);
       gone = i .gone;
@@ -152,16 +133,12 @@ module _ (len pp : ℕ) (who idx item : ℕ → ℕ) (own : ℕ → Place) (node
       safely = λ p h s. sf p h s (i .safely p h s);
     }
       where
-        cd : (k : ℕ) → Dec (k ≡ n) → hasNode (upd node n a k) (upd nhist n (push sameNode (nhist n) a) k)
-        cd k (yes e) = rw (upd-at node n a e, upd-at nhist n (push sameNode (nhist n) a) e) (push-new (nhist n) a)
-        cd k (no ne) = rw (upd-other node n a ne, upd-other nhist n (push sameNode (nhist n) a) ne) (i .cached k)
-
-        lk : (k : ℕ) (c : Node) → c .linked ≡ true → hasNode c (nhist k) ⊎ ((k ≡ n) × (c ≡ a)) → (c .index ≤ idx pp) ⊎ Known who idx item len k c
+        lk : (k : ℕ) (c : Node) → c .linked ≡ true → nhist k c ⊎ ((k ≡ n) × (c ≡ a)) → (c .index ≤ idx pp) ⊎ Known who idx item len k c
         lk k c l (inl h) = i .linked k c h l
         lk k c l (inr e) = subst (λ k. (c .index ≤ idx pp) ⊎ Known who idx item len k c) (sym (e .0))
             (subst (λ c. c .linked ≡ true → (c .index ≤ idx pp) ⊎ Known who idx item len n c) (sym (e .1)) okL l)
 
-        qt : (k : ℕ) (c : Node) → hasNode c (nhist k) ⊎ ((k ≡ n) × (c ≡ a)) → Quiet (idx pp) c (own k)
+        qt : (k : ℕ) (c : Node) → nhist k c ⊎ ((k ≡ n) × (c ≡ a)) → Quiet (idx pp) c (own k)
         qt k c (inl h) = i .quiet k c h
         qt k c (inr e) = subst (λ k. Quiet (idx pp) c (own k)) (sym (e .0)) (subst (λ c. Quiet (idx pp) c (own n)) (sym (e .1)) okQ)
 
@@ -169,22 +146,21 @@ module _ (len pp : ℕ) (who idx item : ℕ → ℕ) (own : ℕ → Place) (node
         vl q l (yes e) = ap (λ z. z .item) (upd-at node n a e) ∙ okV q l e
         vl q l (no ne) = ap (λ z. z .item) (upd-other node n a ne) ∙ i .values q l
 
-        sf : (p : ℕ) → p < len → safe p ≡ true → (p ≤ pp) ⊎ ((c : Node) → hasNode c (nhist (who p)) → (c .linked ≡ true) × (c .index ≡ idx p))
-            → (p ≤ pp) ⊎ ((c : Node) → hasNode c (upd nhist n (push sameNode (nhist n) a) (who p)) → (c .linked ≡ true) × (c .index ≡ idx p))
+        sf : (p : ℕ) → p < len → safe p ≡ true → (p ≤ pp) ⊎ ((c : Node) → nhist (who p) c → (c .linked ≡ true) × (c .index ≡ idx p))
+            → (p ≤ pp) ⊎ ((c : Node) → nhist′ (who p) c → (c .linked ≡ true) × (c .index ≡ idx p))
         sf p h s (inl x) = inl x
         sf p h s (inr f) = at (ℕ-discrete (who p) n)
           where
-            both : (okS′ : (a .linked ≡ true) × (a .index ≡ idx p)) (c : Node) → hasNode c (nhist (who p)) ⊎ ((who p ≡ n) × (c ≡ a))
+            both : (who p ≡ n → (a .linked ≡ true) × (a .index ≡ idx p)) → (c : Node) → nhist (who p) c ⊎ ((who p ≡ n) × (c ≡ a))
                 → (c .linked ≡ true) × (c .index ≡ idx p)
             both o c (inl h) = f c h
-            both o c (inr e) = subst (λ c. (c .linked ≡ true) × (c .index ≡ idx p)) (sym (e .1)) o
+            both o c (inr e) = subst (λ c. (c .linked ≡ true) × (c .index ≡ idx p)) (sym (e .1)) (o (e .0))
 
             new : (p ≤ pp) ⊎ ((a .linked ≡ true) × (a .index ≡ idx p))
-                → (p ≤ pp) ⊎ ((c : Node) → hasNode c (upd nhist n (push sameNode (nhist n) a) (who p)) → (c .linked ≡ true) × (c .index ≡ idx p))
+                → (p ≤ pp) ⊎ ((c : Node) → nhist′ (who p) c → (c .linked ≡ true) × (c .index ≡ idx p))
             new (inl x) = inl x
-            new (inr o) = inr (λ c h. both o c (more (who p) c h))
+            new (inr o) = inr (λ c h. both (λ e. o) c (more (who p) c h))
 
-            at : Dec (who p ≡ n) → (p ≤ pp) ⊎ ((c : Node) → hasNode c (upd nhist n (push sameNode (nhist n) a) (who p))
-                → (c .linked ≡ true) × (c .index ≡ idx p))
+            at : Dec (who p ≡ n) → (p ≤ pp) ⊎ ((c : Node) → nhist′ (who p) c → (c .linked ≡ true) × (c .index ≡ idx p))
             at (yes e) = new (okS p h e s)
-            at (no ne) = inr (λ c h. f c (rw (upd-other nhist n (push sameNode (nhist n) a) ne) at h))
+            at (no ne) = inr (λ c h. both (λ e. absurd (ne e)) c (more (who p) c h))

@@ -1,21 +1,21 @@
 -- D4 keeps the second layer; so do the stores to index lines in `split`.
 use mathlib.Core.Path.{_≡_, refl, sym, subst, ap, _∙_}
-use mathlib.Core.List.{List}
-use mathlib.Core.Logic.{_≢_}
+use mathlib.Core.Logic.{_≢_, _⊎_, inl, inr}
 use Prim.Native.Nat.{ℕ, zero, suc, _≤_, _<_}
 use native.Mathlib.Omega.{arith}
 use lib.Dec.{T}
 use Rattle.model.specs.Basics.{upd}
-use Rattle.model.specs.Lines.{Line, ofHead, ofNode, updL, push, after}
+use Rattle.model.specs.Lines.{Line, ofHead, ofNode, stores}
 use Rattle.model.specs.Conf.{Engine, shared, split, lineIx, lineOf, lineCount, threadIx, headLines, headTouch}
-use Rattle.model.specs.Core.{Th, Core, Node, sameNode, hd, content, lineHas, d4, d5}
+use Rattle.model.specs.Core.{Th, Core, Node, hd, content, lineHas, d4, d5}
 use Rattle.model.specs.Changes.{setMark, setTh, setHead}
-use Rattle.model.specs.Machine.{Hist}
 use Rattle.model.proofs.Basics.{upd-ind, upd-other, upd-same}
+use Rattle.model.proofs.Lines.{no-line}
+use Rattle.model.proofs.Times.{Hist, Grown}
 use Rattle.model.proofs.Layer1.Ghost.{Gh, Inv, queue, deqd}
 use Rattle.model.proofs.Layer1.D4.{headG, own-h, x-ix, r-hp, more, x-is, r}
-use Rattle.model.proofs.Layer2.Contents.{Pg, NodeP, Gone}
-use Rattle.model.proofs.Layer2.Heads.{HeadP, movedH, raisedH}
+use Rattle.model.proofs.Layer2.Contents.{Pg, fewerN, Gone}
+use Rattle.model.proofs.Layer2.Heads.{HeadP, movedH, raisedH, fewerH}
 use Rattle.model.proofs.Layer2.Invariant.{PInv, Facts, FactsOf, lowOf, markOf, facts-map}
 use Rattle.model.proofs.Layer2.Hands.{handsP, handsFacts}
 
@@ -26,29 +26,37 @@ low-up shared i i′ f (suc k) h = omega arith
 low-up split i i′ f k h = omega arith
 
 -- no node's line is touched
-node-list : (E : Engine) (con : Line → Node) (hs : Hist) → _≡_ {A = ℕ → List Node} (λ n. after sameNode (headTouch E) con hs (ofNode n)) (λ n. hs (ofNode n))
-unfolding updL
-node-list shared con hs = refl
-node-list split con hs = refl
+node-rest : (E : Engine) (con : Line → Node) (hs hs′ : Hist) → Grown (headTouch E) con hs hs′ → (n : ℕ) (c : Node) → hs′ (ofNode n) c → hs (ofNode n) c
+node-rest shared con hs hs′ w n c h = by (w .made (ofNode n) c h)
+  where
+    by : hs (ofNode n) c ⊎ ((ofNode n ≡ ofHead 0) × (c ≡ con (ofHead 0))) → hs (ofNode n) c
+    by (inl z) = z
+    by (inr z) = no-line 0 n (sym (z .0))
+node-rest split con hs hs′ w n c h = w .made (ofNode n) c h
+
+-- a store to a head line
+head-more : (hs hs′ : Hist) (con : Line → Node) (t a : ℕ) → con (ofHead t) ≡ hd a → Grown (stores (ofHead t)) con hs hs′ → (k : ℕ) (c : Node) → hs′ (ofHead k) c
+    → hs (ofHead k) c ⊎ ((k ≡ t) × (c ≡ hd a))
+head-more hs hs′ con t a e w k c h = by (w .made (ofHead k) c h)
+  where
+    by : hs (ofHead k) c ⊎ ((ofHead k ≡ ofHead t) × (c ≡ con (ofHead t))) → hs (ofHead k) c ⊎ ((k ≡ t) × (c ≡ hd a))
+    by (inl z) = inl z
+    by (inr z) = let f = z .0 in inr (cc, z .1 ∙ e)
 
 -- a head line is, where Head's index is a content
-head-list : (E : Engine) (T hp pp len i : ℕ) (idx marks : ℕ → ℕ) (node : ℕ → Node) (hs : Hist) → ((p q : ℕ) → p < q → q < len → idx p < idx q)
-    → suc hp < len → i ≡ idx hp
+head-list : (E : Engine) (T hp pp len i : ℕ) (idx marks : ℕ → ℕ) (node : ℕ → Node) (hs hs′ : Hist) → ((p q : ℕ) → p < q → q < len → idx p < idx q)
+    → suc hp < len → i ≡ idx hp → Grown (headTouch E) (lineHas E node (idx (suc hp)) marks) hs hs′
     → HeadP (lineCount E T) hp pp idx (lineIx E i marks) (λ k. hs (ofHead k))
-    → HeadP (lineCount E T) (suc hp) pp idx (lineIx E (idx (suc hp)) marks)
-    (λ k. after sameNode (headTouch E) (lineHas E node (idx (suc hp)) marks) hs (ofHead k))
-unfolding updL
-head-list shared T hp pp len i idx marks node hs r lt e h =
+    → HeadP (lineCount E T) (suc hp) pp idx (lineIx E (idx (suc hp)) marks) (λ k. hs′ (ofHead k))
+head-list shared T hp pp len i idx marks node hs hs′ r lt e w h =
     raisedH 1 (suc hp) pp len idx (lineIx shared i marks) (λ k. hs (ofHead k)) r lt
     (movedH 1 hp pp len idx (lineIx shared i marks) (λ k. hs (ofHead k)) r (omega arith) h (suc hp) idx (omega arith) (λ p z. refl))
-    0 (idx (suc hp)) (suc hp) (lineIx shared (idx (suc hp)) marks) (omega arith) refl (omega (arith, r hp (suc hp) (omega arith) lt)) (omega arith)
-    refl (λ j ne. other j ne)
-  where
-    other : (j : ℕ) → j ≢ 0 → lineIx shared (idx (suc hp)) marks j ≡ lineIx shared i marks j
-    other zero ne = absurd (ne refl)
-    other (suc j) ne = refl
-head-list split T hp pp len i idx marks node hs r lt e h = movedH T hp pp len idx marks (λ k. hs (ofHead k)) r (omega arith) h (suc hp) idx
-    (omega arith) (λ p z. refl)
+    (λ k. hs′ (ofHead k)) 0 (idx (suc hp)) (suc hp) (lineIx shared (idx (suc hp)) marks) (head-more hs hs′ _ 0 (idx (suc hp)) refl w) (λ k. w .here (ofHead k))
+    (omega arith) refl (omega (arith, r hp (suc hp) (omega arith) lt)) (omega arith)
+head-list split T hp pp len i idx marks node hs hs′ r lt e w h =
+    fewerH T (suc hp) pp len idx marks (λ k. hs (ofHead k)) r lt
+    (movedH T hp pp len idx marks (λ k. hs (ofHead k)) r (omega arith) h (suc hp) idx (omega arith) (λ p z. refl))
+    (λ k. hs′ (ofHead k)) (λ k c. w .made (ofHead k) c) (λ k. w .here (ofHead k))
 
 module _ (hs : Hist) (m : Core) (g : Gh) (p : Pg) (i : Inv m g) (j : PInv hs m g p) (t h k x : ℕ) (e : m .thr t ≡ d4 h k x) (eh : m .hnode ≡ h) where
   oh : g .own h ≡ queue (g .hp)
@@ -63,16 +71,15 @@ module _ (hs : Hist) (m : Core) (g : Gh) (p : Pg) (i : Inv m g) (j : PInv hs m g
   up-ix : m .hidx ≤ m .node x .index
   up-ix = omega (arith, i .log .head-ix, x-ix m g i t h k x e eh, i .log .rising (g .hp) (suc (g .hp)) (omega arith) (more m g i t h k x e eh))
 
-  pub D4P : PInv (after sameNode (headTouch (m .conf .engine)) (content m₄) hs) m₄ (headG g t h) p
-  D4P = record {
-    head = subst (λ y. HeadP (headLines (m .conf)) (suc (g .hp)) (p .pp) (g .idx) (lineIx (m .conf .engine) y (m .marks))
-        (λ k. after sameNode (headTouch (m .conf .engine)) (lineHas (m .conf .engine) (m .node) y (m .marks)) hs (ofHead k)))
+  pub D4P : (hs′ : Hist) → Grown (headTouch (m .conf .engine)) (content m₄) hs hs′ → PInv hs′ m₄ (headG g t h) p
+  D4P hs′ w = record {
+    head = subst (λ y. HeadP (headLines (m .conf)) (suc (g .hp)) (p .pp) (g .idx) (lineIx (m .conf .engine) y (m .marks)) (λ k. hs′ (ofHead k)))
         (sym (x-ix m g i t h k x e eh))
-        (head-list (m .conf .engine) (m .conf .threads) (g .hp) (p .pp) (g .len) (m .hidx) (g .idx) (m .marks) (m .node) hs (i .log .rising)
-        (more m g i t h k x e eh) (i .log .head-ix) (j .head));
-    nodes = subst (λ f. NodeP (g .len) (p .pp) (g .who) (g .idx) (p .item) (upd (g .own) h (deqd t (g .hp))) (m .node) f (p .safe))
-        (sym (node-list (m .conf .engine) (content m₄) hs))
-        (handsP hs m g p j h (deqd t (g .hp)) (rw oh) (λ c l. tt) gn);
+        (head-list (m .conf .engine) (m .conf .threads) (g .hp) (p .pp) (g .len) (m .hidx) (g .idx) (m .marks) (m .node) hs hs′ (i .log .rising)
+        (more m g i t h k x e eh) (i .log .head-ix)
+        (subst (λ y. Grown (headTouch (m .conf .engine)) (lineHas (m .conf .engine) (m .node) y (m .marks)) hs hs′) (x-ix m g i t h k x e eh) w) (j .head));
+    nodes = fewerN _ _ _ _ _ _ _ _ (λ n. hs′ (ofNode n)) _ (handsP hs m g p j h (deqd t (g .hp)) (rw oh) (λ c l. tt) gn)
+        (node-rest (m .conf .engine) (content m₄) hs hs′ w) (λ n. w .here (ofNode n));
     facts = λ u. upd-ind (m .thr) t (d5 h x) (λ u s. Facts (m .node) (g .who) (g .idx) (upd (g .own) h (deqd t (g .hp))) (g .base u) (g .len)
         (p .item) (p .pp) (p .safe) (lowOf m₄ u) (markOf m u) (m .conf .engine) u s) u
         (λ q o. let w = sym (upd-same (g .own) h (deqd t (g .hp))) ∙ o in let z : g .hp ≡ q = cc in
@@ -104,27 +111,31 @@ thread-mark : (E : Engine) (f : ℕ → ℕ) (t a u : ℕ) → u ≢ t → threa
 thread-mark shared f t a u ne = refl
 thread-mark split f t a u ne = upd-other f t a ne
 
-mark-list : (E : Engine) → E ≡ split → (T t a q hp pp len i : ℕ) (idx marks : ℕ → ℕ) (hs : Hist) → ((p q : ℕ) → p < q → q < len → idx p < idx q)
-    → hp < len → t < T → q ≤ hp → a ≡ idx q → threadIx E marks t ≤ a
+mark-list : (E : Engine) → E ≡ split → (T t a q hp pp len i : ℕ) (idx marks : ℕ → ℕ) (node : ℕ → Node) (hs hs′ : Hist)
+    → ((p q : ℕ) → p < q → q < len → idx p < idx q)
+    → hp < len → t < T → q ≤ hp → a ≡ idx q → threadIx E marks t ≤ a → Grown (stores (ofHead t)) (lineHas E node i (upd marks t a)) hs hs′
     → HeadP (lineCount E T) hp pp idx (lineIx E i marks) (λ k. hs (ofHead k))
-    → HeadP (lineCount E T) hp pp idx (lineIx E i (upd marks t a)) (λ k. updL hs (ofHead t)
-    (push sameNode (hs (ofHead t)) (hd (lineIx E i (upd marks t a) t))) (ofHead k))
-unfolding updL
-mark-list shared s T t a q hp pp len i idx marks hs r lt tT le e up h = let z : _≡_ {A = ℕ} 0 1 = cc in absurd (omega arith)
-mark-list split s T t a q hp pp len i idx marks hs r lt tT le e up h =
-    subst (λ y. HeadP T hp pp idx (upd marks t a) (upd (λ k. hs (ofHead k)) t (push sameNode (hs (ofHead t)) (hd y)))) (sym (upd-same marks t a))
-    (raisedH T hp pp len idx marks (λ k. hs (ofHead k)) r lt h t a q (upd marks t a) le e up tT (upd-same marks t a) (λ j ne. upd-other marks t a ne))
+    → HeadP (lineCount E T) hp pp idx (lineIx E i (upd marks t a)) (λ k. hs′ (ofHead k))
+mark-list shared s T t a q hp pp len i idx marks node hs hs′ r lt tT le e up w h = let z : _≡_ {A = ℕ} 0 1 = cc in absurd (omega arith)
+mark-list split s T t a q hp pp len i idx marks node hs hs′ r lt tT le e up w h =
+    raisedH T hp pp len idx marks (λ k. hs (ofHead k)) r lt h (λ k. hs′ (ofHead k)) t a q (upd marks t a)
+    (head-more hs hs′ _ t a (ap hd (upd-same marks t a)) w) (λ k. w .here (ofHead k)) le e up tT
+
+mark-rest : (hs hs′ : Hist) (con : Line → Node) (t : ℕ) → Grown (stores (ofHead t)) con hs hs′ → (n : ℕ) (c : Node) → hs′ (ofNode n) c → hs (ofNode n) c
+mark-rest hs hs′ con t w n c h = by (w .made (ofNode n) c h)
+  where
+    by : hs (ofNode n) c ⊎ ((ofNode n ≡ ofHead t) × (c ≡ con (ofHead t))) → hs (ofNode n) c
+    by (inl z) = z
+    by (inr z) = no-line t n (sym (z .0))
 
 module _ (hs : Hist) (m : Core) (g : Gh) (p : Pg) (i : Inv m g) (j : PInv hs m g p) (t a q : ℕ) (s : Th) (sp : m .conf .engine ≡ split)
     (tT : t < m .conf .threads)
     (le : q ≤ g .hp) (e : a ≡ g .idx q) (up : markOf m t ≤ a) where
-  pub markP : FactsOf (setMark m t a) g p t s → PInv (updL hs (ofHead t) (push sameNode (hs (ofHead t)) (content (setMark m t a) (ofHead t))))
-      (setTh (setMark m t a) t s) g p
-  unfolding updL
-  markP f = record {
-    head = mark-list (m .conf .engine) sp (m .conf .threads) t a q (g .hp) (p .pp) (g .len) (m .hidx) (g .idx) (m .marks) hs (i .log .rising)
-        (i .log .hp-in) tT le e up (j .head);
-    nodes = j .nodes;
+  pub markP : (hs′ : Hist) → Grown (stores (ofHead t)) (content (setMark m t a)) hs hs′ → FactsOf (setMark m t a) g p t s → PInv hs′ (setTh (setMark m t a) t s) g p
+  markP hs′ w f = record {
+    head = mark-list (m .conf .engine) sp (m .conf .threads) t a q (g .hp) (p .pp) (g .len) (m .hidx) (g .idx) (m .marks) (m .node) hs hs′ (i .log .rising)
+        (i .log .hp-in) tT le e up w (j .head);
+    nodes = fewerN _ _ _ _ _ _ _ _ (λ n. hs′ (ofNode n)) _ (j .nodes) (mark-rest hs hs′ _ t w) (λ n. w .here (ofNode n));
     facts = λ u. upd-ind (m .thr) t s (λ u s. FactsOf (setMark m t a) g p u s) u f (λ ne.
         facts-map (m .node) (m .node) (g .who) (g .who) (g .idx) (g .idx) (g .own) (g .own) (g .base u) (g .len) (g .len) (p .item) (p .item) (p .pp)
         (p .pp) (p .safe) (p .safe)

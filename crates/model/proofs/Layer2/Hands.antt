@@ -10,8 +10,8 @@ use Rattle.model.specs.Basics.{upd}
 use Rattle.model.specs.Lines.{ofNode}
 use Rattle.model.specs.Core.{Th, Core, Node, a2, d1, d7}
 use Rattle.model.specs.Changes.{setLast, setTh, setFree, setHeld}
-use Rattle.model.specs.Machine.{Hist, hasNode}
 use Rattle.model.proofs.Basics.{upd-ind, upd-other, upd-at, facet}
+use Rattle.model.proofs.Times.{Hist}
 use Rattle.model.proofs.Layer1.Ghost.{Gh, Inv, Place, posOf, waiting, deqd, kept, enqd, spare}
 use Rattle.model.proofs.Layer1.Places.{before, tag}
 use Rattle.model.proofs.Layer1.D4.{r}
@@ -23,12 +23,12 @@ use Rattle.model.proofs.Layer2.Invariant.{PInv, Facts, lowOf, markOf, f
 -- ---- a change of hands that keeps the place in the log
 
 module _ (hs : Hist) (m : Core) (g : Gh) (p : Pg) (j : PInv hs m g p) (n : ℕ) (o : Place) (po : posOf o ≡ posOf (g .own n))
-    (qt : (c : Node) → hasNode c (hs (ofNode n)) → Quiet (g .idx (p .pp)) c o) (gn : (q : ℕ) → q < g .len → g .who q ≡ n → Gone (p .pp) q o) where
+    (qt : (c : Node) → hs (ofNode n) c → Quiet (g .idx (p .pp)) c o) (gn : (q : ℕ) → q < g .len → g .who q ≡ n → Gone (p .pp) q o) where
   pub handsP : NodeP (g .len) (p .pp) (g .who) (g .idx) (p .item) (upd (g .own) n o) (m .node) (λ n. hs (ofNode n)) (p .safe)
   handsP = record {
     cached = j .nodes .cached;
     linked = j .nodes .linked;
-    quiet = λ k c h. upd-ind (g .own) n o (λ k x. hasNode c (hs (ofNode k)) → Quiet (g .idx (p .pp)) c x) k (λ h. qt c h) (λ ne h. j .nodes .quiet k c h) h;
+    quiet = λ k c h. upd-ind (g .own) n o (λ k x. hs (ofNode k) c → Quiet (g .idx (p .pp)) c x) k (λ h. qt c h) (λ ne h. j .nodes .quiet k c h) h;
     gone = λ q h. gg q h (ℕ-discrete (g .who q) n);
     values = λ q l. j .nodes .values q (subst (λ f. f (g .who q) ≡ some q) (facet posOf (g .own) n o po) l);
     safely = j .nodes .safely;
@@ -53,7 +53,7 @@ module _ (hs : Hist) (m : Core) (g : Gh) (p : Pg) (i : Inv m g) (j : PInv hs m g
   goneOf : (n q : ℕ) (o : Place) → g .own n ≡ o → q < g .len → g .who q ≡ n → Gone (p .pp) q o
   goneOf n q o f h w = rw (w, f) at (j .nodes .gone q h)
 
-  quietOf : (n : ℕ) (c : Node) (o : Place) → g .own n ≡ o → hasNode c (hs (ofNode n)) → Quiet (g .idx (p .pp)) c o
+  quietOf : (n : ℕ) (c : Node) (o : Place) → g .own n ≡ o → hs (ofNode n) c → Quiet (g .idx (p .pp)) c o
   quietOf n c o f h = rw f at (j .nodes .quiet n c h)
 
   pub A1P : (t v n : ℕ) (free : ℕ → Bool) → g .own n ≡ spare → PInv hs (setTh (setLast (setFree m free (m .wait)) n) t (a2 v n)) (ownG g n (enqd t)) p
@@ -123,7 +123,7 @@ module _ (hs : Hist) (m : Core) (g : Gh) (p : Pg) (i : Inv m g) (j : PInv hs m g
       known c (inr k) = let w = idx-mono (g .idx) (g .len) (i .log .rising) (k .at) (p .pp) (omega (arith, gn (k .at) (k .inside) (k .is)))
           (omega (arith, j .head .pp-hp, i .log .hp-in)) in omega (arith, k .ix)
 
-      qt : (c : Node) → hasNode c (hs (ofNode h)) → c .linked ≡ true → c .index ≤ g .idx (p .pp)
+      qt : (c : Node) → hs (ofNode h) c → c .linked ≡ true → c .index ≤ g .idx (p .pp)
       qt c l z = known c (j .nodes .linked h c l z)
 
   -- the beginning of an operation

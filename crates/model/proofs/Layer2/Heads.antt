@@ -1,29 +1,23 @@
--- What the lists of contents of head lines can hold, and how they change.
+-- What the contents of head lines can be, and how they change.
 use mathlib.Core.Path.{_≡_, refl, sym, subst, ap, _∙_}
-use mathlib.Core.List.{List, [], _∷_}
-use mathlib.Core.Logic.{_≢_, _⊎_, inl, inr}
+use mathlib.Core.Logic.{_⊎_, inl, inr}
 use Prim.Native.Nat.{ℕ, zero, suc, _≤_, _<_, max}
 use native.Mathlib.Omega.{arith}
 use native.Mathlib.Decide.{decLt, decLe, ℕ-discrete}
-use Rattle.model.specs.Basics.{upd}
-use Rattle.model.specs.Lines.{push}
-use Rattle.model.specs.Core.{Node, hd, sameNode}
+use Rattle.model.specs.Core.{Node, hd}
 use Rattle.model.specs.Recovery.{largest}
-use Rattle.model.specs.Machine.{hasNode}
-use Rattle.model.proofs.Basics.{upd-ind, upd-same}
-use Rattle.model.proofs.Lines.{push-old, push-new}
-use Rattle.model.proofs.Layer2.Contents.{idx-mono, fewer}
+use Rattle.model.proofs.Layer2.Contents.{idx-mono}
 
--- H head lines with contents cur: each list holds indices of places up to Head's, or none that a start did not find; in one of them,
+-- H head lines that hold cur: the contents of each are indices of places up to Head's, or none that a start did not find; in one of them,
 -- the anchor, nothing is older than pp
-pub record HeadP (H hp pp : ℕ) (idx : ℕ → ℕ) (cur : ℕ → ℕ) (hh : ℕ → List Node) : Type 0 where
+pub record HeadP (H hp pp : ℕ) (idx : ℕ → ℕ) (cur : ℕ → ℕ) (hh : ℕ → Node → Type 0) : Type 0 where
   pub pp-hp : pp ≤ hp
-  pub heads : (k : ℕ) → k < H → (c : Node) → hasNode c (hh k) → (c .index ≤ idx 0) ⊎ ((p : ℕ) × (p ≤ hp) × (c .index ≡ idx p))
-  pub present : (k : ℕ) → k < H → hasNode (hd (cur k)) (hh k)
-  pub plain : (k : ℕ) → k < H → (c : Node) → hasNode c (hh k) → c ≡ hd (c .index)
+  pub heads : (k : ℕ) → k < H → (c : Node) → hh k c → (c .index ≤ idx 0) ⊎ ((p : ℕ) × (p ≤ hp) × (c .index ≡ idx p))
+  pub present : (k : ℕ) → k < H → hh k (hd (cur k))
+  pub plain : (k : ℕ) → k < H → (c : Node) → hh k c → c ≡ hd (c .index)
   pub anchor : ℕ
   pub anchor-in : anchor < H
-  pub anchored : (c : Node) → hasNode c (hh anchor) → idx pp ≤ c .index
+  pub anchored : (c : Node) → hh anchor c → idx pp ≤ c .index
 
 pub largest-le : (n : ℕ) (f : ℕ → ℕ) (k : ℕ) → k < n → f k ≤ largest n f
 unfolding largest
@@ -48,7 +42,7 @@ largest-is (suc n) f h = by (decLt (f n) (largest n f)) (decLt 0 n) (largest-is 
     by (yes z) (no w) r = absurd (omega (arith, zero-of n w))
     by (no z) w r = (n, omega arith, omega arith)
 
-module _ (H hp pp len : ℕ) (idx cur : ℕ → ℕ) (hh : ℕ → List Node) (rising : (p q : ℕ) → p < q → q < len → idx p < idx q) (hp-in : hp < len)
+module _ (H hp pp len : ℕ) (idx cur : ℕ → ℕ) (hh : ℕ → Node → Type 0) (rising : (p q : ℕ) → p < q → q < len → idx p < idx q) (hp-in : hp < len)
     (i : HeadP H hp pp idx cur hh) where
   back-le : (p q : ℕ) → p < len → idx p ≤ idx q → p ≤ q
   back-le p q h k = by (decLt q p)
@@ -81,75 +75,60 @@ module _ (H hp pp len : ℕ) (idx cur : ℕ → ℕ) (hh : ℕ → List Node) (r
       by (inl z) = omega (arith, idx-mono idx len rising 0 hp (omega arith) hp-in)
       by (inr z) = omega (arith, z .2, idx-mono idx len rising (z .0) hp (z .1) hp-in)
 
-  -- a head line is raised to the index of a place
-  pub raisedH : (k a p : ℕ) (cur′ : ℕ → ℕ) → p ≤ hp → a ≡ idx p → cur k ≤ a → k < H → cur′ k ≡ a → ((j : ℕ) → j ≢ k → cur′ j ≡ cur j)
-      → HeadP H hp pp idx cur′ (upd hh k (push sameNode (hh k) (hd a)))
-  raisedH k a p cur′ ple e le kh ck co = record {
+  -- there are no more contents than there were
+  pub fewerH : (hh′ : ℕ → Node → Type 0) → ((k : ℕ) (c : Node) → hh′ k c → hh k c) → ((k : ℕ) → hh′ k (hd (cur k))) → HeadP H hp pp idx cur hh′
+  fewerH hh′ fewer here = record {
     pp-hp = i .pp-hp;
-    heads = λ j h c. upd-ind hh k (push sameNode (hh k) (hd a)) (λ j l. j < H → hasNode c l → (c .index ≤ idx 0) ⊎ ((p : ℕ) × (p ≤ hp) × (c .index ≡ idx p))) j
-        (λ h l. new c (push-old (hh k) (hd a) c l)) (λ ne h l. i .heads j h c l) h;
-    present = λ j h. upd-ind hh k (push sameNode (hh k) (hd a)) (λ j l. j < H → hasNode (hd (cur′ j)) l) j
-        (λ h. rw ck (push-new (hh k) (hd a))) (λ ne h. rw (co j ne) (i .present j h)) h;
-    plain = λ j h c. upd-ind hh k (push sameNode (hh k) (hd a)) (λ j l. j < H → hasNode c l → c ≡ hd (c .index)) j
-        (λ h l. flat c (push-old (hh k) (hd a) c l)) (λ ne h l. i .plain j h c l) h;
+    heads = λ j h c l. i .heads j h c (fewer j c l);
+    present = λ j h. here j;
+    plain = λ j h c l. i .plain j h c (fewer j c l);
     anchor = i .anchor;
     anchor-in = i .anchor-in;
-    anchored = λ c. upd-ind hh k (push sameNode (hh k) (hd a)) (λ j l. j ≡ i .anchor → hasNode c l → idx pp ≤ c .index) (i .anchor)
-        (λ z l. mark c z (push-old (hh k) (hd a) c l)) (λ ne z l. i .anchored c l) refl;
+    anchored = λ c l. i .anchored c (fewer (i .anchor) c l);
+  }
+
+  -- a head line is raised to the index of a place
+  pub raisedH : (hh′ : ℕ → Node → Type 0) (k a p : ℕ) (cur′ : ℕ → ℕ) → ((j : ℕ) (c : Node) → hh′ j c → hh j c ⊎ ((j ≡ k) × (c ≡ hd a)))
+      → ((j : ℕ) → hh′ j (hd (cur′ j))) → p ≤ hp → a ≡ idx p → cur k ≤ a → k < H → HeadP H hp pp idx cur′ hh′
+  raisedH hh′ k a p cur′ more here ple e le kh = record {
+    pp-hp = i .pp-hp;
+    heads = λ j h c l. new j h c (more j c l);
+    present = λ j h. here j;
+    plain = λ j h c l. flat j h c (more j c l);
+    anchor = i .anchor;
+    anchor-in = i .anchor-in;
+    anchored = λ c l. mark c (more (i .anchor) c l);
   }
     where
-      new : (c : Node) → hasNode c (hh k) ⊎ (c ≡ hd a) → (c .index ≤ idx 0) ⊎ ((p : ℕ) × (p ≤ hp) × (c .index ≡ idx p))
-      new c (inl l) = i .heads k kh c l
-      new c (inr z) = inr (p, ple, ap (λ y. y .index) z ∙ e)
+      new : (j : ℕ) → j < H → (c : Node) → hh j c ⊎ ((j ≡ k) × (c ≡ hd a)) → (c .index ≤ idx 0) ⊎ ((p : ℕ) × (p ≤ hp) × (c .index ≡ idx p))
+      new j h c (inl l) = i .heads j h c l
+      new j h c (inr z) = inr (p, ple, ap (λ y. y .index) (z .1) ∙ e)
 
-      flat : (c : Node) → hasNode c (hh k) ⊎ (c ≡ hd a) → c ≡ hd (c .index)
-      flat c (inl l) = i .plain k kh c l
-      flat c (inr z) = z ∙ ap hd (sym (ap (λ y. y .index) z))
+      flat : (j : ℕ) → j < H → (c : Node) → hh j c ⊎ ((j ≡ k) × (c ≡ hd a)) → c ≡ hd (c .index)
+      flat j h c (inl l) = i .plain j h c l
+      flat j h c (inr z) = z .1 ∙ ap hd (sym (ap (λ y. y .index) (z .1)))
 
-      mark : (c : Node) → k ≡ i .anchor → hasNode c (hh k) ⊎ (c ≡ hd a) → idx pp ≤ c .index
-      mark c z (inl l) = i .anchored c (subst (λ y. hasNode c (hh y)) z l)
-      mark c z (inr w) = let ix : c .index ≡ a = ap (λ y. y .index) w in
-          omega (arith, i .anchored (hd (cur k)) (subst (λ y. hasNode (hd (cur k)) (hh y)) z (i .present k kh)))
+      mark : (c : Node) → hh (i .anchor) c ⊎ ((i .anchor ≡ k) × (c ≡ hd a)) → idx pp ≤ c .index
+      mark c (inl l) = i .anchored c l
+      mark c (inr z) = let ix : c .index ≡ a = ap (λ y. y .index) (z .1) in
+          omega (arith, i .anchored (hd (cur k)) (subst (λ y. hh y (hd (cur k))) (sym (z .0)) (i .present k kh)))
 
-  -- a head line is persisted: some place is, and its content is no newer
-  pub record Kept (k : ℕ) : Type 0 where
+  -- of a head line nothing older than f is left, f being what some line held: some place is persisted, and f is no newer
+  pub record Kept (hh′ : ℕ → Node → Type 0) (f : ℕ) : Type 0 where
     pub pp′ : ℕ
     pub up : pp ≤ pp′
     pub top : idx pp ≤ idx pp′
-    pub reach : cur k ≤ idx pp′
-    pub head : HeadP H hp pp′ idx cur (upd hh k (hd (cur k) ∷ []))
+    pub reach : f ≤ idx pp′
+    pub head : HeadP H hp pp′ idx cur hh′
 
-  pub keptH : (k : ℕ) → k < H → Kept k
-  keptH k kh = by (i .heads k kh (hd (cur k)) (i .present k kh))
+  pub keptH : (hh′ : ℕ → Node → Type 0) (k f : ℕ) → k < H → (f ≤ idx 0) ⊎ ((p : ℕ) × (p ≤ hp) × (f ≡ idx p))
+      → ((j : ℕ) (c : Node) → hh′ j c → hh j c) → ((j : ℕ) → hh′ j (hd (cur j))) → ((c : Node) → hh′ k c → f ≤ c .index) → Kept hh′ f
+  keptH hh′ k f kh fp fewer here low = by fp
     where
-      only : (c : Node) → hasNode c (hd (cur k) ∷ []) → c ≡ hd (cur k)
-      only c (inl e) = e
-      only c (inr z) = absurd z
+      stay : f ≤ idx pp → Kept hh′ f
+      stay le = record { pp′ = pp; up = omega arith; top = omega arith; reach = le; head = fewerH hh′ fewer here }
 
-      fewer : (j : ℕ) (c : Node) → hasNode c (upd hh k (hd (cur k) ∷ []) j) → hasNode c (hh j)
-      fewer j c = upd-ind hh k (hd (cur k) ∷ []) (λ j l. hasNode c l → hasNode c (hh j)) j (λ l. rw (only c l) (i .present k kh)) (λ ne l. l)
-
-      here : (j : ℕ) → j < H → hasNode (hd (cur j)) (upd hh k (hd (cur k) ∷ []) j)
-      here j h = upd-ind hh k (hd (cur k) ∷ []) (λ j l. j < H → hasNode (hd (cur j)) l) j (λ h. inl refl) (λ ne h. i .present j h) h
-
-      stay : cur k ≤ idx pp → Kept k
-      stay le = record {
-        pp′ = pp;
-        up = omega arith;
-        top = omega arith;
-        reach = le;
-        head = record {
-          pp-hp = i .pp-hp;
-          heads = λ j h c l. i .heads j h c (fewer j c l);
-          present = here;
-          plain = λ j h c l. i .plain j h c (fewer j c l);
-          anchor = i .anchor;
-          anchor-in = i .anchor-in;
-          anchored = λ c l. i .anchored c (fewer (i .anchor) c l);
-        };
-      }
-
-      lift : (p : ℕ) → p ≤ hp → cur k ≡ idx p → Dec (p ≤ pp) → Kept k
+      lift : (p : ℕ) → p ≤ hp → f ≡ idx p → Dec (p ≤ pp) → Kept hh′ f
       lift p h e (yes z) = stay (omega (arith, idx-mono idx len rising p pp z (omega (arith, i .pp-hp))))
       lift p h e (no z) = record {
         pp′ = p;
@@ -159,20 +138,20 @@ module _ (H hp pp len : ℕ) (idx cur : ℕ → ℕ) (hh : ℕ → List Node) (r
         head = record {
           pp-hp = h;
           heads = λ j h c l. i .heads j h c (fewer j c l);
-          present = here;
+          present = λ j h. here j;
           plain = λ j h c l. i .plain j h c (fewer j c l);
           anchor = k;
           anchor-in = kh;
-          anchored = λ c l. omega (arith, ap (λ y. y .index) (only c (subst (λ y. hasNode c y) (upd-same hh k (hd (cur k) ∷ [])) l)));
+          anchored = λ c l. omega (arith, low c l);
         };
       }
 
-      by : (cur k ≤ idx 0) ⊎ ((p : ℕ) × (p ≤ hp) × (cur k ≡ idx p)) → Kept k
+      by : (f ≤ idx 0) ⊎ ((p : ℕ) × (p ≤ hp) × (f ≡ idx p)) → Kept hh′ f
       by (inl z) = stay (omega (arith, idx-mono idx len rising 0 pp (omega arith) (omega (arith, i .pp-hp))))
       by (inr z) = lift (z .0) (z .1) (z .2) (decLe (z .0) pp)
 
   -- the head index of an ending is that of a place between the persisted one and Head's
-  pub headH : (f : ℕ → ℕ) → ((k : ℕ) → k < H → hasNode (hd (f k)) (hh k)) → (p : ℕ) × (pp ≤ p) × (p ≤ hp) × (largest H f ≡ idx p)
+  pub headH : (f : ℕ → ℕ) → ((k : ℕ) → k < H → hh k (hd (f k))) → (p : ℕ) × (pp ≤ p) × (p ≤ hp) × (largest H f ≡ idx p)
   headH f c = by (i .heads (w .0) (w .1) (hd (f (w .0))) (c (w .0) (w .1)))
     where
       w : (k : ℕ) × (k < H) × (largest H f ≡ f k)

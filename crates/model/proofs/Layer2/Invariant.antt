@@ -4,16 +4,16 @@ use mathlib.Core.Bool.{Bool, true, false}
 use mathlib.Core.Option.{some}
 use Prim.Native.Nat.{ℕ, suc, _≤_, _<_}
 use native.Mathlib.Omega.{arith}
-use Rattle.model.specs.Lines.{ofHead, ofNode}
+use Rattle.model.specs.Lines.{Line, ofHead, ofNode}
 use Rattle.model.specs.Conf.{Engine, split, lineIx, lineOf, threadIx, headLines}
-use Rattle.model.specs.Core.{Th, Core, Node, idle, a1, a2, a3, a4, a5, a6, a7, a8, a9, a10, a11, a12, d1, d2, d3, d4, d5, d6, d7, s3, s6}
+use Rattle.model.specs.Core.{Th, Core, Node, content, idle, a1, a2, a3, a4, a5, a6, a7, a8, a9, a10, a11, a12, d1, d2, d3, d4, d5, d6, d7, s3, s6}
 use Rattle.model.specs.Changes.{setTh}
-use Rattle.model.specs.Machine.{Hist}
 use Rattle.model.specs.Places.{ownsE, ownsD}
 use Rattle.model.proofs.Basics.{upd-ind}
-use Rattle.model.proofs.Layer1.Ghost.{Gh, Place, deqd}
-use Rattle.model.proofs.Layer2.Contents.{Pg, NodeP}
-use Rattle.model.proofs.Layer2.Heads.{HeadP}
+use Rattle.model.proofs.Times.{Hist}
+use Rattle.model.proofs.Layer1.Ghost.{Gh, Inv, Place, deqd}
+use Rattle.model.proofs.Layer2.Contents.{Pg, NodeP, fewerN}
+use Rattle.model.proofs.Layer2.Heads.{HeadP, fewerH}
 
 -- the place of an enqueue that has persisted its node
 pub record SafeAt (who : ℕ → ℕ) (b len : ℕ) (safe : ℕ → Bool) (n : ℕ) : Type 0 where
@@ -114,6 +114,15 @@ pub record PInv (hs : Hist) (m : Core) (g : Gh) (p : Pg) : Type 0 where
   pub head : HeadP (headLines (m .conf)) (g .hp) (p .pp) (g .idx) (lineIx (m .conf .engine) (m .hidx) (m .marks)) (λ k. hs (ofHead k))
   pub nodes : NodeP (g .len) (p .pp) (g .who) (g .idx) (p .item) (g .own) (m .node) (λ n. hs (ofNode n)) (p .safe)
   pub facts : (t : ℕ) → FactsOf m g p t (m .thr t)
+
+-- there are no more contents than there were, and the present ones are among them
+pub fewerP : (hs hs′ : Hist) (m : Core) (g : Gh) (p : Pg) → Inv m g → ((l : Line) (c : Node) → hs′ l c → hs l c) → ((l : Line) → hs′ l (content m l)) → PInv hs m g p
+    → PInv hs′ m g p
+fewerP hs hs′ m g p i fewer here j = record {
+  head = fewerH _ _ _ (g .len) _ _ _ (i .log .rising) (i .log .hp-in) (j .head) (λ k. hs′ (ofHead k)) (λ k c. fewer (ofHead k) c) (λ k. here (ofHead k));
+  nodes = fewerN _ _ _ _ _ _ _ _ (λ n. hs′ (ofNode n)) _ (j .nodes) (λ n c. fewer (ofNode n) c) (λ n. here (ofNode n));
+  facts = j .facts;
+}
 
 -- a thread moves on, and nothing else changes
 pub gotoP : (hs : Hist) (m : Core) (g : Gh) (p : Pg) → PInv hs m g p → (t : ℕ) (s : Th) → FactsOf m g p t s → PInv hs (setTh m t s) g p

@@ -7,23 +7,40 @@ use mathlib.Core.Option.{some}
 use Prim.Native.Nat.{ℕ, suc, _≤_, _<_}
 use native.Mathlib.Omega.{arith}
 use Rattle.model.specs.Basics.{upd}
-use Rattle.model.specs.Lines.{ofHead, ofNode, updL, push}
+use Rattle.model.specs.Lines.{Line, ofHead, ofNode, stores, flushes}
 use Rattle.model.specs.Conf.{lineIx, headLines}
-use Rattle.model.specs.Core.{Th, Core, Node, sameNode, hd, idle, a9, a10, a11}
+use Rattle.model.specs.Core.{Th, Core, Node, content, idle, a9, a10, a11}
 use Rattle.model.specs.Changes.{setTh, store}
 use Rattle.model.specs.Steps.{leave, remove}
-use Rattle.model.specs.Machine.{Hist, hasNode}
 use Rattle.model.specs.Places.{ownsE}
-use Rattle.model.proofs.Basics.{upd-ind, upd-other, upd-same, upd-at}
+use Rattle.model.proofs.Basics.{upd-ind, upd-other, upd-same}
+use Rattle.model.proofs.Lines.{no-line}
+use Rattle.model.proofs.Times.{Hist, Grown}
 use Rattle.model.proofs.Layer1.Ghost.{Gh, Inv, Place, posOf, queue, waiting, deqd, kept, enqd, spare, off, poss, Live, Lnk, ixs}
 use Rattle.model.proofs.Layer1.Places.{tag}
 use Rattle.model.proofs.Layer1.Memory.{not-live}
 use Rattle.model.proofs.Layer1.Leave.{leaveG, release, rel-inv, rel-pos}
-use Rattle.model.proofs.Layer2.Contents.{Pg, Quiet, Gone, storedP, backed, pp-up, idx-mono, NodeP}
-use Rattle.model.proofs.Layer2.Heads.{Kept, keptH}
-use Rattle.model.proofs.Layer2.Invariant.{PInv, Facts, FactsOf, lowOf, markOf, facts-map}
+use Rattle.model.proofs.Layer2.Contents.{Pg, Quiet, Gone, storedP, fewerN, pp-up, idx-mono, NodeP}
+use Rattle.model.proofs.Layer2.Heads.{Kept, keptH, fewerH}
+use Rattle.model.proofs.Layer2.Invariant.{PInv, Facts, FactsOf, lowOf, markOf, facts-map, fewerP}
 use native.Mathlib.Decide.{ℕ-discrete}
 use Rattle.model.proofs.Layer1.D4.{r}
+
+-- a store to a node's line: that line gains the content, the others nothing
+pub node-more : (hs hs′ : Hist) (con : Line → Node) (n : ℕ) (a : Node) → con (ofNode n) ≡ a → Grown (stores (ofNode n)) con hs hs′ → (k : ℕ) (c : Node) → hs′ (ofNode k) c
+    → hs (ofNode k) c ⊎ ((k ≡ n) × (c ≡ a))
+node-more hs hs′ con n a e w k c h = by (w .made (ofNode k) c h)
+  where
+    by : hs (ofNode k) c ⊎ ((ofNode k ≡ ofNode n) × (c ≡ con (ofNode n))) → hs (ofNode k) c ⊎ ((k ≡ n) × (c ≡ a))
+    by (inl z) = inl z
+    by (inr z) = let f = z .0 in inr (cc, z .1 ∙ e)
+
+pub head-rest : (hs hs′ : Hist) (con : Line → Node) (n : ℕ) → Grown (stores (ofNode n)) con hs hs′ → (k : ℕ) (c : Node) → hs′ (ofHead k) c → hs (ofHead k) c
+head-rest hs hs′ con n w k c h = by (w .made (ofHead k) c h)
+  where
+    by : hs (ofHead k) c ⊎ ((ofHead k ≡ ofNode n) × (c ≡ con (ofNode n))) → hs (ofHead k) c
+    by (inl z) = z
+    by (inr z) = no-line k n (z .0)
 
 module _ (hs : Hist) (m : Core) (g : Gh) (p : Pg) (i : Inv m g) (j : PInv hs m g p) where
   -- the facts of another thread, where only contents change
@@ -42,39 +59,37 @@ module _ (hs : Hist) (m : Core) (g : Gh) (p : Pg) (i : Inv m g) (j : PInv hs m g
       (suc (l .pos), l .then, i .alive .live u (rw e) (suc (l .pos)) (omega (arith, l .lo)) (l .hi))
 
   -- a store to a node that an enqueue owns
-  pub storeP : (t n : ℕ) (c : Node) (s : Th) → g .own n ≡ enqd t → (c .linked ≡ true → c .index ≤ g .idx (p .pp)) → FactsOf (store m n c) g p t s
-      → PInv (updL hs (ofNode n) (push sameNode (hs (ofNode n)) (upd (m .node) n c n))) (setTh (store m n c) t s) g p
-  unfolding updL
-  storeP t n c s o q f = subst (λ z. PInv (updL hs (ofNode n) (push sameNode (hs (ofNode n)) z)) (setTh (store m n c) t s) g p)
-      (sym (upd-same (m .node) n c)) record {
-        head = j .head;
-        nodes = storedP (g .len) (p .pp) (g .who) (g .idx) (p .item) (g .own) (m .node) (λ n. hs (ofNode n)) (p .safe) (j .nodes) n c
-            (λ l. inl (q l)) (rw o q) (λ r l e. absurd (not-live m g i t n r o l e))
-            (λ r h e s. inl (let k : Gone (p .pp) r (enqd t) = rw (e, o) at (j .nodes .gone r h) in omega arith));
-        facts = λ u. upd-ind (m .thr) t s (λ u s. FactsOf (store m n c) g p u s) u f
-            (λ ne. keptFacts (upd (m .node) n c) u
-            (λ k e. upd-other (m .node) n c (λ z. ne (let a : g .own k ≡ enqd u = i .place .enq-own u k e in let b : g .own k ≡ enqd t = rw z o in cc)))
-            (λ v k x e l. let w = linked-live u v k x e in
-            ap (λ z. z .linked) (upd-other (m .node) n c (λ z. not-live m g i t n (w .0) o (w .2) (w .1 ∙ z))) ∙ l));
-      }
+  pub storeP : (hs′ : Hist) (t n : ℕ) (c : Node) (s : Th) → Grown (stores (ofNode n)) (content (store m n c)) hs hs′
+      → g .own n ≡ enqd t → (c .linked ≡ true → c .index ≤ g .idx (p .pp)) → FactsOf (store m n c) g p t s → PInv hs′ (setTh (store m n c) t s) g p
+  storeP hs′ t n c s w o q f = record {
+    head = fewerH _ _ _ (g .len) _ _ _ (i .log .rising) (i .log .hp-in) (j .head) (λ k. hs′ (ofHead k)) (head-rest hs hs′ _ n w) (λ k. w .here (ofHead k));
+    nodes = storedP (g .len) (p .pp) (g .who) (g .idx) (p .item) (g .own) (m .node) (λ n. hs (ofNode n)) (λ n. hs′ (ofNode n)) (p .safe) (j .nodes) n c
+        (node-more hs hs′ _ n c (upd-same (m .node) n c) w) (λ k. w .here (ofNode k))
+        (λ l. inl (q l)) (rw o q) (λ r l e. absurd (not-live m g i t n r o l e))
+        (λ r h e s. inl (let k : Gone (p .pp) r (enqd t) = rw (e, o) at (j .nodes .gone r h) in omega arith));
+    facts = λ u. upd-ind (m .thr) t s (λ u s. FactsOf (store m n c) g p u s) u f
+        (λ ne. keptFacts (upd (m .node) n c) u
+        (λ k e. upd-other (m .node) n c (λ z. ne (let a : g .own k ≡ enqd u = i .place .enq-own u k e in let b : g .own k ≡ enqd t = rw z o in cc)))
+        (λ v k x e l. let w = linked-live u v k x e in
+        ap (λ z. z .linked) (upd-other (m .node) n c (λ z. not-live m g i t n (w .0) o (w .2) (w .1 ∙ z))) ∙ l));
+  }
 
   -- A9: linked is set on a node that is in the log
-  pub A9P : (t v n x : ℕ) (c : Node) → m .thr t ≡ a9 v n x → c .linked ≡ true → c .index ≡ m .node n .index → c .item ≡ m .node n .item
-      → PInv (updL hs (ofNode n) (push sameNode (hs (ofNode n)) (upd (m .node) n c n))) (setTh (store m n c) t (a10 v n x)) g p
-  unfolding updL
-  A9P t v n x c e cl ci cv = subst (λ z. PInv (updL hs (ofNode n) (push sameNode (hs (ofNode n)) z)) (setTh (store m n c) t (a10 v n x)) g p)
-      (sym (upd-same (m .node) n c)) record {
-        head = j .head;
-        nodes = storedP (g .len) (p .pp) (g .who) (g .idx) (p .item) (g .own) (m .node) (λ n. hs (ofNode n)) (p .safe) (j .nodes) n c
-            (λ z. inr (record { at = suc (l .pos); inside = l .hi; is = l .then; ix = sym (ci ∙ ix); val = sym (cv ∙ val) }))
-            (qt (g .own n) refl)
-            (λ q lq w. cv ∙ ap (λ k. m .node k .item) (sym w) ∙ j .nodes .values q lq)
-            (λ r h w s. sf r (g .own n) lv (rw w at (j .nodes .gone r h)));
-        facts = λ u. upd-ind (m .thr) t (a10 v n x) (λ u s. FactsOf (store m n c) g p u s) u (ap (λ z. z .linked) (upd-same (m .node) n c) ∙ cl)
-            (λ ne. keptFacts (upd (m .node) n c) u
-            (λ k o. upd-other (m .node) n c (λ z. not-live m g i u k (suc (l .pos)) (i .place .enq-own u k o) live (l .then ∙ sym z)))
-            (λ v k x o w. upd-ind (m .node) n c (λ k z. m .node k .linked ≡ true → z .linked ≡ true) k (λ z. cl) (λ ne z. z) w));
-      }
+  pub A9P : (hs′ : Hist) (t v n x : ℕ) (c : Node) → Grown (stores (ofNode n)) (content (store m n c)) hs hs′
+      → m .thr t ≡ a9 v n x → c .linked ≡ true → c .index ≡ m .node n .index → c .item ≡ m .node n .item → PInv hs′ (setTh (store m n c) t (a10 v n x)) g p
+  A9P hs′ t v n x c w e cl ci cv = record {
+    head = fewerH _ _ _ (g .len) _ _ _ (i .log .rising) (i .log .hp-in) (j .head) (λ k. hs′ (ofHead k)) (head-rest hs hs′ _ n w) (λ k. w .here (ofHead k));
+    nodes = storedP (g .len) (p .pp) (g .who) (g .idx) (p .item) (g .own) (m .node) (λ n. hs (ofNode n)) (λ n. hs′ (ofNode n)) (p .safe) (j .nodes) n c
+        (node-more hs hs′ _ n c (upd-same (m .node) n c) w) (λ k. w .here (ofNode k))
+        (λ z. inr (record { at = suc (l .pos); inside = l .hi; is = l .then; ix = sym (ci ∙ ix); val = sym (cv ∙ val) }))
+        (qt (g .own n) refl)
+        (λ q lq w. cv ∙ ap (λ k. m .node k .item) (sym w) ∙ j .nodes .values q lq)
+        (λ r h w s. sf r (g .own n) lv (rw w at (j .nodes .gone r h)));
+    facts = λ u. upd-ind (m .thr) t (a10 v n x) (λ u s. FactsOf (store m n c) g p u s) u (ap (λ z. z .linked) (upd-same (m .node) n c) ∙ cl)
+        (λ ne. keptFacts (upd (m .node) n c) u
+        (λ k o. upd-other (m .node) n c (λ z. not-live m g i u k (suc (l .pos)) (i .place .enq-own u k o) live (l .then ∙ sym z)))
+        (λ v k x o w. upd-ind (m .node) n c (λ k z. m .node k .linked ≡ true → z .linked ≡ true) k (λ z. cl) (λ ne z. z) w));
+  }
     where
       l : Lnk (g .who) (g .base t) (g .len) x n
       l = rw e at (i .threads .refs t)
@@ -119,11 +134,13 @@ module _ (hs : Hist) (m : Core) (g : Gh) (p : Pg) (i : Inv m g) (j : PInv hs m g
       sf r off lo z = inl (omega arith)
 
   -- a head line is persisted
-  module _ (k : ℕ) (kh : k < headLines (m .conf)) where
+  module _ (hs′ : Hist) (k : ℕ) (kh : k < headLines (m .conf)) (w : Grown (flushes (ofHead k)) (content m) hs hs′) where
     abbrev pub keptP : Kept (headLines (m .conf)) (g .hp) (p .pp) (g .len) (g .idx) (lineIx (m .conf .engine) (m .hidx) (m .marks))
-        (λ k. hs (ofHead k)) (i .log .rising) (i .log .hp-in) (j .head) k
+        (λ k. hs (ofHead k)) (i .log .rising) (i .log .hp-in) (j .head) (λ k. hs′ (ofHead k)) (lineIx (m .conf .engine) (m .hidx) (m .marks) k)
     keptP = keptH (headLines (m .conf)) (g .hp) (p .pp) (g .len) (g .idx) (lineIx (m .conf .engine) (m .hidx) (m .marks)) (λ k. hs (ofHead k))
-        (i .log .rising) (i .log .hp-in) (j .head) k kh
+        (i .log .rising) (i .log .hp-in) (j .head) (λ k. hs′ (ofHead k)) k (lineIx (m .conf .engine) (m .hidx) (m .marks) k) kh
+        (j .head .heads k kh _ (j .head .present k kh)) (λ l c. w .made .0 (ofHead l) c) (λ l. w .here (ofHead l))
+        (λ c l. omega (arith, ap (λ y. y .index) (w .made .1 c l)))
 
     abbrev pub toHead : Pg
     toHead = record { item = p .item; pp = keptP .pp′; safe = p .safe }
@@ -134,23 +151,13 @@ module _ (hs : Hist) (m : Core) (g : Gh) (p : Pg) (i : Inv m g) (j : PInv hs m g
         (λ q h. refl) (λ q h. refl) (λ q h. refl) (λ q h s. s) (omega arith) (keptP .up) (omega arith) (omega arith) (m .thr u) (λ n e. refl)
         (λ v n x e l. l) (λ h q o e. e) (j .facts u)
 
-    pub headP : PInv (updL hs (ofHead k) (hd (lineIx (m .conf .engine) (m .hidx) (m .marks) k) ∷ [])) m g toHead
-    unfolding updL
+    pub headP : PInv hs′ m g toHead
     headP = record {
       head = keptP .head;
-      nodes = pp-up (g .len) (p .pp) (keptP .pp′) (g .who) (g .idx) (p .item) (g .own) (m .node) (λ n. hs (ofNode n)) (p .safe) (j .nodes)
-          (keptP .top) (keptP .up);
+      nodes = pp-up (g .len) (p .pp) (keptP .pp′) (g .who) (g .idx) (p .item) (g .own) (m .node) (λ n. hs′ (ofNode n)) (p .safe)
+          (fewerN _ _ _ _ _ _ _ _ (λ n. hs′ (ofNode n)) _ (j .nodes) (λ n c. w .made .0 (ofNode n) c) (λ n. w .here (ofNode n))) (keptP .top) (keptP .up);
       facts = headFacts;
     }
-
-  -- a node's line is persisted
-  pub backP : (n : ℕ) → PInv (updL hs (ofNode n) (m .node n ∷ [])) m g p
-  unfolding updL
-  backP n = record {
-    head = j .head;
-    nodes = backed (g .len) (p .pp) (g .who) (g .idx) (p .item) (g .own) (m .node) (λ n. hs (ofNode n)) (p .safe) (j .nodes) n;
-    facts = j .facts;
-  }
 
   -- a thread leaves
   pub leaveP : (t : ℕ) → PInv hs (leave m t) (leaveG g (λ n. remove t (m .wait n))) p
@@ -195,12 +202,10 @@ module _ (hs : Hist) (m : Core) (g : Gh) (p : Pg) (i : Inv m g) (j : PInv hs m g
       rg r off w k = k
 
   -- A10: the line is persisted, and the place is safe
-  pub A10P : (t v n x : ℕ) → m .thr t ≡ a10 v n x → (l : Lnk (g .who) (g .base t) (g .len) x n)
-      → PInv (updL hs (ofNode n) (m .node n ∷ [])) (setTh m t (a11 v n x)) g
-      (record { item = p .item; pp = p .pp; safe = upd (p .safe) (suc (l .pos)) true })
-  unfolding updL
-  A10P t v n x e l = record {
-    head = j .head;
+  pub A10P : (hs′ : Hist) (t v n x : ℕ) → Grown (flushes (ofNode n)) (content m) hs hs′ → m .thr t ≡ a10 v n x → (l : Lnk (g .who) (g .base t) (g .len) x n)
+      → PInv hs′ (setTh m t (a11 v n x)) g (record { item = p .item; pp = p .pp; safe = upd (p .safe) (suc (l .pos)) true })
+  A10P hs′ t v n x w e l = record {
+    head = f .head;
     nodes = record {
       cached = b .cached;
       linked = b .linked;
@@ -218,19 +223,20 @@ module _ (hs : Hist) (m : Core) (g : Gh) (p : Pg) (i : Inv m g) (j : PInv hs m g
         (λ ne w. w) s) (omega arith) (omega arith) (omega arith) (omega arith) (m .thr u) (λ n e. refl) (λ v n x e l. l) (λ h q o w. w) (j .facts u));
   }
     where
-      b : NodeP (g .len) (p .pp) (g .who) (g .idx) (p .item) (g .own) (m .node) (upd (λ k. hs (ofNode k)) n (m .node n ∷ [])) (p .safe)
-      b = backed (g .len) (p .pp) (g .who) (g .idx) (p .item) (g .own) (m .node) (λ n. hs (ofNode n)) (p .safe) (j .nodes) n
+      f : PInv hs′ m g p
+      f = fewerP hs hs′ m g p i (w .made .0) (w .here) j
+
+      b : NodeP (g .len) (p .pp) (g .who) (g .idx) (p .item) (g .own) (m .node) (λ n. hs′ (ofNode n)) (p .safe)
+      b = f .nodes
 
       ix : m .node n .index ≡ g .idx (suc (l .pos))
       ix = ap (ixs (m .node)) (sym (l .then)) ∙ i .link .indices (suc (l .pos)) (i .alive .live t (rw e) (suc (l .pos)) (omega (arith, l .lo)) (l .hi))
 
-      one : (c : Node) → (c ≡ m .node n) ⊎ ⊥ → (c .linked ≡ true) × (c .index ≡ g .idx (suc (l .pos)))
-      one c (inl f) = (ap (λ z. z .linked) f ∙ (rw e at (j .facts t)), ap (λ z. z .index) f ∙ ix)
-      one c (inr z) = absurd z
+      one : (c : Node) → c ≡ m .node n → (c .linked ≡ true) × (c .index ≡ g .idx (suc (l .pos)))
+      one c f = (ap (λ z. z .linked) f ∙ (rw e at (j .facts t)), ap (λ z. z .index) f ∙ ix)
 
       sf : (q : ℕ) → q < g .len → upd (p .safe) (suc (l .pos)) true q ≡ true → Dec (q ≡ suc (l .pos))
-          → (q ≤ p .pp) ⊎ ((c : Node) → hasNode c (upd (λ k. hs (ofNode k)) n (m .node n ∷ []) (g .who q))
-          → (c .linked ≡ true) × (c .index ≡ g .idx q))
+          → (q ≤ p .pp) ⊎ ((c : Node) → hs′ (ofNode (g .who q)) c → (c .linked ≡ true) × (c .index ≡ g .idx q))
       sf q h s (yes f) = inr (λ c k. subst (λ y. (c .linked ≡ true) × (c .index ≡ g .idx y)) (sym f)
-          (one c (subst (λ z. hasNode c z) (upd-at (λ k. hs (ofNode k)) n (m .node n ∷ []) (ap (g .who) f ∙ l .then)) k)))
+          (one c (w .made .1 c (subst (λ y. hs′ (ofNode y) c) (ap (g .who) f ∙ l .then) k))))
       sf q h s (no f) = b .safely q h (sym (upd-other (p .safe) (suc (l .pos)) true f) ∙ s)

@@ -7,17 +7,17 @@ use mathlib.Core.Option.{none, some}
 use Prim.Native.Nat.{ℕ, zero, suc, _≤_, _<_}
 use native.Mathlib.Omega.{arith}
 use Rattle.model.specs.Basics.{upd}
-use Rattle.model.specs.Lines.{after}
-use Rattle.model.specs.Core.{Th, Core, content, sameNode, Ans, item, busy, idle}
+use Rattle.model.specs.Lines.{nowhere}
+use Rattle.model.specs.Core.{Th, Core, content, Ans, item, busy, idle}
 use Rattle.model.specs.Steps.{Out, remove, leave}
-use Rattle.model.specs.Machine.{Hist}
 use Rattle.model.specs.Bench.{Book, noteMove, closes}
 use Rattle.model.specs.Places.{ownsE, ownsD}
+use Rattle.model.proofs.Times.{Hist, Grown}
 use Rattle.model.proofs.Layer1.Ghost.{Gh, Inv, Place, deqd, off}
 use Rattle.model.proofs.Layer1.Places.{tag}
 use Rattle.model.proofs.Layer1.Leave.{left, rel-inv, release}
 use Rattle.model.proofs.Layer2.Contents.{Pg}
-use Rattle.model.proofs.Layer2.Invariant.{PInv}
+use Rattle.model.proofs.Layer2.Invariant.{PInv, fewerP}
 use Rattle.model.proofs.Layer2.Stores.{leaveP}
 use Rattle.model.proofs.Layer3.Effects.{Lin, What, put, get, saw, nay, hasL, Fresh, Sound, Effect, Fits}
 use Rattle.model.proofs.Layer3.Invariant.{Mark, CurOf, LinI, CurI}
@@ -58,8 +58,8 @@ seg-ext it it′ zero h = refl
 seg-ext it it′ (suc b) h = rw (seg-ext it it′ b (λ p l. h p (omega arith)), h b (omega arith)) refl
 
 -- what is to be shown of a step of thread t
-abbrev pub AfterStep : Hist → Book → List ℕ → ℕ → ℕ → Out → Type 0
-AfterStep hs b q₀ now t o = All (after sameNode (o .touch) (content (o .core)) hs) (o .core) (noteMove b now t (o .ans)) q₀ (suc now)
+abbrev pub AfterStep : Hist → Hist → Book → List ℕ → ℕ → ℕ → Out → Type 0
+AfterStep hs hs′ b q₀ now t o = Grown (o .touch) (content (o .core)) hs hs′ → All hs′ (o .core) (noteMove b now t (o .ans)) q₀ (suc now)
 
 module _ (hs : Hist) (m : Core) (b : Book) (q₀ : List ℕ) (now : ℕ) (a : All hs m b q₀ now) (t : ℕ) where
   -- what the operation of thread t has done so far
@@ -67,6 +67,10 @@ module _ (hs : Hist) (m : Core) (b : Book) (q₀ : List ℕ) (now : ℕ) (a : Al
       → CurOf (b .op (b .cur t) .call) (a .lin) (a .g .hp) (a .g .who) (a .g .own) (a .g .base t) (a .g .len) t (b .cur t) s
   cu s e bs = subst (λ s. CurOf (b .op (b .cur t) .call) (a .lin) (a .g .hp) (a .g .who) (a .g .own) (a .g .base t) (a .g .len) t (b .cur t) s) e
       (a .curs .state t (rw e bs))
+
+  -- the second layer, where no line is touched
+  pub quiet : (hs′ : Hist) → Grown nowhere (content m) hs hs′ → PInv hs′ m (a .g) (a .p)
+  quiet hs′ w = fewerP hs hs′ m (a .g) (a .p) (a .inv) (w .made) (w .here) (a .pinv)
 
   -- a thread moves on: nothing takes effect
   module _ (s : Th) (bt : busy (m .thr t) ≡ true) where

@@ -10,14 +10,15 @@ use native.Mathlib.Decide.{decLt}
 use lib.Dec.{eqb}
 use Rattle.model.specs.Basics.{upd}
 use Rattle.model.specs.Conf.{sameHead, Engine, shared, split, lineIx, lineOf, lineCount, threadIx, headLines}
-use Rattle.model.specs.Core.{Th, Core, empty, item, busy, idle, d1, d2, d3, d4, d5, d6, d7, s3, s6}
+use Rattle.model.specs.Core.{content, Th, Core, empty, item, busy, idle, d1, d2, d3, d4, d5, d6, d7, s3, s6}
+use Rattle.model.specs.Lines.{nowhere, flushes, ofHead}
 use Rattle.model.specs.Changes.{setHeld, setTh}
-use Rattle.model.specs.Steps.{emptyTo, itemTo, Out, leave, step, stepD2, stepD4, retireHeld}
-use Rattle.model.specs.Machine.{Hist}
+use Rattle.model.specs.Steps.{reply, emptyTo, itemTo, Out, step, stepD2, stepD4, retireHeld}
 use Rattle.model.specs.Lawful.{taking}
 use Rattle.model.specs.Bench.{Book, closes}
 use Rattle.model.specs.Places.{ownsE, ownsD}
 use Rattle.model.proofs.Basics.{upd-same, upd-upd, true→eq}
+use Rattle.model.proofs.Times.{Hist, Grown}
 use Rattle.model.proofs.Layer1.Ghost.{off, Inv, waiting, kept, deqd, Hd, Spot, ixs}
 use Rattle.model.proofs.Layer1.Places.{before, tag, off-same}
 use Rattle.model.proofs.Layer1.Goto.{goto}
@@ -27,14 +28,14 @@ use Rattle.model.proofs.Layer1.Hands.{ownG}
 use Rattle.model.proofs.Layer1.D7.{retired, holding, kp, dq₂, dropHeld}
 use Rattle.model.proofs.Layer1.Stops.{leave-again, hold-again, same-number}
 use Rattle.model.proofs.Layer2.Contents.{idx-mono}
-use Rattle.model.proofs.Layer2.Invariant.{FactsOf, lowOf, markOf, Got, gotoP}
+use Rattle.model.proofs.Layer2.Invariant.{PInv, FactsOf, lowOf, markOf, Got, gotoP}
 use Rattle.model.proofs.Layer2.Stores.{keptP, toHead, headP}
 use Rattle.model.proofs.Layer2.Hands.{retiredP, holdingP}
 use Rattle.model.proofs.Layer2.D4.{D4P, markP}
 use Rattle.model.proofs.Layer3.Effects.{Lin, get, saw, Fresh, Fits}
 use Rattle.model.proofs.Layer3.Invariant.{Mark, CurOf}
 use Rattle.model.proofs.Layer3.Changes.{tickL, addL, moveC}
-use Rattle.model.proofs.Layer3.All.{All, sound-len, moved, went, answered, other, AfterStep, cu}
+use Rattle.model.proofs.Layer3.All.{All, sound-len, moved, went, answered, other, AfterStep, cu, quiet}
 use Rattle.model.proofs.Layer2.Heads.{low-cur}
 
 -- ---- what the engine must give: a thread's line is one of the head lines; what a thread has stored is no newer than Head
@@ -56,12 +57,15 @@ low-split : (E : Engine) (i t a k : ℕ) (f : ℕ → ℕ) → E ≡ split → k
 low-split shared i t a k f e h = let z : _≡_ {A = ℕ} 0 1 = cc in absurd (omega arith)
 low-split split i t a k f e h = rw (upd-same f t a) h
 
-module _ (hs : Hist) (m : Core) (b : Book) (q₀ : List ℕ) (now : ℕ) (a : All hs m b q₀ now) (t : ℕ) where
+module _ (hs hs′ : Hist) (m : Core) (b : Book) (q₀ : List ℕ) (now : ℕ) (a : All hs m b q₀ now) (t : ℕ) where
   abbrev After : Out → Type 0
-  After = AfterStep hs b q₀ now t
+  After = AfterStep hs hs′ b q₀ now t
+
+  pv : Grown nowhere (content m) hs hs′ → PInv hs′ m (a .g) (a .p)
+  pv w = quiet hs m b q₀ now a t hs′ w
 
   pub sD1 : m .thr t ≡ d1 → After (step m t d1)
-  sD1 e = went hs m b q₀ now a t (d2 (m .hnode) (m .hidx)) (rw e) _ _ (D1 m (a .g) (a .inv) t e) (gotoP hs m (a .g) (a .p) (a .pinv) t (d2 (m .hnode) (m .hidx))
+  sD1 e w = went hs m b q₀ now a t (d2 (m .hnode) (m .hidx)) (rw e) _ _ (D1 m (a .g) (a .inv) t e) (gotoP hs′ m (a .g) (a .p) (pv w) t (d2 (m .hnode) (m .hidx))
       (rw (a .inv .log .head-ix) (thread-low (m .conf .engine) (m .conf .threads) t (a .g .idx (a .g .hp)) (m .hidx) (m .marks) (a .inv .alive .range t (rw e))
       (low-cur _ _ _ (a .g .len) _ _ _ (a .inv .log .rising) (a .inv .log .hp-in) (a .pinv .head))))) refl refl (cu hs m b q₀ now a t d1 e refl)
 
@@ -79,17 +83,17 @@ module _ (hs : Hist) (m : Core) (b : Book) (q₀ : List ℕ) (now : ℕ) (a : Al
     abbrev sawIt : List Lin
     sawIt = record { by = b .cur t; at = now; what = saw (a .g .hp) } ∷ a .lin
 
-    sD2to : (s : Th) → Inv (setTh m t s) (a .g) → FactsOf m (a .g) (a .p) t s
+    sD2to : (s : Th) → Grown nowhere (content m) hs hs′ → Inv (setTh m t s) (a .g) → FactsOf m (a .g) (a .p) t s
         → ((p : ℕ) × (a .g .base t ≤ p) × (p < a .g .len) × (a .g .who p ≡ h) × Mark sawIt (b .cur t) (saw p)
         → CurOf (b .op (b .cur t) .call) sawIt (a .g .hp) (a .g .who) (a .g .own) (a .g .base t) (a .g .len) t (b .cur t) s)
-        → All hs (setTh m t s) b q₀ (suc now)
-    sD2to s iv fs cs = record {
+        → All hs′ (setTh m t s) b q₀ (suc now)
+    sD2to s w iv fs cs = record {
       g = a .g;
       p = a .p;
       first = a .first;
       lin = sawIt;
       inv = iv;
-      pinv = gotoP hs m (a .g) (a .p) (a .pinv) t s fs;
+      pinv = gotoP hs′ m (a .g) (a .p) (pv w) t s fs;
       lins = tickL _ _ _ _ _ _ _ _ _ _ (addL _ _ _ _ _ _ _ _ _ _ (a .lins) (b .cur t) (saw (a .g .hp)) (a .g .len) (a .g .hp) (a .p .item) (a .p .safe)
           (refl, omega (arith, at-end, r₂ .hi, a .inv .log .hp-in), a .lins .sound) (a .curs .lt t (rw e)) (a .curs .pending t (rw e)) (c .1)
           (omega arith) (λ q h. refl) (λ q h z. z)
@@ -111,44 +115,44 @@ module _ (hs : Hist) (m : Core) (b : Book) (q₀ : List ℕ) (now : ℕ) (a : Al
         c : (b .op (b .cur t) .call ≡ taking) × Fresh (b .cur t) (a .lin)
         c = cu hs m b q₀ now a t (d2 h k) e refl
 
-    sD2none : (E : Engine) → m .conf .engine ≡ E → All hs (setTh m t (emptyTo E h k)) b q₀ (suc now)
-    sD2none shared w = sD2to (d3 h k) (toEmpty m (a .g) (a .inv) t shared h k e)
-        (low-shared (m .conf .engine) (m .hidx) t k (m .marks) w (omega (arith, a .inv .log .head-ix, r₂ .ix, ap (a .g .idx) at-head))) (λ z. z)
-    sD2none split w = sD2to (s3 h k) (toEmpty m (a .g) (a .inv) t split h k e) (w, rw e at (a .pinv .facts t)) (λ z. z)
+    sD2none : Grown nowhere (content m) hs hs′ → (E : Engine) → m .conf .engine ≡ E → All hs′ (setTh m t (emptyTo E h k)) b q₀ (suc now)
+    sD2none w shared en = sD2to (d3 h k) w (toEmpty m (a .g) (a .inv) t shared h k e)
+        (low-shared (m .conf .engine) (m .hidx) t k (m .marks) en (omega (arith, a .inv .log .head-ix, r₂ .ix, ap (a .g .idx) at-head))) (λ z. z)
+    sD2none w split en = sD2to (s3 h k) w (toEmpty m (a .g) (a .inv) t split h k e) (en, rw e at (a .pinv .facts t)) (λ z. z)
 
   pub sD2 : (h k : ℕ) → m .thr t ≡ d2 h k → (o : Option ℕ) → m .next h ≡ o → After (stepD2 m t h k o)
-  sD2 h k e none f = sD2none h k e f (m .conf .engine) refl
-  sD2 h k e (some x) f = went hs m b q₀ now a t (d4 h k x) (rw e) _ _ (D2 m (a .g) (a .inv) t h k e (some x) f)
-      (gotoP hs m (a .g) (a .p) (a .pinv) t (d4 h k x) (rw e at (a .pinv .facts t))) refl refl (cu hs m b q₀ now a t (d2 h k) e refl)
+  sD2 h k e none f w = sD2none h k e f w (m .conf .engine) refl
+  sD2 h k e (some x) f w = went hs m b q₀ now a t (d4 h k x) (rw e) _ _ (D2 m (a .g) (a .inv) t h k e (some x) f)
+      (gotoP hs′ m (a .g) (a .p) (pv w) t (d4 h k x) (rw e at (a .pinv .facts t))) refl refl (cu hs m b q₀ now a t (d2 h k) e refl)
 
   -- a place whose index is no newer than what the thread persists is persisted
-  module _ (bt : busy (m .thr t) ≡ true) where
+  module _ (bt : busy (m .thr t) ≡ true) (w : Grown (flushes (ofHead (lineOf (m .conf .engine) t))) (content m) hs hs′) where
     abbrev my : lineOf (m .conf .engine) t < headLines (m .conf)
     my = line-in (m .conf .engine) (m .conf .threads) t (a .inv .alive .range t bt)
 
     abbrev ppD : ℕ
-    ppD = toHead hs m (a .g) (a .p) (a .inv) (a .pinv) (lineOf (m .conf .engine) t) my .pp
+    ppD = toHead hs m (a .g) (a .p) (a .inv) (a .pinv) hs′ (lineOf (m .conf .engine) t) my w .pp
 
     reached : (q : ℕ) → q < a .g .len → a .g .idx q ≤ lowOf m t → q ≤ ppD
     reached q h le = by (decLt ppD q)
       where
         kp : lowOf m t ≤ a .g .idx ppD
-        kp = keptP hs m (a .g) (a .p) (a .inv) (a .pinv) (lineOf (m .conf .engine) t) my .reach
+        kp = keptP hs m (a .g) (a .p) (a .inv) (a .pinv) hs′ (lineOf (m .conf .engine) t) my w .reach
 
         by : Dec (ppD < q) → q ≤ ppD
         by (yes z) = absurd (omega (arith, kp, a .inv .log .rising ppD q z h))
         by (no z) = omega arith
 
   pub sD3 : (h k : ℕ) → m .thr t ≡ d3 h k → After (step m t (d3 h k))
-  sD3 h k e =
-      answered hs m b q₀ now a t (rw e) _ m (a .g .own) (a .g .tp) (ppD (rw e)) (a .p .safe) (a .inv)
-      (headP hs m (a .g) (a .p) (a .inv) (a .pinv) (lineOf (m .conf .engine) t) (my (rw e))) (rw e) (rw e) refl refl (λ k. (λ z. z, λ z. z))
-      (keptP hs m (a .g) (a .p) (a .inv) (a .pinv) (lineOf (m .conf .engine) t) (my (rw e)) .up) (λ q z. z) (λ u h q ne o z. z)
+  sD3 h k e w =
+      answered hs m b q₀ now a t (rw e) _ m (a .g .own) (a .g .tp) (ppD (rw e) w) (a .p .safe) (a .inv)
+      (headP hs m (a .g) (a .p) (a .inv) (a .pinv) hs′ (lineOf (m .conf .engine) t) (my (rw e) w) w) (rw e) (rw e) refl refl (λ k. (λ z. z, λ z. z))
+      (keptP hs m (a .g) (a .p) (a .inv) (a .pinv) hs′ (lineOf (m .conf .engine) t) (my (rw e) w) w .up) (λ q z. z) (λ u h q ne o z. z)
       (saw (c .0)) empty (c .4) (
         f .0,
         ap (λ y. b .op y .call) (sym (c .4 .its))
             ∙ f .1,
-        inr (refl, reached (rw e) (c .0) (c .2) (omega (arith, fc, r .ix, ap (a .g .idx) one))),
+        inr (refl, reached (rw e) w (c .0) (c .2) (omega (arith, fc, r .ix, ap (a .g .idx) one))),
       )
     where
       c : (p : ℕ) × (a .g .base t ≤ p) × (p < a .g .len) × (a .g .who p ≡ h) × Mark (a .lin) (b .cur t) (saw p)
@@ -167,13 +171,13 @@ module _ (hs : Hist) (m : Core) (b : Book) (q₀ : List ℕ) (now : ℕ) (a : Al
       fc = rw e at (a .pinv .facts t)
 
   pub sD4 : (h k x : ℕ) → m .thr t ≡ d4 h k x → (c : Bool) → sameHead (m .conf .engine) (eqb (m .hnode) h) (eqb (m .hidx) k) ≡ c → After (stepD4 m t h x c)
-  sD4 h k x e true f = record {
+  sD4 h k x e true f w = record {
     g = _;
     p = a .p;
     first = a .first;
     lin = record { by = b .cur t; at = now; what = get (suc (a .g .hp)) } ∷ a .lin;
     inv = D4yes m (a .g) (a .inv) t h k x e eh;
-    pinv = D4P hs m (a .g) (a .p) (a .inv) (a .pinv) t h k x e eh;
+    pinv = D4P hs m (a .g) (a .p) (a .inv) (a .pinv) t h k x e eh hs′ w;
     lins = tickL _ _ _ _ _ _ _ _ _ _ (addL _ _ _ _ _ _ _ _ _ _ (a .lins) (b .cur t) (get (suc (a .g .hp))) (a .g .len) (suc (a .g .hp)) (a .p .item)
         (a .p .safe)
         (a .g .hp, refl, refl, mo, a .lins .sound) (a .curs .lt t (rw e)) (a .curs .pending t (rw e)) (c .1) (omega arith) (λ q h. refl) (λ q h z. z)
@@ -198,11 +202,11 @@ module _ (hs : Hist) (m : Core) (b : Book) (q₀ : List ℕ) (now : ℕ) (a : Al
 
       mo : suc (a .g .hp) < a .g .len
       mo = more m (a .g) (a .inv) t h k x e eh
-  sD4 h k x e false f = went hs m b q₀ now a t d1 (rw e) _ _ (D4no m (a .g) (a .inv) t h k x e) (gotoP hs m (a .g) (a .p) (a .pinv) t d1 tt) refl refl
+  sD4 h k x e false f w = went hs m b q₀ now a t d1 (rw e) _ _ (D4no m (a .g) (a .inv) t h k x e) (gotoP hs′ m (a .g) (a .p) (pv w) t d1 tt) refl refl
       (cu hs m b q₀ now a t (d4 h k x) e refl)
 
   pub sD5 : (h x : ℕ) → m .thr t ≡ d5 h x → After (step m t (d5 h x))
-  sD5 h x e = by (m .conf .engine) refl
+  sD5 h x e w = by (m .conf .engine) refl
     where
       v : ℕ
       v = m .node x .item
@@ -222,20 +226,20 @@ module _ (hs : Hist) (m : Core) (b : Book) (q₀ : List ℕ) (now : ℕ) (a : Al
       low q o = let s : Spot (a .g .who) (a .g .hp) (a .g .len) h (deqd t q) = rw o at (a .inv .place .spot h) in
           omega (arith, a .inv .log .head-ix, idx-mono (a .g .idx) (a .g .len) (a .inv .log .rising) (suc q) (a .g .hp) (s .1) (a .inv .log .hp-in))
 
-      by : (E : Engine) → m .conf .engine ≡ E → All hs (setTh m t (itemTo E h x v)) b q₀ (suc now)
-      by shared w = went hs m b q₀ now a t (d6 h v) (rw e) hs (setTh m t (d6 h v)) (D5 m (a .g) (a .inv) t shared h x v e)
-          (gotoP hs m (a .g) (a .p) (a .pinv) t (d6 h v)
-          (λ q o. (got q o, low-shared (m .conf .engine) (m .hidx) t (a .g .idx (suc q)) (m .marks) w (low q o)))) refl refl
+      by : (E : Engine) → m .conf .engine ≡ E → All hs′ (setTh m t (itemTo E h x v)) b q₀ (suc now)
+      by shared en = went hs m b q₀ now a t (d6 h v) (rw e) hs′ (setTh m t (d6 h v)) (D5 m (a .g) (a .inv) t shared h x v e)
+          (gotoP hs′ m (a .g) (a .p) (pv w) t (d6 h v)
+          (λ q o. (got q o, low-shared (m .conf .engine) (m .hidx) t (a .g .idx (suc q)) (m .marks) en (low q o)))) refl refl
           (cu hs m b q₀ now a t (d5 h x) e refl)
-      by split w = went hs m b q₀ now a t (s6 h x v) (rw e) hs (setTh m t (s6 h x v)) (D5 m (a .g) (a .inv) t split h x v e)
-          (gotoP hs m (a .g) (a .p) (a .pinv) t (s6 h x v) (w, λ q o. let r = fc q o in (r .0, r .2, r .3, got q o))) refl refl
+      by split en = went hs m b q₀ now a t (s6 h x v) (rw e) hs′ (setTh m t (s6 h x v)) (D5 m (a .g) (a .inv) t split h x v e)
+          (gotoP hs′ m (a .g) (a .p) (pv w) t (s6 h x v) (en, λ q o. let r = fc q o in (r .0, r .2, r .3, got q o))) refl refl
           (cu hs m b q₀ now a t (d5 h x) e refl)
 
   -- the two stores of an engine with an index line for each thread
   pub sS3 : (h k : ℕ) → m .thr t ≡ s3 h k → After (step m t (s3 h k))
-  sS3 h k e = went hs m b q₀ now a t (d3 h k) (rw e) _ _ (S3 m (a .g) (a .inv) t h k (m .node h .index) e)
+  sS3 h k e w = went hs m b q₀ now a t (d3 h k) (rw e) _ _ (S3 m (a .g) (a .inv) t h k (m .node h .index) e)
       (markP hs m (a .g) (a .p) (a .inv) (a .pinv) t (m .node h .index) (r .pos) (d3 h k) (fc .0) (a .inv .alive .range t (rw e)) (r .hi) ix
-      (omega (arith, fc .1, ix, r .ix))
+      (omega (arith, fc .1, ix, r .ix)) hs′ w
       (low-split (m .conf .engine) (m .hidx) t (m .node h .index) k (m .marks) (fc .0) (omega (arith, ix, r .ix)))) refl refl
       (cu hs m b q₀ now a t (s3 h k) e refl)
     where
@@ -250,9 +254,9 @@ module _ (hs : Hist) (m : Core) (b : Book) (q₀ : List ℕ) (now : ℕ) (a : Al
           (a .inv .alive .live t (rw e) (r .pos) (r .lo) (omega (arith, r .hi, a .inv .log .hp-in)))
 
   pub sS6 : (h x v : ℕ) → m .thr t ≡ s6 h x v → After (step m t (s6 h x v))
-  sS6 h x v e = went hs m b q₀ now a t (d6 h v) (rw e) _ _ (S6 m (a .g) (a .inv) t h x v (m .node x .index) e)
+  sS6 h x v e w = went hs m b q₀ now a t (d6 h v) (rw e) _ _ (S6 m (a .g) (a .inv) t h x v (m .node x .index) e)
       (markP hs m (a .g) (a .p) (a .inv) (a .pinv) t (m .node x .index) (suc (d .0)) (d6 h v) (fc .0) (a .inv .alive .range t (rw e)) (sp .1) ix
-      (omega (arith, r .2, ix))
+      (omega (arith, r .2, ix)) hs′ w
       (λ q o. (
         fc .1 q o .3,
         low-split (m .conf .engine) (m .hidx) t (m .node x .index) (a .g .idx (suc q)) (m .marks) (fc .0)
@@ -278,13 +282,13 @@ module _ (hs : Hist) (m : Core) (b : Book) (q₀ : List ℕ) (now : ℕ) (a : Al
       one q o = let w = sym o ∙ d .1 in cc
 
   pub sD6 : (h v : ℕ) → m .thr t ≡ d6 h v → After (step m t (d6 h v))
-  sD6 h v e =
+  sD6 h v e w =
       let fc : FactsOf m (a .g) (a .p) t (d6 h v) = rw e at (a .pinv .facts t) in
-      moved hs m b q₀ now a t (d7 h v) (rw e) _ (setTh m t (d7 h v)) (a .g .own) (a .g .tp) (ppD (rw e)) (a .p .safe)
+      moved hs m b q₀ now a t (d7 h v) (rw e) _ (setTh m t (d7 h v)) (a .g .own) (a .g .tp) (ppD (rw e) w) (a .p .safe)
       (goto m (a .g) (a .inv) t (d7 h v) (rw e) (rw e) (rw e) tt tt)
-      (gotoP _ m (a .g) _ (headP hs m (a .g) (a .p) (a .inv) (a .pinv) (lineOf (m .conf .engine) t) (my (rw e))) t (d7 h v)
-      (λ q o. let r = fc q o in (r .0, (let z = reached (rw e) (suc q) (r .0 .inside) (r .1) in omega arith))))
-      refl (λ k. (λ z. z, λ z. z)) refl (keptP hs m (a .g) (a .p) (a .inv) (a .pinv) (lineOf (m .conf .engine) t) (my (rw e)) .up) (λ q z. z)
+      (gotoP _ m (a .g) _ (headP hs m (a .g) (a .p) (a .inv) (a .pinv) hs′ (lineOf (m .conf .engine) t) (my (rw e) w) w) t (d7 h v)
+      (λ q o. let r = fc q o in (r .0, (let z = reached (rw e) w (suc q) (r .0 .inside) (r .1) in omega arith))))
+      refl (λ k. (λ z. z, λ z. z)) refl (keptP hs m (a .g) (a .p) (a .inv) (a .pinv) hs′ (lineOf (m .conf .engine) t) (my (rw e) w) w .up) (λ q z. z)
       (λ u h q ne o z. z) (cu hs m b q₀ now a t (d6 h v) e refl)
 
   -- what a dequeue that answers knows
@@ -301,33 +305,32 @@ module _ (hs : Hist) (m : Core) (b : Book) (q₀ : List ℕ) (now : ℕ) (a : Al
         let k = fc q o in
         (r .0, ap (λ y. b .op y .call) (sym (mk .its)) ∙ r .1, inr (ap item (k .0 .val), k .1))
 
-  pub sD7 : (h v : ℕ) → m .thr t ≡ d7 h v → (o : Option ℕ) → m .held t ≡ o → All hs (leave (setHeld (retireHeld m t o) t h) t)
-      (closes b now t (item v)) q₀ (suc now)
-  sD7 h v e none f =
+  pub sD7 : (h v : ℕ) → m .thr t ≡ d7 h v → (o : Option ℕ) → m .held t ≡ o → After (reply (setHeld (retireHeld m t o) t h) t (item v))
+  sD7 h v e none f w =
       let d = dq₂ m (a .g) (a .inv) t h v e f in
-      subst (λ z. All hs z (closes b now t (item v)) q₀ (suc now)) (leave-again (setHeld m t h) t d1)
-      (answered hs m b q₀ now a t (rw e) hs (setTh (setHeld m t h) t d1) (upd (a .g .own) h (kept t (d .0))) (a .g .tp) (a .p .pp) (a .p .safe)
-      (holding m (a .g) (a .inv) t h v e f) (holdingP hs m (a .g) (a .p) (a .inv) (a .pinv) t h v (d .0) e (d .1))
+      subst (λ z. All hs′ z (closes b now t (item v)) q₀ (suc now)) (leave-again (setHeld m t h) t d1)
+      (answered hs m b q₀ now a t (rw e) hs′ (setTh (setHeld m t h) t d1) (upd (a .g .own) h (kept t (d .0))) (a .g .tp) (a .p .pp) (a .p .safe)
+      (holding m (a .g) (a .inv) t h v e f) (holdingP hs′ m (a .g) (a .p) (a .inv) (pv w) t h v (d .0) e (d .1))
       (ap ownsE (upd-same (m .thr) t d1)) (ap ownsD (upd-same (m .thr) t d1)) (upd-upd (m .thr) t d1 idle) refl
       (off-same (a .g .own) h (kept t (d .0)) (d .1) (λ w. omega (arith, ap tag w)) (λ w. omega (arith, ap tag w))) (omega arith) (λ q z. z)
       (λ u h′ q ne o z. before (a .g .own) h (kept t (d .0)) h′ (λ y. omega (arith, ap tag y)) z .1)
       (get (suc (d .0))) (item v) (mk h v (d .0) e (d .1)) (fit h v (d .0) e (d .1)))
-  sD7 h v e (some n) f =
+  sD7 h v e (some n) f w =
       let m₁ = dropHeld (retireHeld m t (some n)) t in
       let k = kp m (a .g) (a .inv) t h v n e f in
       let g₁ = ownG (a .g) n (waiting (k .0)) in
       let i₁ = retired m (a .g) (a .inv) t h v n e f in
-      let j₁ = retiredP hs m (a .g) (a .p) (a .inv) (a .pinv) t n (k .0) m₁ (k .1) in
+      let j₁ = retiredP hs′ m (a .g) (a .p) (a .inv) (pv w) t n (k .0) m₁ (k .1) in
       let d = dq₂ m₁ g₁ i₁ t h v e (upd-same (m .held) t none) in
       let d₀ = before (a .g .own) n (waiting (k .0)) h (λ y. omega (arith, ap tag y)) (d .1) .1 in
       let hands : (y : ℕ) → (a .g .own y ≡ off) ↔ (upd (upd (a .g .own) n (waiting (k .0))) h (kept t (d .0)) y ≡ off) = λ y.
       let s₁ = off-same (a .g .own) n (waiting (k .0)) (k .1) (λ w. omega (arith, ap tag w)) (λ w. omega (arith, ap tag w)) y in
       let s₂ = off-same (upd (a .g .own) n (waiting (k .0))) h (kept t (d .0)) (d .1) (λ w. omega (arith, ap tag w)) (λ w. omega (arith, ap tag w)) y in
       (λ z. s₂ .0 (s₁ .0 z), λ z. s₁ .1 (s₂ .1 z)) in
-      subst (λ z. All hs z (closes b now t (item v)) q₀ (suc now)) (leave-again (setHeld m₁ t h) t d1 ∙ hold-again (retireHeld m t (some n)) t h)
-      (answered hs m b q₀ now a t (rw e) hs (setTh (setHeld m₁ t h) t d1) (upd (upd (a .g .own) n (waiting (k .0))) h (kept t (d .0))) (a .g .tp)
+      subst (λ z. All hs′ z (closes b now t (item v)) q₀ (suc now)) (leave-again (setHeld m₁ t h) t d1 ∙ hold-again (retireHeld m t (some n)) t h)
+      (answered hs m b q₀ now a t (rw e) hs′ (setTh (setHeld m₁ t h) t d1) (upd (upd (a .g .own) n (waiting (k .0))) h (kept t (d .0))) (a .g .tp)
       (a .p .pp) (a .p .safe)
-      (holding m₁ g₁ i₁ t h v e (upd-same (m .held) t none)) (holdingP hs m₁ g₁ (a .p) i₁ j₁ t h v (d .0) e (d .1))
+      (holding m₁ g₁ i₁ t h v e (upd-same (m .held) t none)) (holdingP hs′ m₁ g₁ (a .p) i₁ j₁ t h v (d .0) e (d .1))
       (ap ownsE (upd-same (m .thr) t d1)) (ap ownsD (upd-same (m .thr) t d1)) (upd-upd (m .thr) t d1 idle) refl hands (omega arith) (λ q z. z)
       (λ u h′ q ne o z. before (a .g .own) n (waiting (k .0)) h′ (λ y. omega (arith, ap tag y))
       (before (upd (a .g .own) n (waiting (k .0))) h (kept t (d .0)) h′ (λ y. omega (arith, ap tag y)) z .1) .1)

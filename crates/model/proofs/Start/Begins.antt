@@ -11,15 +11,15 @@ use lib.Dec.{eqb, eqb-refl, ltb, ltb→lt}
 use lib.ListN.{length, getD}
 use lib.Seq.{take-length}
 use Rattle.model.specs.Basics.{sel, upd, bothb, has}
-use Rattle.model.specs.Lines.{push}
-use Rattle.model.specs.Core.{Core, content, Node, sameNode, withIndex}
+use Rattle.model.specs.Lines.{Line, ofHead, ofNode}
+use Rattle.model.specs.Core.{Core, content, Node, withIndex}
 use Rattle.model.specs.Choice.{lowest}
 use Rattle.model.specs.Recovery.{Image, headOf, imageHas, recovered, queueOf, orZero, start, start′, itemsOf}
-use Rattle.model.specs.Machine.{Hist, starts, hasNode}
+use Rattle.model.specs.Machine.{Has, starts}
 use Rattle.model.specs.Bench.{newBook}
 use Rattle.model.specs.Demand3.{Fit}
 use Rattle.model.proofs.Basics.{upd-ind, upd-other, upd-same, yes-of, T-of, eq-no, lt-no, both-of, not-true, not-of}
-use Rattle.model.proofs.Lines.{push-old, push-new}
+use Rattle.model.proofs.Times.{Hist, startHas, startHere}
 use Rattle.model.proofs.Layer1.Ghost.{Gh, Inv, Place, queue, spare, off, Marks, Spot}
 use Rattle.model.proofs.Layer2.Contents.{Pg, Known, Quiet}
 use Rattle.model.proofs.Layer2.Invariant.{PInv}
@@ -41,9 +41,6 @@ module _ (g : Image) (ft : Fit g) (ty : (n : ℕ) → g .conf .nodes ≤ n → r
 
   is-start : start g ≡ mk
   is-start = ap (λ o. start′ g (orZero o) (queueOf (g .at) (headOf g) (g .conf .nodes))) (low .1)
-
-  abbrev hs₀ : Hist
-  hs₀ = λ l. push sameNode (imageHas g l ∷ []) (content mk l)
 
   abbrev L : List ℕ
   L = low .0 ∷ queueOf (g .at) (headOf g) (g .conf .nodes)
@@ -178,19 +175,6 @@ module _ (g : Image) (ft : Fit g) (ty : (n : ℕ) → g .conf .nodes ≤ n → r
     threads = record { refs = λ t. tt; mine = λ t. tt };
   }
 
-  -- the contents of a line after a start
-  contents : (n : ℕ) (c : Node) → hasNode c (push sameNode (g .at n ∷ []) (nd n)) → (c ≡ g .at n) ⊎ ((n ≡ low .0) × (c ≡ withIndex (g .at (low .0)) (headOf g)))
-  contents n c h = by (push-old (g .at n ∷ []) (nd n) c h)
-    where
-      new : (c ≡ nd n) → (c ≡ g .at n) ⊎ ((n ≡ low .0) × (c ≡ withIndex (g .at (low .0)) (headOf g)))
-      new e = upd-ind (g .at) (low .0) (withIndex (g .at (low .0)) (headOf g))
-          (λ n x. c ≡ x → (c ≡ g .at n) ⊎ ((n ≡ low .0) × (c ≡ withIndex (g .at (low .0)) (headOf g)))) n (λ z. inr (refl, z)) (λ ne z. inl z) e
-
-      by : ((c ≡ g .at n) ⊎ ⊥) ⊎ (c ≡ nd n) → (c ≡ g .at n) ⊎ ((n ≡ low .0) × (c ≡ withIndex (g .at (low .0)) (headOf g)))
-      by (inl (inl e)) = inl e
-      by (inl (inr z)) = absurd z
-      by (inr e) = new e
-
   key₀ : key (low .0) ≡ headOf g
   key₀ = ap (λ z. z .index) (upd-same (g .at) (low .0) (withIndex (g .at (low .0)) (headOf g)))
 
@@ -247,26 +231,37 @@ module _ (g : Image) (ft : Fit g) (ty : (n : ℕ) → g .conf .nodes ≤ n → r
       )
       by c (inr e) = absurd (rec-ne (who₀ (suc p)) r (e .0))
 
-  pinv₀ : PInv hs₀ mk gh pg
-  unfolding start′ headOf
-  pinv₀ = record {
-    head = heads₀ g (λ p. key (who₀ p)) key₀ (g .conf .engine) (g .conf .threads) (ft .lined) refl;
-    nodes = record {
-      cached = λ n. push-new (g .at n ∷ []) (nd n);
-      linked = λ n c h l. linked₀ n c (contents n c h) l;
-      quiet = λ n c h. quiet₀ n c (find n L) refl (contents n c h);
-      gone = λ p h. rw (own-at p h) (inl refl);
-      values = λ r l. refl;
-      safely = λ p h s. sf p (safe₀ p h);
-    };
-    facts = λ t. tt;
-  }
-    where
-      sf : (p : ℕ) → (p ≤ 0) ⊎ ((c : Node) → (c ≡ g .at (who₀ p)) ⊎ ((who₀ p ≡ low .0) × (c ≡ withIndex (g .at (low .0)) (headOf g)))
-          → (c .linked ≡ true) × (c .index ≡ key (who₀ p)))
-          → (p ≤ 0) ⊎ ((c : Node) → hasNode c (push sameNode (g .at (who₀ p) ∷ []) (nd (who₀ p))) → (c .linked ≡ true) × (c .index ≡ key (who₀ p)))
-      sf p (inl z) = inl z
-      sf p (inr f) = inr (λ c h. f c (contents (who₀ p) c h))
+  -- the contents hs of the lines: what was persisted, and what is cached
+  module _ (hs : Hist) (only : (l : Line) (c : Node) → hs l c → (c ≡ imageHas g l) ⊎ (c ≡ content mk l)) (here : (l : Line) → hs l (content mk l)) where
+    contents : (n : ℕ) (c : Node) → hs (ofNode n) c → (c ≡ g .at n) ⊎ ((n ≡ low .0) × (c ≡ withIndex (g .at (low .0)) (headOf g)))
+    unfolding start′
+    contents n c h = by (only (ofNode n) c h)
+      where
+        by : (c ≡ g .at n) ⊎ (c ≡ nd n) → (c ≡ g .at n) ⊎ ((n ≡ low .0) × (c ≡ withIndex (g .at (low .0)) (headOf g)))
+        by (inl e) = inl e
+        by (inr e) = upd-ind (g .at) (low .0) (withIndex (g .at (low .0)) (headOf g))
+            (λ n x. c ≡ x → (c ≡ g .at n) ⊎ ((n ≡ low .0) × (c ≡ withIndex (g .at (low .0)) (headOf g)))) n (λ z. inr (refl, z)) (λ ne z. inl z) e
+
+    pinv₀ : PInv hs mk gh pg
+    unfolding start′ headOf
+    pinv₀ = record {
+      head = heads₀ g (λ p. key (who₀ p)) key₀ (g .conf .engine) (g .conf .threads) (λ k. hs (ofHead k)) (λ k c. only (ofHead k) c) (λ k. here (ofHead k)) (ft .lined) refl;
+      nodes = record {
+        cached = λ n. here (ofNode n);
+        linked = λ n c h l. linked₀ n c (contents n c h) l;
+        quiet = λ n c h. quiet₀ n c (find n L) refl (contents n c h);
+        gone = λ p h. rw (own-at p h) (inl refl);
+        values = λ r l. refl;
+        safely = λ p h s. sf p (safe₀ p h);
+      };
+      facts = λ t. tt;
+    }
+      where
+        sf : (p : ℕ) → (p ≤ 0) ⊎ ((c : Node) → (c ≡ g .at (who₀ p)) ⊎ ((who₀ p ≡ low .0) × (c ≡ withIndex (g .at (low .0)) (headOf g)))
+            → (c .linked ≡ true) × (c .index ≡ key (who₀ p)))
+            → (p ≤ 0) ⊎ ((c : Node) → hs (ofNode (who₀ p)) c → (c .linked ≡ true) × (c .index ≡ key (who₀ p)))
+        sf p (inl z) = inl z
+        sf p (inr f) = inr (λ c h. f c (contents (who₀ p) c h))
 
   roots₀ : itemsOf g ≡ seg (λ p. nd (who₀ p) .item) (λ k. true) 0 (length L)
   unfolding itemsOf
@@ -287,15 +282,16 @@ module _ (g : Image) (ft : Fit g) (ty : (n : ℕ) → g .conf .nodes ≤ n → r
       by none e = rw (lt-no n (g .conf .nodes) h) refl
       by (some p) e = let w = find-is n L p e in absurd (omega (arith, under (subst (λ y. has y L) (w .1) (has-getD L p (w .0)))))
 
-  all₀ : (now : ℕ) → All hs₀ mk newBook (itemsOf g) now
+  all₀ : (hs : Hist) → ((l : Line) (c : Node) → hs l c → (c ≡ imageHas g l) ⊎ (c ≡ content mk l)) → ((l : Line) → hs l (content mk l))
+      → (now : ℕ) → All hs mk newBook (itemsOf g) now
   unfolding start′
-  all₀ now = record {
+  all₀ hs only here now = record {
     g = gh;
     p = pg;
     first = length L;
     lin = [];
     inv = inv₀;
-    pinv = pinv₀;
+    pinv = pinv₀ hs only here;
     lins = record {
       sound = (refl, refl);
       notwo = tt;
@@ -310,5 +306,10 @@ module _ (g : Image) (ft : Fit g) (ty : (n : ℕ) → g .conf .nodes ≤ n → r
     table = λ n. (table₀ n, inside₀ (g .conf .nodes) n (find n L));
   }
 
-  pub begins : (now : ℕ) → All (starts g .hist) (starts g .core) newBook (itemsOf g) now
-  begins now = subst (λ m. All (λ l. push sameNode (imageHas g l ∷ []) (content m l)) m newBook (itemsOf g) now) (sym is-start) (all₀ now)
+  pub begins : (hs : Hist) → ((l : Line) (c : Node) → hs l c → (c ≡ imageHas g l) ⊎ (c ≡ content (start g) l)) → ((l : Line) → hs l (content (start g) l))
+      → (now : ℕ) → All hs (start g) newBook (itemsOf g) now
+  begins hs = subst (λ m. ((l : Line) (c : Node) → hs l c → (c ≡ imageHas g l) ⊎ (c ≡ content m l)) → ((l : Line) → hs l (content m l))
+      → (now : ℕ) → All hs m newBook (itemsOf g) now) (sym is-start) (all₀ hs)
+
+  pub startAll : (now : ℕ) → All (Has (starts g)) (start g) newBook (itemsOf g) now
+  startAll = begins (Has (starts g)) (startHas g) (startHere g)

@@ -1,7 +1,7 @@
 -- Parts of a start: where a node is by its place in the list, what is so of it there, and the head lines.
 use mathlib.Core.Path.{_≡_, refl, sym, ap, _∙_}
 use mathlib.Core.Bool.{Bool, true, false}
-use mathlib.Core.List.{List, [], _∷_}
+use mathlib.Core.List.{List}
 use mathlib.Core.Logic.{_⊎_, inl, inr}
 use mathlib.Core.Option.{Option, none, some}
 use Prim.Native.Nat.{ℕ, zero, suc, _≤_, _<_}
@@ -9,12 +9,10 @@ use native.Mathlib.Omega.{arith}
 use native.Mathlib.Decide.{decLt}
 use lib.Dec.{T, ltb, lt→ltb}
 use Rattle.model.specs.Basics.{sel}
-use Rattle.model.specs.Lines.{push}
 use Rattle.model.specs.Conf.{lineIx, Engine, shared, split, lineCount}
-use Rattle.model.specs.Core.{hd, Node, sameNode}
+use Rattle.model.specs.Core.{hd, Node}
 use Rattle.model.specs.Recovery.{Image, headOf, largest, recovered}
 use Rattle.model.proofs.Basics.{yes-of, lt-true}
-use Rattle.model.proofs.Lines.{push-old, push-new}
 use Rattle.model.proofs.Layer1.Ghost.{Place, queue, kept, spare, off, Holder, Awaits}
 use Rattle.model.proofs.Layer2.Heads.{HeadP, largest-is, largest-le}
 
@@ -74,25 +72,25 @@ module _ (N : ℕ) where
 
 module _ (g : Image) (idx : ℕ → ℕ) (i₀ : idx 0 ≡ headOf g) where
   -- the head lines: one of them has the largest index
-  pub heads₀ : (E : Engine) (T : ℕ) → 0 < lineCount E T → headOf g ≡ largest (lineCount E T) (g .heads)
-      → HeadP (lineCount E T) 0 0 idx (lineIx E (headOf g) (g .heads))
-      (λ k. push sameNode (hd (g .heads k) ∷ []) (hd (lineIx E (headOf g) (g .heads) k)))
-  heads₀ E T h e = record {
+  pub heads₀ : (E : Engine) (T : ℕ) (hh : ℕ → Node → Type 0)
+      → ((k : ℕ) (c : Node) → hh k c → (c ≡ hd (g .heads k)) ⊎ (c ≡ hd (lineIx E (headOf g) (g .heads) k)))
+      → ((k : ℕ) → hh k (hd (lineIx E (headOf g) (g .heads) k))) → 0 < lineCount E T → headOf g ≡ largest (lineCount E T) (g .heads)
+      → HeadP (lineCount E T) 0 0 idx (lineIx E (headOf g) (g .heads)) hh
+  heads₀ E T hh only here h e = record {
     pp-hp = omega arith;
-    heads = λ k l c z. inl (omega (arith, i₀, below k l c (push-old (hd (g .heads k) ∷ []) _ c z)));
-    present = λ k l. push-new (hd (g .heads k) ∷ []) _;
-    plain = λ k l c z. flat c (g .heads k) (lineIx E (headOf g) (g .heads) k) (push-old (hd (g .heads k) ∷ []) _ c z);
+    heads = λ k l c z. inl (omega (arith, i₀, below k l c (only k c z)));
+    present = λ k l. here k;
+    plain = λ k l c z. flat c (g .heads k) (lineIx E (headOf g) (g .heads) k) (only k c z);
     anchor = w .0;
     anchor-in = w .1;
-    anchored = λ c z. omega (arith, i₀, high c (push-old (hd (g .heads (w .0)) ∷ []) _ c z));
+    anchored = λ c z. omega (arith, i₀, high c (only (w .0) c z));
   }
     where
       w : (k : ℕ) × (k < lineCount E T) × (largest (lineCount E T) (g .heads) ≡ g .heads k)
       w = largest-is (lineCount E T) (g .heads) h
 
-      flat : (c : Node) (i j : ℕ) → ((c ≡ hd i) ⊎ ⊥) ⊎ (c ≡ hd j) → c ≡ hd (c .index)
-      flat c i j (inl (inl z)) = z ∙ ap hd (sym (ap (λ y. y .index) z))
-      flat c i j (inl (inr z)) = absurd z
+      flat : (c : Node) (i j : ℕ) → (c ≡ hd i) ⊎ (c ≡ hd j) → c ≡ hd (c .index)
+      flat c i j (inl z) = z ∙ ap hd (sym (ap (λ y. y .index) z))
       flat c i j (inr z) = z ∙ ap hd (sym (ap (λ y. y .index) z))
 
       ix : (E : Engine) (k : ℕ) → (lineIx E (headOf g) (g .heads) k ≡ headOf g) ⊎ (lineIx E (headOf g) (g .heads) k ≡ g .heads k)
@@ -100,18 +98,16 @@ module _ (g : Image) (idx : ℕ → ℕ) (i₀ : idx 0 ≡ headOf g) where
       ix shared (suc k) = inr refl
       ix split k = inr refl
 
-      below : (k : ℕ) → k < lineCount E T → (c : Node) → ((c ≡ hd (g .heads k)) ⊎ ⊥) ⊎ (c ≡ hd (lineIx E (headOf g) (g .heads) k)) → c .index ≤ headOf g
-      below k l c (inl (inl z)) = omega (arith, ap (λ y. y .index) z, largest-le (lineCount E T) (g .heads) k l, e)
-      below k l c (inl (inr z)) = absurd z
+      below : (k : ℕ) → k < lineCount E T → (c : Node) → (c ≡ hd (g .heads k)) ⊎ (c ≡ hd (lineIx E (headOf g) (g .heads) k)) → c .index ≤ headOf g
+      below k l c (inl z) = omega (arith, ap (λ y. y .index) z, largest-le (lineCount E T) (g .heads) k l, e)
       below k l c (inr z) = on (ix E k)
         where
           on : (lineIx E (headOf g) (g .heads) k ≡ headOf g) ⊎ (lineIx E (headOf g) (g .heads) k ≡ g .heads k) → c .index ≤ headOf g
           on (inl y) = omega (arith, ap (λ y. y .index) z, y)
           on (inr y) = omega (arith, ap (λ y. y .index) z, y, largest-le (lineCount E T) (g .heads) k l, e)
 
-      high : (c : Node) → ((c ≡ hd (g .heads (w .0))) ⊎ ⊥) ⊎ (c ≡ hd (lineIx E (headOf g) (g .heads) (w .0))) → headOf g ≤ c .index
-      high c (inl (inl z)) = omega (arith, ap (λ y. y .index) z, e, w .2)
-      high c (inl (inr z)) = absurd z
+      high : (c : Node) → (c ≡ hd (g .heads (w .0))) ⊎ (c ≡ hd (lineIx E (headOf g) (g .heads) (w .0))) → headOf g ≤ c .index
+      high c (inl z) = omega (arith, ap (λ y. y .index) z, e, w .2)
       high c (inr z) = on (ix E (w .0))
         where
           on : (lineIx E (headOf g) (g .heads) (w .0) ≡ headOf g) ⊎ (lineIx E (headOf g) (g .heads) (w .0) ≡ g .heads (w .0)) → headOf g ≤ c .index
