@@ -92,14 +92,6 @@ module _ {ℓ} {A : Type ℓ} (f : ℕ → A) (i : ℕ) (a : A) where
 pub facet {ℓ κ} : {A : Type ℓ} {B : Type κ} (F : A → B) (f : ℕ → A) (i : ℕ) (a : A) → F a ≡ F (f i) → _≡_ {A = ℕ → B} (λ j. F (upd f i a j)) (λ j. F (f j))
 facet F f i a e = fun-ext (λ j. upd-ind f i a (λ k x. F x ≡ F (f k)) j e (λ ne. refl))
 
--- and after any change at i
-pub facet-upd {ℓ κ} : {A : Type ℓ} {B : Type κ} (F : A → B) (f : ℕ → A) (i : ℕ) (a : A) (j : ℕ) → F (upd f i a j) ≡ upd (λ k. F (f k)) i (F a) j
-facet-upd F f i a j = go (ℕ-discrete j i)
-  where
-    go : Dec (j ≡ i) → F (upd f i a j) ≡ upd (λ k. F (f k)) i (F a) j
-    go (yes e) = rw (upd-at f i a e, upd-at (λ k. F (f k)) i (F a) e) refl
-    go (no ne) = rw (upd-other f i a ne, upd-other (λ k. F (f k)) i (F a) ne) refl
-
 pub upd-upd {ℓ} : {A : Type ℓ} (f : ℕ → A) (i : ℕ) (a b : A) → upd (upd f i a) i b ≡ upd f i b
 upd-upd f i a b = fun-ext (λ j. go j (ℕ-discrete j i))
   where

@@ -1,5 +1,5 @@
 -- Laws of tables over lines.
-use mathlib.Core.Path.{_≡_, refl, sym, subst, ap}
+use mathlib.Core.Path.{_≡_, refl, sym, ap}
 use mathlib.Core.Logic.{_≢_}
 use Prim.Native.Nat.{ℕ}
 use native.Mathlib.Omega.{arith}
@@ -44,10 +44,3 @@ module _ {A : Type 0} (f : Line → A) where
 
   pub updL-at : (i : Line) (a : A) {j : Line} → j ≡ i → updL f i a j ≡ a
   updL-at i a {j} e = rw e (updL-same i a)
-
-  pub updL-ind : (i : Line) (a : A) (P : Line → A → Type 0) (j : Line) → P i a → (j ≢ i → P j (f j)) → P j (updL f i a j)
-  updL-ind i a P j pa pf = go (line-eq j i)
-    where
-      go : Dec (j ≡ i) → P j (updL f i a j)
-      go (yes e) = subst (λ k. P k (updL f i a k)) (sym e) (subst (P i) (sym (updL-same i a)) pa)
-      go (no ne) = subst (P j) (sym (updL-other i a ne)) (pf ne)
