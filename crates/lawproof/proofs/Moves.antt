@@ -8,10 +8,10 @@ use native.Mathlib.Omega.{arith}
 use lib.Dec.{eqb, leb}
 use Rattle.lists.proofs.BoolLaws.{no-way}
 use Rattle.model.specs.Basics.{upd}
-use Rattle.model.specs.Conf.{Engine, shared, split, sameHead}
-use Rattle.model.specs.Core.{Core, Th, busy, idle, a1, a2, a3, a4, a5, a6, a7, a8, a9, a10, a11, a12, d1, d2, d3, d4, d5, d6, d7, s3, s6}
+use Rattle.model.specs.Conf.{Mode, atOnce, fenced, Engine, shared, split, sameHead}
+use Rattle.model.specs.Core.{Core, Th, busy, idle, a1, a2, a3, a4, a5, a6, a7, a8, a9, a10, a11, a12, d1, d2, d3, d4, d5, d6, d7, a10f, d3f, d6f, s3, s6}
 use Rattle.model.specs.Core.{Ans, nothing, done, full, worn, empty, item}
-use Rattle.model.specs.Steps.{Out, step, stepA1, stepA6, stepA7, stepA8, stepA11, stepA12, stepD2, stepD4, emptyTo, itemTo, retireHeld}
+use Rattle.model.specs.Steps.{Out, step, stepA1, stepA6, stepA7, stepA8, stepA11, stepA12, stepD2, stepD4, stepA10, stepD3, stepD6, emptyTo, itemTo, retireHeld}
 use Rattle.model.proofs.Basics.{upd-same, upd-other}
 
 pub record Moved (m : Core) (t : ℕ) (o : Out) : Type 0 where
@@ -82,6 +82,18 @@ module _ (m : Core) (t : ℕ) where
   mD4 h x true = on (d5 h x) _ refl refl
   mD4 h x false = on d1 _ refl refl
 
+  mA10 : (v n x : ℕ) (c : Mode) → Moved m t (stepA10 m t v n x c)
+  mA10 v n x atOnce = on (a11 v n x) _ refl refl
+  mA10 v n x fenced = on (a10f v n x) _ refl refl
+
+  mD3 : (h i : ℕ) (c : Mode) → Moved m t (stepD3 m t h i c)
+  mD3 h i atOnce = off _ refl refl
+  mD3 h i fenced = on (d3f h i) _ refl refl
+
+  mD6 : (h v : ℕ) (c : Mode) → Moved m t (stepD6 m t h v c)
+  mD6 h v atOnce = on (d7 h v) _ refl refl
+  mD6 h v fenced = on (d6f h v) _ refl refl
+
   retired-thr : (o : Option ℕ) → retireHeld m t o .thr ≡ m .thr
   retired-thr none = refl
   retired-thr (some n) = refl
@@ -97,15 +109,18 @@ module _ (m : Core) (t : ℕ) where
   moved (a7 v n x) b = mA7 v n x (leb (m .conf .top) (m .node x .index))
   moved (a8 v n x) b = mA8 v n x (m .next x)
   moved (a9 v n x) b = on (a10 v n x) _ refl refl
-  moved (a10 v n x) b = on (a11 v n x) _ refl refl
+  moved (a10 v n x) b = mA10 v n x (m .conf .mode)
+  moved (a10f v n x) b = on (a11 v n x) _ refl refl
   moved (a11 v n x) b = mA11 n (eqb (m .tail) x)
   moved (a12 v n x) b = mA12 v n (eqb (m .tail) x) (m .next x)
   moved d1 b = on (d2 (m .hnode) (m .hidx)) _ refl refl
   moved (d2 h i) b = mD2 h i (m .next h)
-  moved (d3 h i) b = off _ refl refl
+  moved (d3 h i) b = mD3 h i (m .conf .mode)
+  moved (d3f h i) b = off _ refl refl
   moved (d4 h i x) b = mD4 h x (sameHead (m .conf .engine) (eqb (m .hnode) h) (eqb (m .hidx) i))
   moved (d5 h x) b = on (itemTo (m .conf .engine) h x (m .node x .item)) _ (item-busy (m .conf .engine) h x (m .node x .item)) refl
-  moved (d6 h v) b = on (d7 h v) _ refl refl
+  moved (d6 h v) b = mD6 h v (m .conf .mode)
+  moved (d6f h v) b = on (d7 h v) _ refl refl
   moved (s3 h i) b = on (d3 h i) _ refl refl
   moved (s6 h x v) b = on (d6 h v) _ refl refl
   moved (d7 h v) b = off _ refl (ap (λ f. upd f t idle) (retired-thr (m .held t)))

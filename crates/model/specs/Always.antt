@@ -7,6 +7,7 @@ use mathlib.Core.Option.{Option, none, some}
 use Prim.Native.Nat.{ℕ, zero, suc, _+_, _<_}
 use lib.Dec.{eqb}
 use Rattle.model.specs.Basics.{sel, has}
+use Rattle.model.specs.Core.{a10f, d3f, d6f}
 use Rattle.model.specs.Core.{Core, Th, busy, idle, a1, a2, a3, a4, a5, a6, a7, a8, a9, a10, a11, a12, d1, d2, d3, d4, d5, d6, d7}
 use Rattle.model.specs.Core.{s3, s6}
 use Rattle.model.specs.Recovery.{Image}
@@ -29,15 +30,18 @@ ThIn N next (a7 v n t) = (n < N) × (t < N)
 ThIn N next (a8 v n t) = (n < N) × (t < N)
 ThIn N next (a9 v n t) = (n < N) × (t < N)
 ThIn N next (a10 v n t) = (n < N) × (t < N)
+ThIn N next (a10f v n t) = (n < N) × (t < N)
 ThIn N next (a11 v n t) = (n < N) × (t < N)
 ThIn N next (a12 v n t) = (n < N) × (t < N) × (next t ≢ none)
 ThIn N next d1 = Unit {0}
 ThIn N next (d2 h i) = h < N
 ThIn N next (d3 h i) = h < N
+ThIn N next (d3f h i) = h < N
 ThIn N next (s3 h i) = h < N
 ThIn N next (d4 h i x) = (h < N) × (x < N)
 ThIn N next (d5 h x) = (h < N) × (x < N)
 ThIn N next (d6 h v) = h < N
+ThIn N next (d6f h v) = h < N
 ThIn N next (s6 h x v) = (h < N) × (x < N)
 ThIn N next (d7 h v) = h < N
 

@@ -11,19 +11,24 @@ use Rattle.model.specs.Lines.{Line, ofHead, ofNode, Touch, nowhere, stor
 pub data Engine : Type 0 where
   shared split : Engine
 
+-- atOnce: A10, D3 and D6 persist a line in one step. fenced: they flush it, and a step of its own behind each, the fence, waits for that
+pub data Mode : Type 0 where
+  atOnce fenced : Mode
+
 -- how A1 chooses, from N, the node last handed out and the free set: a free node, and none only if none is free
 pub record Chooser : Type 0 where
   pub pick : ℕ → ℕ → (ℕ → Bool) → Option ℕ
   pub is-free : (N last : ℕ) (f : ℕ → Bool) (n : ℕ) → pick N last f ≡ some n → f n ≡ true
   pub none-free : (N last : ℕ) (f : ℕ → Bool) → pick N last f ≡ none → (n : ℕ) → n < N → f n ≡ false
 
--- N, T, the largest index, the engine, the choice
+-- N, T, the largest index, the engine, the choice, how a line is persisted
 pub record Conf : Type 0 where
   pub nodes : ℕ
   pub threads : ℕ
   pub top : ℕ
   pub engine : Engine
   pub chooser : Chooser
+  pub mode : Mode
 
 -- how many head lines there are
 abbrev pub lineCount : Engine → ℕ → ℕ

@@ -9,7 +9,8 @@ use Rattle.model.specs.Lines.{Line, ofHead, ofNode}
 use Rattle.model.specs.Conf.{Conf, Engine, lineIx}
 
 -- what a thread is about to do, with what it has read: v the item, n its own node, t the tail read at A5,
--- h i the head read at D1, x the next read at D2. s3 and s6 are the stores before D3 and D6 in `split`; there no step uses i
+-- h i the head read at D1, x the next read at D2. a10f, d3f and d6f are the fences behind A10, D3 and
+-- D6 in `fenced`. s3 and s6 are the stores before D3 and D6 in `split`; there no step uses i
 pub data Th : Type 0 where
   idle : Th
   a1 : (v : ℕ) → Th
@@ -20,6 +21,9 @@ pub data Th : Type 0 where
   d4 : (h i x : ℕ) → Th
   d5 : (h x : ℕ) → Th
   d6 d7 : (h v : ℕ) → Th
+  a10f : (v n t : ℕ) → Th
+  d3f : (h i : ℕ) → Th
+  d6f : (h v : ℕ) → Th
   s3 : (h i : ℕ) → Th
   s6 : (h x v : ℕ) → Th
 
@@ -36,15 +40,18 @@ busy (a7 v n t) = true
 busy (a8 v n t) = true
 busy (a9 v n t) = true
 busy (a10 v n t) = true
+busy (a10f v n t) = true
 busy (a11 v n t) = true
 busy (a12 v n t) = true
 busy d1 = true
 busy (d2 h i) = true
 busy (d3 h i) = true
+busy (d3f h i) = true
 busy (s3 h i) = true
 busy (d4 h i x) = true
 busy (d5 h x) = true
 busy (d6 h v) = true
+busy (d6f h v) = true
 busy (s6 h x v) = true
 busy (d7 h v) = true
 

@@ -1,5 +1,5 @@
 -- Lines of memory: what an event does to them, from which time on their contents count, write-backs.
-use Prim.Native.Nat.{ℕ}
+use Prim.Native.Nat.{ℕ, max}
 use Rattle.model.specs.Basics.{upd}
 
 -- a head line, or the line of node n. How many head lines there are is the engine's; document 01 has one
@@ -14,16 +14,30 @@ updL f (ofHead i) a (ofNode j) = f (ofNode j)
 updL f (ofNode i) a (ofHead j) = f (ofHead j)
 updL f (ofNode i) a (ofNode j) = upd (λ k. f (ofNode k)) i a j
 
--- what an event does to the lines: it stores to one, or persists one, or neither
+-- what an event does to the lines: it stores to one, or persists one at once; or thread t issues its flush, or waits for its flush of a line at
+-- the fence; or none of these
 pub data Touch : Type 0 where
   nowhere : Touch
   stores flushes : (l : Line) → Touch
+  issues : (t : ℕ) → Touch
+  fences : (t : ℕ) (l : Line) → Touch
 
--- the times from which the contents of each line count, after an event at time k: that of the line persisted is k
-abbrev pub fromAfter : Touch → ℕ → (Line → ℕ) → Line → ℕ
-fromAfter nowhere k f = f
-fromAfter (stores l) k f = f
-fromAfter (flushes l) k f = updL f l k
+-- the times of the threads' flushes, after an event at time k
+abbrev pub markAfter : Touch → ℕ → (ℕ → ℕ) → ℕ → ℕ
+markAfter nowhere k mk = mk
+markAfter (stores l) k mk = mk
+markAfter (flushes l) k mk = mk
+markAfter (issues t) k mk = upd mk t k
+markAfter (fences t l) k mk = mk
+
+-- the times from which the contents of each line count, after an event at time k: k where it persists the line at once; at a fence the time of
+-- the flush, if nothing later is persisted there already
+abbrev pub fromAfter : Touch → ℕ → (ℕ → ℕ) → (Line → ℕ) → Line → ℕ
+fromAfter nowhere k mk f = f
+fromAfter (stores l) k mk f = f
+fromAfter (flushes l) k mk f = updL f l k
+fromAfter (issues t) k mk f = f
+fromAfter (fences t l) k mk f = updL f l (max (f l) (mk t))
 
 -- an act of the threads, or a write-back of a line
 pub data Ev (E : Type 0) : Type 0 where

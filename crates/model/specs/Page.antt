@@ -4,7 +4,7 @@ use mathlib.Core.List.{List, [], _∷_, _++_, map}
 use Prim.Native.Nat.{ℕ, zero, suc, _+_, _-_}
 use lib.ListN.{getD}
 use Rattle.model.specs.Lines.{Line, ofHead, ofNode}
-use Rattle.model.specs.Conf.{Conf, Engine, Chooser, headLines}
+use Rattle.model.specs.Conf.{Conf, Engine, Chooser, Mode, headLines}
 use Rattle.model.specs.Core.{Node, zeroNode, sameNode}
 use Rattle.model.specs.Recovery.{Image, headOf, itemsOf}
 use Rattle.model.specs.Machine.{M}
@@ -58,12 +58,12 @@ unfoldable pub page : M → List (ℕ × List ℕ)
 page m = map printed (endings m)
 
 -- n zero nodes, t threads, 32-bit indices, head index i
-unfoldable pub headImage : Engine → Chooser → ℕ → ℕ → ℕ → Image
-headImage e k n t i = record {
-  conf = record { nodes = n; threads = t; top = 4294967295; engine = e; chooser = k };
+unfoldable pub headImage : Engine → Chooser → Mode → ℕ → ℕ → ℕ → Image
+headImage e k m n t i = record {
+  conf = record { nodes = n; threads = t; top = 4294967295; engine = e; chooser = k; mode = m };
   heads = λ k. i;
   at = λ k. zeroNode;
 }
 
-unfoldable pub zeroImage : Engine → Chooser → ℕ → ℕ → Image
-zeroImage e k n t = headImage e k n t 0
+unfoldable pub zeroImage : Engine → Chooser → Mode → ℕ → ℕ → Image
+zeroImage e k m n t = headImage e k m n t 0

@@ -5,6 +5,7 @@ use mathlib.Core.List.{[]}
 use mathlib.Core.Logic.{_≢_}
 use mathlib.Core.Option.{Option, none, some}
 use Prim.Native.Nat.{ℕ, zero, suc}
+use Rattle.model.specs.Core.{a10f, d3f, d6f}
 use Rattle.model.specs.Core.{Core, Th, idle, a1, a2, a3, a4, a5, a6, a7, a8, a9, a10, a11, a12, d1, d2, d3, d4, d5, d6, d7, s3, s6}
 
 -- the node that an enqueue owns before its A8
@@ -20,15 +21,18 @@ ownsE (a7 v n t) = some n
 ownsE (a8 v n t) = some n
 ownsE (a9 v n t) = none
 ownsE (a10 v n t) = none
+ownsE (a10f v n t) = none
 ownsE (a11 v n t) = none
 ownsE (a12 v n t) = some n
 ownsE d1 = none
 ownsE (d2 h i) = none
 ownsE (d3 h i) = none
+ownsE (d3f h i) = none
 ownsE (s3 h i) = none
 ownsE (d4 h i x) = none
 ownsE (d5 h x) = none
 ownsE (d6 h v) = none
+ownsE (d6f h v) = none
 ownsE (s6 h x v) = none
 ownsE (d7 h v) = none
 
@@ -45,15 +49,18 @@ ownsD (a7 v n t) = none
 ownsD (a8 v n t) = none
 ownsD (a9 v n t) = none
 ownsD (a10 v n t) = none
+ownsD (a10f v n t) = none
 ownsD (a11 v n t) = none
 ownsD (a12 v n t) = none
 ownsD d1 = none
 ownsD (d2 h i) = none
 ownsD (d3 h i) = none
+ownsD (d3f h i) = none
 ownsD (s3 h i) = none
 ownsD (d4 h i x) = none
 ownsD (d5 h x) = some h
 ownsD (d6 h v) = some h
+ownsD (d6f h v) = some h
 ownsD (s6 h x v) = some h
 ownsD (d7 h v) = some h
 

@@ -5,9 +5,9 @@ use mathlib.Core.Option.{Option, none, some}
 use Prim.Native.Nat.{ℕ, zero, suc}
 use lib.Dec.{eqb, leb}
 use Rattle.model.specs.Basics.{bothb, upd}
-use Rattle.model.specs.Lines.{Touch, nowhere, stores, flushes, ofHead, ofNode}
-use Rattle.model.specs.Conf.{Engine, shared, split, lineOf, headTouch, sameHead}
-use Rattle.model.specs.Core.{Core, Th, busy, Ans, nothing, done, full, worn, empty, item, withItem, withLinked, withIndex, idle, a1, a2, a3, a4}
+use Rattle.model.specs.Lines.{Touch, nowhere, stores, flushes, issues, fences, ofHead, ofNode}
+use Rattle.model.specs.Conf.{Mode, atOnce, fenced, Engine, shared, split, lineOf, headTouch, sameHead}
+use Rattle.model.specs.Core.{a10f, d3f, d6f, Core, Th, busy, Ans, nothing, done, full, worn, empty, item, withItem, withLinked, withIndex, idle, a1, a2, a3, a4}
 use Rattle.model.specs.Core.{a5, a6, a7, a8, a9, a10, a11, a12, d1, d2, d3, d4, d5, d6, d7, s3, s6}
 use Rattle.model.specs.Changes.{setTh, setNext, store, setHead, setTail, setFree, setLast, setHeld, setMark}
 
@@ -114,6 +114,23 @@ abbrev pub stepD4 : Core → ℕ → (h x : ℕ) → Bool → Out
 stepD4 m t h x true = goes (setHead m x (m .node x .index)) t (d5 h x) (headTouch (m .conf .engine))
 stepD4 m t h x false = go m t d1
 
+-- ---- persisting: in one step, or a flush and a fence
+
+-- A10
+abbrev pub stepA10 : Core → ℕ → (v n x : ℕ) → Mode → Out
+stepA10 m t v n x atOnce = goes m t (a11 v n x) (flushes (ofNode n))
+stepA10 m t v n x fenced = goes m t (a10f v n x) (issues t)
+
+-- D3: Empty is answered once the line is persisted
+abbrev pub stepD3 : Core → ℕ → (h i : ℕ) → Mode → Out
+stepD3 m t h i atOnce = replies m t empty (flushes (ofHead (lineOf (m .conf .engine) t)))
+stepD3 m t h i fenced = goes m t (d3f h i) (issues t)
+
+-- D6
+abbrev pub stepD6 : Core → ℕ → (h v : ℕ) → Mode → Out
+stepD6 m t h v atOnce = goes m t (d7 h v) (flushes (ofHead (lineOf (m .conf .engine) t)))
+stepD6 m t h v fenced = goes m t (d6f h v) (issues t)
+
 -- ---- one step of thread t, which is at s
 
 abbrev pub step : Core → ℕ → Th → Out
@@ -133,7 +150,8 @@ step m t (a7 v n x) = stepA7 m t v n x (leb (m .conf .top) (m .node x .index))
 step m t (a8 v n x) = stepA8 m t v n x (m .next x)
 -- A9 linked set to 1. A10 the node's line is persisted
 step m t (a9 v n x) = goes (store m n (withLinked (m .node n) true)) t (a10 v n x) (stores (ofNode n))
-step m t (a10 v n x) = goes m t (a11 v n x) (flushes (ofNode n))
+step m t (a10 v n x) = stepA10 m t v n x (m .conf .mode)
+step m t (a10f v n x) = goes m t (a11 v n x) (fences t (ofNode n))
 -- A11 Tail becomes the new node if it is still x. Done
 step m t (a11 v n x) = stepA11 m t n (eqb (m .tail) x)
 -- A12 Tail becomes x's next if it is still x. Back to A5
@@ -142,12 +160,14 @@ step m t (a12 v n x) = stepA12 m t v n (eqb (m .tail) x) (m .next x)
 step m t d1 = go m t (d2 (m .hnode) (m .hidx))
 step m t (d2 h i) = stepD2 m t h i (m .next h)
 -- D3 line 0 persisted (`split`: the thread's line). Empty
-step m t (d3 h i) = replies m t empty (flushes (ofHead (lineOf (m .conf .engine) t)))
+step m t (d3 h i) = stepD3 m t h i (m .conf .mode)
+step m t (d3f h i) = replies m t empty (fences t (ofHead (lineOf (m .conf .engine) t)))
 -- D4 if Head is still the pair read it becomes the next node
 step m t (d4 h i x) = stepD4 m t h x (sameHead (m .conf .engine) (eqb (m .hnode) h) (eqb (m .hidx) i))
 -- D5 item of the next node read. D6 line 0 persisted (`split`: the thread's line)
 step m t (d5 h x) = go m t (itemTo (m .conf .engine) h x (m .node x .item))
-step m t (d6 h v) = goes m t (d7 h v) (flushes (ofHead (lineOf (m .conf .engine) t)))
+step m t (d6 h v) = stepD6 m t h v (m .conf .mode)
+step m t (d6f h v) = goes m t (d7 h v) (fences t (ofHead (lineOf (m .conf .engine) t)))
 -- `split`: before D3 the index of the node found last, before D6 the new dummy's index, stored in the thread's line
 step m t (s3 h i) = goes (setMark m t (m .node h .index)) t (d3 h i) (stores (ofHead t))
 step m t (s6 h x v) = goes (setMark m t (m .node x .index)) t (d6 h v) (stores (ofHead t))

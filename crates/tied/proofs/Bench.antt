@@ -17,7 +17,7 @@ use Rattle.schedule.specs.Run as run
 use Rattle.schedule.specs.Run.{Touched, noLine, aLine, fromAfter, goesOn}
 use Rattle.page.specs.Contents.{joins, gathered, contentsOf}
 use Rattle.model.specs.Lines as times
-use Rattle.model.specs.Lines.{Line, Touch, nowhere, stores, flushes}
+use Rattle.model.specs.Lines.{Line, Touch, nowhere, stores, flushes, issues, fences}
 use Rattle.model.specs.Conf.{lineIx}
 use Rattle.model.specs.Core as core
 use Rattle.model.specs.Core.{Core, content, hd}
@@ -132,11 +132,11 @@ module _ (b : run.Bench) (B : M) (c′ : Core) (m′ : Machine) (w : Touched) (k
   in-new l h = subst (λ n. LineIn n l) (sym same-n) h
 
   present : (l : memory.Line) → LineIn (b .machine .n) l → Has (model.goesOn B c′ k) (lineShown l) (shownContent (cachedAt m′ l))
-  present l h = subst (Has (model.goesOn B c′ k) (lineShown l)) (shown-cached _ m′ c′ d′ l (in-new l h)) (onHere B c′ k i (lineShown l))
+  present l h = subst (Has (model.goesOn B c′ k) (lineShown l)) (shown-cached _ m′ c′ d′ l (in-new l h)) (onHere B c′ i k (lineShown l))
 
   -- a line that is not persisted
   grows : (l : memory.Line) → LineIn (b .machine .n) l → fromAfter w (length (b .past)) (b .from) l ≡ b .from l
-      → keeps w (b .machine) (persistedAt (b .machine)) l ≡ persistedAt (b .machine) l → times.fromAfter k (suc (B .now)) (B .from) (lineShown l) ≡ B .from (lineShown l)
+      → keeps w (b .machine) (persistedAt (b .machine)) l ≡ persistedAt (b .machine) l → times.fromAfter k (suc (B .now)) (B .mark) (B .from) (lineShown l) ≡ B .from (lineShown l)
       → Line-at l
   grows l h fr kp fm = (
     λ a z. by a (joins-old (contentsOf b l) (cachedAt m′ l) a (subst (Among a) (contents-more b m′ w l fr (r .early l) same) z)),
@@ -147,7 +147,7 @@ module _ (b : run.Bench) (B : M) (c′ : Core) (m′ : Machine) (w : Touched) (k
       same = kept-is _ m′ c′ d′ l (in-new l h) ∙ kp
 
       by : (a : Content) → Among a (contentsOf b l) ⊎ (a ≡ cachedAt m′ l) → Small a × Has (model.goesOn B c′ k) (lineShown l) (shownContent a)
-      by a (inl z) = let o = r .lists l h a z in (o .0, onOld B c′ k (lineShown l) (shownContent a) fm (o .1))
+      by a (inl z) = let o = r .lists l h a z in (o .0, onOld B c′ i k (lineShown l) (shownContent a) fm (o .1))
       by a (inr e) = subst (λ a. Small a × Has (model.goesOn B c′ k) (lineShown l) (shownContent a)) (sym e) (cached-flag _ m′ c′ d′ l (in-new l h), present l h)
 
   -- the line that is persisted
@@ -155,7 +155,7 @@ module _ (b : run.Bench) (B : M) (c′ : Core) (m′ : Machine) (w : Touched) (k
   persists j h ew ek = (
     λ a z. by a (joins-old (persistedAt m′ j ∷ []) (cachedAt m′ j) a (subst (Among a) new z)),
     subst (λ k. model.goesOn B c′ k .past (lineShown j) (model.goesOn B c′ k .from (lineShown j)) ≡ shownContent (persistedAt m′ j)) (sym ek)
-        (first-new B c′ (lineShown j) ∙ sym both-same),
+        (first-new B c′ i (lineShown j) ∙ sym both-same),
   )
     where
       new : contentsOf (goesOn b m′ w) j ≡ joins (persistedAt m′ j ∷ []) (cachedAt m′ j)
@@ -168,7 +168,7 @@ module _ (b : run.Bench) (B : M) (c′ : Core) (m′ : Machine) (w : Touched) (k
           ∙ sym (shown-cached _ (b .machine) (B .core) d j h) ∙ sym (frame (lineShown j) (λ e. let z = sym ek ∙ e in let y : _≡_ {A = ℕ} 0 1 = cc in omega arith))
 
       kept-one : Small (persistedAt m′ j) × Has (model.goesOn B c′ k) (lineShown j) (shownContent (persistedAt m′ j))
-      kept-one = (kept-flag _ m′ c′ d′ j (in-new j h), subst (Has (model.goesOn B c′ k) (lineShown j)) (sym both-same) (onHere B c′ k i (lineShown j)))
+      kept-one = (kept-flag _ m′ c′ d′ j (in-new j h), subst (Has (model.goesOn B c′ k) (lineShown j)) (sym both-same) (onHere B c′ i k (lineShown j)))
 
       by : (a : Content) → Among a (persistedAt m′ j ∷ []) ⊎ (a ≡ cachedAt m′ j) → Small a × Has (model.goesOn B c′ k) (lineShown j) (shownContent a)
       by a (inl (inl e)) = subst (λ a. Small a × Has (model.goesOn B c′ k) (lineShown j) (shownContent a)) (sym e) kept-one
@@ -177,19 +177,23 @@ module _ (b : run.Bench) (B : M) (c′ : Core) (m′ : Machine) (w : Touched) (k
 
   line-by : (w₀ : Touched) (k₀ : Touch) → w ≡ w₀ → k ≡ k₀ → Touches w₀ k₀ → (l : memory.Line) → LineIn (b .machine .n) l → Line-at l
   line-by noLine nowhere ew ek t l h = grows l h (ap (λ w. fromAfter w (length (b .past)) (b .from) l) ew)
-      (ap (λ w. keeps w (b .machine) (persistedAt (b .machine)) l) ew) (ap (λ k. times.fromAfter k (suc (B .now)) (B .from) (lineShown l)) ek)
+      (ap (λ w. keeps w (b .machine) (persistedAt (b .machine)) l) ew) (ap (λ k. times.fromAfter k (suc (B .now)) (B .mark) (B .from) (lineShown l)) ek)
   line-by noLine (stores L) ew ek t l h = grows l h (ap (λ w. fromAfter w (length (b .past)) (b .from) l) ew)
-      (ap (λ w. keeps w (b .machine) (persistedAt (b .machine)) l) ew) (ap (λ k. times.fromAfter k (suc (B .now)) (B .from) (lineShown l)) ek)
+      (ap (λ w. keeps w (b .machine) (persistedAt (b .machine)) l) ew) (ap (λ k. times.fromAfter k (suc (B .now)) (B .mark) (B .from) (lineShown l)) ek)
   line-by noLine (flushes L) ew ek t l h = absurd t
+  line-by noLine (issues u) ew ek t l h = absurd t
+  line-by noLine (fences u L) ew ek t l h = absurd t
   line-by (aLine j) nowhere ew ek t l h = absurd t
   line-by (aLine j) (stores L) ew ek t l h = absurd t
+  line-by (aLine j) (issues u) ew ek t l h = absurd t
+  line-by (aLine j) (fences u L) ew ek t l h = absurd t
   line-by (aLine j) (flushes L) ew ek t l h = by (lines.line-eq l j)
     where
       by : Dec (l ≡ j) → Line-at l
       by (yes e) = subst Line-at (sym e) (persists j (subst (LineIn (b .machine .n)) e h) ew (ek ∙ ap flushes t))
       by (no ne) = grows l h (ap (λ w. fromAfter w (length (b .past)) (b .from) l) ew ∙ lines.put-other (b .from) j (length (b .past)) l ne)
           (ap (λ w. keeps w (b .machine) (persistedAt (b .machine)) l) ew ∙ lines.put-other (persistedAt (b .machine)) j (cachedAt (b .machine) j) l ne)
-          (ap (λ k. times.fromAfter k (suc (B .now)) (B .from) (lineShown l)) ek ∙ updL-other (B .from) L (suc (B .now)) (λ e. ne (line-one l j (e ∙ t))))
+          (ap (λ k. times.fromAfter k (suc (B .now)) (B .mark) (B .from) (lineShown l)) ek ∙ updL-other (B .from) L (suc (B .now)) (λ e. ne (line-one l j (e ∙ t))))
 
   early-by : (w₀ : Touched) (l : memory.Line) → fromAfter w₀ (length (b .past)) (b .from) l ≤ length (b .past)
   early-by noLine l = r .early l

@@ -21,13 +21,13 @@ use Rattle.model.specs.Lines.{flushes, ofHead}
 use Rattle.model.specs.Conf.{Engine, shared, lineOf, headTouch, sameHead}
 use Rattle.model.specs.Core.{Core, d2, d3, d4, d5, d6}
 use Rattle.model.specs.Changes.{setHead}
-use Rattle.model.specs.Steps.{step, stepD2, stepD4, emptyTo, itemTo}
+use Rattle.model.specs.Steps.{step, stepD2, stepD3, stepD4, stepD6, emptyTo, itemTo}
 use Rattle.model.specs.Always.{ThIn, InRange}
 use Rattle.tied.specs.Shown.{linkIf, threadOf, shownThread}
 use Rattle.tied.proofs.Relation.{Link, Regs, ThreadAt, Tied}
 use Rattle.tied.proofs.Changes.{moveT, headT, persistT, count-n}
 use Rattle.tied.proofs.Retiring.{retireT}
-use Rattle.tied.proofs.Stepping.{Touches, StepT, engine-is, regs-of, goes-on, leavesT, used}
+use Rattle.tied.proofs.Stepping.{Touches, StepT, engine-is, mode-is, regs-of, goes-on, leavesT, used}
 
 same-both : (a b : Bool) → bothb a b ≡ both a b
 same-both true b = refl
@@ -76,7 +76,7 @@ module _ (p : memory.Line → Content) (m : Machine) (c : Core) (d : Tied p m c)
       (eD2 h (eqb (node m (thread m k .head) .next) 255))
 
   pub sD3 : stage m k ≡ D3 → StepT p m (aLine (memory.ofHead 0)) (stepped m k D3) (step c k (threadOf D3 (thread m k)))
-  sD3 e = record {
+  sD3 e = subst (λ o. StepT p m (aLine (memory.ofHead 0)) (stepped m k D3) (stepD3 c k (thread m k .head) (thread m k .index) o)) (sym (mode-is p m c d k hk)) record {
     tied = leavesT _ _ _ (persistT p m c d (memory.ofHead 0) (omega (arith, one-head (m .n)))) k hk;
     says = refl;
     touch = ap (λ E. ofHead (lineOf E k)) (engine-is p m c d k hk);
@@ -115,7 +115,7 @@ module _ (p : memory.Line → Content) (m : Machine) (c : Core) (d : Tied p m c)
   }
 
   pub sD6 : stage m k ≡ D6 → StepT p m (aLine (memory.ofHead 0)) (stepped m k D6) (step c k (threadOf D6 (thread m k)))
-  sD6 e = record {
+  sD6 e = subst (λ o. StepT p m (aLine (memory.ofHead 0)) (stepped m k D6) (stepD6 c k (thread m k .head) (thread m k .item) o)) (sym (mode-is p m c d k hk)) record {
     tied = moveT _ _ _ (persistT p m c d (memory.ofHead 0) (omega (arith, one-head (m .n)))) k hk (atStep (thread m k) 19) _ (goes-on p m c d k hk 19 _ (omega arith) refl);
     says = refl;
     touch = ap (λ E. ofHead (lineOf E k)) (engine-is p m c d k hk);

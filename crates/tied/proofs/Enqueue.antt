@@ -28,14 +28,14 @@ use Rattle.model.specs.Core as core
 use Rattle.model.specs.Core.{Core, a1, a2, a3, a4, a5, a6, a7, a8, a9, a10, a11, a12}
 use Rattle.model.specs.Changes.{setNext, setFree, setTail, store}
 use Rattle.model.specs.Choice.{lowest, lowestFirst}
-use Rattle.model.specs.Steps.{step, stepA1, stepA6, stepA7, stepA8, stepA11, stepA12}
+use Rattle.model.specs.Steps.{step, stepA1, stepA6, stepA7, stepA8, stepA10, stepA11, stepA12}
 use Rattle.model.specs.Always.{ThIn, InRange}
 use Rattle.model.proofs.Basics.{le-true, not-le, true→eq, eq-no, yes-of}
 use Rattle.tied.specs.Shown.{linkIf, linkOf, threadOf, shownThread}
 use Rattle.tied.proofs.Relation.{Link, Regs, ThreadAt, FreeT, Tied}
 use Rattle.tied.proofs.Changes.{some-link, withT, withoutT, moveT, storeT, linkT, tailT, freeT, persistT, count-n}
 use Rattle.tied.proofs.Searches.{lowest-same, low-in, low-link}
-use Rattle.tied.proofs.Stepping.{StepT, link-in, link-is, lastT, regs-of, goes-on, leavesT, used}
+use Rattle.tied.proofs.Stepping.{StepT, link-in, link-is, lastT, regs-of, goes-on, leavesT, used, mode-is}
 
 -- at the largest number both tests say the same
 top-test : (x : ℕ) → x ≤ top → leb top x ≡ eqb x top
@@ -185,11 +185,13 @@ module _ (p : memory.Line → Content) (m : Machine) (c : Core) (d : Tied p m c)
   }
 
   pub sA10 : stage m k ≡ A10 → StepT p m (aLine (memory.ofNode (thread m k .node))) (stepped m k A10) (step c k (threadOf A10 (thread m k)))
-  sA10 e = let h = used p m c d k hk r A10 e in record {
-    tied = moveT _ _ _ (persistT p m c d (memory.ofNode (thread m k .node)) (h .0)) k hk (atStep (thread m k) 11) _ (goes-on p m c d k hk 11 _ (omega arith) refl);
-    says = refl;
-    touch = refl;
-  }
+  sA10 e = let h = used p m c d k hk r A10 e in
+      subst (λ o. StepT p m (aLine (memory.ofNode (thread m k .node))) (stepped m k A10) (stepA10 c k (thread m k .item) (thread m k .node) (thread m k .tail) o))
+      (sym (mode-is p m c d k hk)) record {
+        tied = moveT _ _ _ (persistT p m c d (memory.ofNode (thread m k .node)) (h .0)) k hk (atStep (thread m k) 11) _ (goes-on p m c d k hk 11 _ (omega arith) refl);
+        says = refl;
+        touch = refl;
+      }
 
   eA11 : (b : Bool) → StepT p m noLine (answering Done (pick b (putTail m (thread m k .node)) m) k) (stepA11 c k (thread m k .node) b)
   eA11 true = record { tied = leavesT p _ _ (tailT p m c d (thread m k .node) (thread m k .node) refl) k hk; says = refl; touch = tt }

@@ -18,8 +18,8 @@ use Rattle.machine.specs.declared.Machine.{Machine}
 use Rattle.machine.specs.declared.Thread.{Thread}
 use Rattle.machine.specs.declared.Out as machine
 use Rattle.schedule.specs.Run.{Touched, noLine, aLine}
-use Rattle.model.specs.Lines.{Touch, nowhere, stores, flushes}
-use Rattle.model.specs.Conf.{shared}
+use Rattle.model.specs.Lines.{Touch, nowhere, stores, flushes, issues, fences}
+use Rattle.model.specs.Conf.{shared, atOnce}
 use Rattle.model.specs.Core.{Core, Th}
 use Rattle.model.specs.Changes.{setLast}
 use Rattle.model.specs.Steps.{Out, leave}
@@ -40,9 +40,13 @@ abbrev pub Touches : Touched → Touch → Type 0
 Touches noLine nowhere = Unit {0}
 Touches noLine (stores l) = Unit {0}
 Touches noLine (flushes l) = ⊥
+Touches noLine (issues t) = ⊥
+Touches noLine (fences t l) = ⊥
 Touches (aLine k) nowhere = ⊥
 Touches (aLine k) (stores l) = ⊥
 Touches (aLine k) (flushes l) = l ≡ lineShown k
+Touches (aLine k) (issues t) = ⊥
+Touches (aLine k) (fences t l) = ⊥
 
 pub record StepT (p : memory.Line → Content) (m : Machine) (w : Touched) (o : machine.Out) (O : Out) : Type 0 where
   pub tied : Tied (keeps w m p) (o .machine) (O .core)
@@ -79,6 +83,9 @@ lastT p m c d n = record {
 module _ (p : memory.Line → Content) (m : Machine) (c : Core) (d : Tied p m c) (k : ℕ) (hk : k < m .t) where
   pub engine-is : c .conf .engine ≡ shared
   engine-is = ap (λ z. z .engine) (d .conf)
+
+  pub mode-is : c .conf .mode ≡ atOnce
+  mode-is = ap (λ z. z .mode) (d .conf)
 
   pub regs-of : Regs (m .n) (thread m k)
   regs-of = d .threads .at k hk .regs

@@ -9,11 +9,12 @@ use Prim.Native.Nat.{ℕ, zero, suc, _+_, _<_}
 use native.Mathlib.Omega.{arith}
 use lib.Dec.{eqb, leb}
 use Rattle.model.specs.Basics.{bothb, upd, has}
+use Rattle.model.specs.Core.{a10f, d3f, d6f}
 use Rattle.model.specs.Core.{Core, Th, busy, idle, a1, a2, a3, a4, a5, a6, a7, a8, a9, a10, a11, a12, d1, d2, d3, d4, d5, d6, d7, s3, s6}
-use Rattle.model.specs.Conf.{sameHead}
+use Rattle.model.specs.Conf.{Mode, atOnce, fenced, sameHead}
 use Rattle.model.specs.Changes.{setHeld}
 use Rattle.model.specs.Choice.{lowest}
-use Rattle.model.specs.Steps.{remove, others, leave, retireHeld, step, stepA1, stepA6, stepA7, stepA8, stepA11, stepA12, stepD2, stepD4}
+use Rattle.model.specs.Steps.{stepA10, stepD3, stepD6, remove, others, leave, retireHeld, step, stepA1, stepA6, stepA7, stepA8, stepA11, stepA12, stepD2, stepD4}
 use Rattle.model.specs.Recovery.{Image, headOf, recovered, queueOf, linkUp, orZero, start, start′}
 use Rattle.model.specs.Demand3.{Fit}
 use Rattle.model.specs.Places.{ownsE}
@@ -129,6 +130,18 @@ module _ (m : Core) (t : ℕ) (p : Plain m) (free-in : (n : ℕ) → m .free n �
   pD4 h x true = p
   pD4 h x false = p
 
+  pA10 : (v n x : ℕ) (c : Mode) → Plain (stepA10 m t v n x c .core)
+  pA10 v n x atOnce = p
+  pA10 v n x fenced = p
+
+  pD3 : (h i : ℕ) (c : Mode) → Plain (stepD3 m t h i c .core)
+  pD3 h i atOnce = left m t p
+  pD3 h i fenced = p
+
+  pD6 : (h v : ℕ) (c : Mode) → Plain (stepD6 m t h v c .core)
+  pD6 h v atOnce = p
+  pD6 h v fenced = p
+
   pub stepPlain : (s : Th) → m .thr t ≡ s → Plain (step m t s .core)
   stepPlain idle e = p
   stepPlain (a1 v) e = pA1 v _ refl
@@ -140,15 +153,18 @@ module _ (m : Core) (t : ℕ) (p : Plain m) (free-in : (n : ℕ) → m .free n �
   stepPlain (a7 v n x) e = pA7 v n x (leb (m .conf .top) (m .node x .index))
   stepPlain (a8 v n x) e = pA8 v n x (own-in n (rw e)) (m .next x)
   stepPlain (a9 v n x) e = p
-  stepPlain (a10 v n x) e = p
+  stepPlain (a10 v n x) e = pA10 v n x (m .conf .mode)
+  stepPlain (a10f v n x) e = p
   stepPlain (a11 v n x) e = pA11 n (eqb (m .tail) x)
   stepPlain (a12 v n x) e = pA12 v n (eqb (m .tail) x) (m .next x)
   stepPlain d1 e = p
   stepPlain (d2 h i) e = pD2 h i (m .next h)
-  stepPlain (d3 h i) e = left m t p
+  stepPlain (d3 h i) e = pD3 h i (m .conf .mode)
+  stepPlain (d3f h i) e = left m t p
   stepPlain (d4 h i x) e = pD4 h x (sameHead (m .conf .engine) (eqb (m .hnode) h) (eqb (m .hidx) i))
   stepPlain (d5 h x) e = p
-  stepPlain (d6 h v) e = p
+  stepPlain (d6 h v) e = pD6 h v (m .conf .mode)
+  stepPlain (d6f h v) e = p
   stepPlain (s3 h i) e = p
   stepPlain (s6 h x v) e = p
   stepPlain (d7 h v) e = d7-of (m .held t)

@@ -8,6 +8,7 @@ use Prim.Native.Nat.{ℕ, suc, _≤_, _<_}
 use native.Mathlib.Omega.{arith}
 use native.Mathlib.Decide.{decLt, decLe}
 use Rattle.model.specs.Basics.{has}
+use Rattle.model.specs.Core.{a10f, d3f, d6f}
 use Rattle.model.specs.Core.{Core, Th, busy, idle, a1, a2, a3, a4, a5, a6, a7, a8, a9, a10, a11, a12, d1, d2, d3, d4, d5, d6, d7, s3, s6}
 use Rattle.model.specs.Bench.{Book}
 use Rattle.model.specs.Places.{ownsE, ownsD}
@@ -75,6 +76,7 @@ module _ (hs : Hist) (m : Core) (b : Book) (q₀ : List ℕ) (now : ℕ) (a : Al
       (own-e t n (rw e), ref-below t (r .pos) x (rw e) (r .is) (r .lo) (r .hi))
   th-in t (a9 v n x) e = linked t n x (rw e) (rw e at (a .inv .threads .refs t))
   th-in t (a10 v n x) e = linked t n x (rw e) (rw e at (a .inv .threads .refs t))
+  th-in t (a10f v n x) e = linked t n x (rw e) (rw e at (a .inv .threads .refs t))
   th-in t (a11 v n x) e = linked t n x (rw e) (rw e at (a .inv .threads .refs t))
   th-in t (a12 v n x) e =
       let yl : (y : ℕ) × Lnk (a .g .who) (a .g .base t) (a .g .len) x y = rw e at (a .inv .threads .refs t) in
@@ -86,19 +88,21 @@ module _ (hs : Hist) (m : Core) (b : Book) (q₀ : List ℕ) (now : ℕ) (a : Al
   th-in t d1 e = tt
   th-in t (d2 h i) e = headed t h i (rw e) (rw e at (a .inv .threads .refs t))
   th-in t (d3 h i) e = headed t h i (rw e) (rw e at (a .inv .threads .refs t))
+  th-in t (d3f h i) e = headed t h i (rw e) (rw e at (a .inv .threads .refs t))
   th-in t (s3 h i) e = headed t h i (rw e) (rw e at (a .inv .threads .refs t))
   th-in t (d4 h i x) e =
       let r : Hd2 (a .g .who) (a .g .idx) (a .g .base t) (a .g .hp) (a .g .len) h i x = rw e at (a .inv .threads .refs t) in
       (headed t h i (rw e) (r .at), ref-below t (suc (r .at .pos)) x (rw e) (r .then) (omega (arith, r .at .lo)) (r .more))
   th-in t (d5 h x) e =
       let d = a .inv .place .deq-own t h (rw e) in
-      let fc : FactsOf m (a .g) (a .p) t (d5 h x) = rw e at (a .pinv .facts t) in
+      let fc : FactsOf hs m (a .g) (a .p) t (d5 h x) = rw e at (a .pinv .facts t) in
       let r = fc (d .0) (d .1) in
       (own-d t h (rw e), ref-below t (suc (d .0)) x (rw e) (r .2) (omega (arith, r .0)) (r .1))
   th-in t (d6 h v) e = own-d t h (rw e)
+  th-in t (d6f h v) e = own-d t h (rw e)
   th-in t (s6 h x v) e =
       let d = a .inv .place .deq-own t h (rw e) in
-      let fc : FactsOf m (a .g) (a .p) t (s6 h x v) = rw e at (a .pinv .facts t) in
+      let fc : FactsOf hs m (a .g) (a .p) t (s6 h x v) = rw e at (a .pinv .facts t) in
       let r = fc .1 (d .0) (d .1) in
       (own-d t h (rw e), ref-below t (suc (d .0)) x (rw e) (r .1) (omega (arith, r .0)) (r .3 .inside))
   th-in t (d7 h v) e = own-d t h (rw e)

@@ -4,11 +4,11 @@ use mathlib.Core.List.{List, [], _∷_}
 use Rattle.model.specs.Lines.{act, back}
 use Rattle.model.specs.Steps.{enq, deq, move}
 use Rattle.model.specs.Recovery.{Image, start′}
-use Rattle.model.specs.Machine.{M, Event, ev, crash, event, starts, persisted, run, Has}
+use Rattle.model.specs.Machine.{M, Event, ev, crash, event, starts, persisted, run}
 use Rattle.model.specs.Bench.{Bench, turn, bench, opening}
 use Rattle.model.specs.Demand3.{Fit, Tidy, Takes, TakesAll}
 use Rattle.model.specs.Always.{InRange, AlwaysInRange}
-use Rattle.model.proofs.Times.{Timed, startTimed}
+use Rattle.model.proofs.Times.{histOf, Timed, startTimed}
 use Rattle.model.proofs.Layer3.All.{All}
 use Rattle.model.proofs.Demand3.Endings.{fit}
 use Rattle.model.proofs.Demand3.ThreeB.{stays-put, turnAll, turnTimed, openAll}
@@ -41,7 +41,7 @@ conf-starts g = refl
 -- all that is kept through a run
 pub record Kept (b : Bench) : Type 0 where
   pub timed : Timed (b .mach)
-  pub all : All (Has (b .mach)) (b .mach .core) (b .book) (b .first) (b .now)
+  pub all : All (histOf (b .mach)) (b .mach .core) (b .book) (b .first) (b .now)
   pub plain : Plain (b .mach .core)
 
 pub openKept : (g : Image) → Fit g → Tidy g → Kept (opening g)

@@ -41,7 +41,7 @@ or-right : (a b : Bool) → b ≡ true → orb a b ≡ true
 or-right true b e = refl
 or-right false b e = e
 
-module _ (hs : Hist) (m : Core) (b : Book) (q₀ : List ℕ) (now : ℕ) (a : All hs m b q₀ now) (e : Image) (en : Ending hs (m .conf) e) where
+module _ (hs : Hist) (m : Core) (b : Book) (q₀ : List ℕ) (now : ℕ) (a : All hs m b q₀ now) (e : Image) (en : Ending (hs .is) (m .conf) e) where
   pub place-of : (k : ℕ) × (a .p .pp ≤ k) × (k ≤ a .g .hp) × (headOf e ≡ a .g .idx k)
   unfolding headOf
   place-of = let r = headH _ _ _ (a .g .len) _ _ _ (a .inv .log .rising) (a .inv .log .hp-in) (a .pinv .head) (e .heads) (λ k h. en .lines (ofHead k) h) in
@@ -191,7 +191,7 @@ module _ (hs : Hist) (m : Core) (b : Book) (q₀ : List ℕ) (now : ℕ) (a : Al
   keep-safe : (q : ℕ) → q < a .g .len → a .p .safe q ≡ true → keep q ≡ true
   keep-safe q h s = by (decLe q (hd .0)) (a .pinv .nodes .safely q h s)
     where
-      by : Dec (q ≤ hd .0) → (q ≤ a .p .pp) ⊎ ((c : Node) → hs (ofNode (a .g .who q)) c → (c .linked ≡ true) × (c .index ≡ a .g .idx q))
+      by : Dec (q ≤ hd .0) → (q ≤ a .p .pp) ⊎ ((c : Node) → hs .is (ofNode (a .g .who q)) c → (c .linked ≡ true) × (c .index ≡ a .g .idx q))
           → keep q ≡ true
       by (yes z) f = keep-low q z
       by (no z) (inl f) = keep-low q (omega (arith, hd .1))

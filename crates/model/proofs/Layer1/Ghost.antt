@@ -6,6 +6,7 @@ use mathlib.Core.Logic.{_≢_}
 use mathlib.Core.Option.{Option, none, some}
 use Prim.Native.Nat.{ℕ, suc, pred, _≤_, _<_}
 use Rattle.model.specs.Basics.{has}
+use Rattle.model.specs.Core.{a10f, d3f, d6f}
 use Rattle.model.specs.Core.{Th, Core, Node, busy, idle, a1, a2, a3, a4, a5, a6, a7, a8, a9, a10, a11, a12, d1, d2, d3, d4, d5, d6, d7, s3, s6}
 use Rattle.model.specs.Places.{ownsE, ownsD}
 
@@ -77,15 +78,18 @@ Refs who idx b hp tp l (a7 v n x) = Ref who b tp l x
 Refs who idx b hp tp l (a8 v n x) = Ref who b tp l x
 Refs who idx b hp tp l (a9 v n x) = Lnk who b l x n
 Refs who idx b hp tp l (a10 v n x) = Lnk who b l x n
+Refs who idx b hp tp l (a10f v n x) = Lnk who b l x n
 Refs who idx b hp tp l (a11 v n x) = Lnk who b l x n
 Refs who idx b hp tp l (a12 v n x) = (y : ℕ) × Lnk who b l x y
 Refs who idx b hp tp l d1 = Unit {0}
 Refs who idx b hp tp l (d2 h i) = Hd who idx b hp h i
 Refs who idx b hp tp l (d3 h i) = Hd who idx b hp h i
+Refs who idx b hp tp l (d3f h i) = Hd who idx b hp h i
 Refs who idx b hp tp l (s3 h i) = Hd who idx b hp h i
 Refs who idx b hp tp l (d4 h i x) = Hd2 who idx b hp l h i x
 Refs who idx b hp tp l (d5 h x) = Unit {0}
 Refs who idx b hp tp l (d6 h v) = Unit {0}
+Refs who idx b hp tp l (d6f h v) = Unit {0}
 Refs who idx b hp tp l (s6 h x v) = Unit {0}
 Refs who idx b hp tp l (d7 h v) = Unit {0}
 
@@ -102,15 +106,18 @@ Mine ix next (a7 v n x) = next n ≡ none
 Mine ix next (a8 v n x) = (next n ≡ none) × (ix n ≡ suc (ix x))
 Mine ix next (a9 v n x) = Unit {0}
 Mine ix next (a10 v n x) = Unit {0}
+Mine ix next (a10f v n x) = Unit {0}
 Mine ix next (a11 v n x) = Unit {0}
 Mine ix next (a12 v n x) = next n ≡ none
 Mine ix next d1 = Unit {0}
 Mine ix next (d2 h i) = Unit {0}
 Mine ix next (d3 h i) = Unit {0}
+Mine ix next (d3f h i) = Unit {0}
 Mine ix next (s3 h i) = Unit {0}
 Mine ix next (d4 h i x) = Unit {0}
 Mine ix next (d5 h x) = Unit {0}
 Mine ix next (d6 h v) = Unit {0}
+Mine ix next (d6f h v) = Unit {0}
 Mine ix next (s6 h x v) = Unit {0}
 Mine ix next (d7 h v) = Unit {0}
 

@@ -5,6 +5,7 @@ use mathlib.Core.Option.{Option, none, some}
 use Prim.Native.Nat.{ℕ, suc, _≤_, _<_}
 use native.Mathlib.Omega.{arith}
 use Rattle.model.specs.Basics.{upd}
+use Rattle.model.specs.Core.{a10f, d3f, d6f}
 use Rattle.model.specs.Core.{Th, Core, Node, idle, a1, a2, a3, a4, a5, a6, a7, a8, a9, a10, a11, a12, d1, d2, d3, d4, d5, d6, d7, s3, s6}
 use Rattle.model.specs.Changes.{setTail, store, setNext}
 use Rattle.model.specs.Places.{ownsE}
@@ -48,15 +49,18 @@ module _ (who idx who′ idx′ : ℕ → ℕ) (hp tp l hp′ tp′ l′ : ℕ)
   refs-map (a8 v n x) r = ref-map r
   refs-map (a9 v n x) r = lnk-map r
   refs-map (a10 v n x) r = lnk-map r
+  refs-map (a10f v n x) r = lnk-map r
   refs-map (a11 v n x) r = lnk-map r
   refs-map (a12 v n x) r = (r .0, lnk-map (r .1))
   refs-map d1 r = tt
   refs-map (d2 h i) r = hd-map r
   refs-map (d3 h i) r = hd-map r
+  refs-map (d3f h i) r = hd-map r
   refs-map (s3 h i) r = hd-map r
   refs-map (d4 h i x) r = record { at = hd-map (r .at); more = omega (arith, r .more); then = wk (suc (r .at .pos)) (r .more) ∙ r .then }
   refs-map (d5 h x) r = tt
   refs-map (d6 h v) r = tt
+  refs-map (d6f h v) r = tt
   refs-map (s6 h x v) r = tt
   refs-map (d7 h v) r = tt
 
@@ -74,15 +78,18 @@ mine-map (a7 v n x) f h k = f n refl k
 mine-map (a8 v n x) f h k = (f n refl (k .0), h v n x refl (k .1))
 mine-map (a9 v n x) f h k = tt
 mine-map (a10 v n x) f h k = tt
+mine-map (a10f v n x) f h k = tt
 mine-map (a11 v n x) f h k = tt
 mine-map (a12 v n x) f h k = f n refl k
 mine-map d1 f h k = tt
 mine-map (d2 h′ i) f h k = tt
 mine-map (d3 h′ i) f h k = tt
+mine-map (d3f h′ i) f h k = tt
 mine-map (s3 h′ i) f h k = tt
 mine-map (d4 h′ i x) f h k = tt
 mine-map (d5 h′ x) f h k = tt
 mine-map (d6 h′ v) f h k = tt
+mine-map (d6f h′ v) f h k = tt
 mine-map (s6 h′ x v) f h k = tt
 mine-map (d7 h′ v) f h k = tt
 

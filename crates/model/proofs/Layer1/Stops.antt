@@ -5,6 +5,7 @@ use mathlib.Core.Option.{Option, none, some}
 use Prim.Native.Nat.{ℕ, _≤_, _<_}
 use native.Mathlib.Omega.{arith}
 use Rattle.model.specs.Conf.{Engine, shared, split, sameHead}
+use Rattle.model.specs.Core.{a10f, d3f, d6f}
 use Rattle.model.specs.Core.{Core, Th, busy, idle, a1, a2, a3, a4, a5, a6, a7, a8, a9, a10, a11, a12, d1, d2, d3, d4, d5, d6, d7, s3, s6}
 use Rattle.model.specs.Changes.{setHeld, setTh}
 use Rattle.model.specs.Steps.{leave}
@@ -75,14 +76,17 @@ idle-of (a7 v n x) f = cc
 idle-of (a8 v n x) f = cc
 idle-of (a9 v n x) f = cc
 idle-of (a10 v n x) f = cc
+idle-of (a10f v n x) f = cc
 idle-of (a11 v n x) f = cc
 idle-of (a12 v n x) f = cc
 idle-of d1 f = cc
 idle-of (d2 h i) f = cc
 idle-of (d3 h i) f = cc
+idle-of (d3f h i) f = cc
 idle-of (s3 h i) f = cc
 idle-of (d4 h i x) f = cc
 idle-of (d5 h x) f = cc
 idle-of (d6 h v) f = cc
+idle-of (d6f h v) f = cc
 idle-of (s6 h x v) f = cc
 idle-of (d7 h v) f = cc

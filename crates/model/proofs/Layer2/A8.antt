@@ -46,20 +46,20 @@ module _ (hs : Hist) (m : Core) (g : Gh) (p : Pg) (i : Inv m g) (j : PInv hs m g
     nodes = record {
       cached = j .nodes .cached;
       linked = λ k c h l. lk k c (j .nodes .linked k c h l);
-      quiet = λ k c h. rw (io (p .pp) pp-in) (upd-ind (g .own) n (queue (g .len)) (λ k o. hs (ofNode k) c → Quiet (g .idx (p .pp)) c o) k
+      quiet = λ k c h. rw (io (p .pp) pp-in) (upd-ind (g .own) n (queue (g .len)) (λ k o. hs .is (ofNode k) c → Quiet (g .idx (p .pp)) c o) k
           (λ h. tt) (λ ne h. j .nodes .quiet k c h) h);
       gone = λ q h. gn q h (ℕ-discrete q (g .len));
       values = λ q l. vl q l (ℕ-discrete q (g .len));
       safely = λ q h s. sf q h s (ℕ-discrete q (g .len));
     };
-    facts = λ u. upd-ind (m .thr) t (a9 v n x) (λ u s. Facts (m .node) (upd (g .who) (g .len) n) (upd (g .idx) (g .len) (ixs (m .node) n))
+    facts = λ u. upd-ind (m .thr) t (a9 v n x) (λ u s. Facts (hs .since u) (m .node) (upd (g .who) (g .len) n) (upd (g .idx) (g .len) (ixs (m .node) n))
         (upd (g .own) n (queue (g .len))) (g .base u) (suc (g .len)) (upd (p .item) (g .len) v) (p .pp) (upd (p .safe) (g .len) false) (lowOf m u)
         (markOf m u) (m .conf .engine) u s) u tt
-        (λ ne. facts-map (m .node) (m .node) (g .who) (upd (g .who) (g .len) n) (g .idx) (upd (g .idx) (g .len) (ixs (m .node) n)) (g .own)
+        (λ ne. facts-map (hs .since u) (hs .since u) (m .node) (m .node) (g .who) (upd (g .who) (g .len) n) (g .idx) (upd (g .idx) (g .len) (ixs (m .node) n)) (g .own)
         (upd (g .own) n (queue (g .len))) (g .base u) (g .len) (suc (g .len)) (p .item) (upd (p .item) (g .len) v) (p .pp) (p .pp) (p .safe)
         (upd (p .safe) (g .len) false) (lowOf m u) (lowOf m u) (markOf m u) (markOf m u) (m .conf .engine) u
-        wo io to (λ q h s. upd-other (p .safe) (g .len) false (λ f. omega arith) ∙ s) (omega arith) (omega arith) (omega arith) (omega arith)
-        (m .thr u) (λ n e. refl) (λ v n x e l. l)
+        wo io to (λ q h s. upd-other (p .safe) (g .len) false (λ f. omega arith) ∙ s) (omega arith) (omega arith) (omega arith) (omega arith) (λ c z. inl z)
+        (m .thr u) (λ n e. refl) (λ v n x e l. l) (λ v n x e l. (refl, λ c z. inl z))
         (λ h q o w. before (g .own) n (queue (g .len)) h (λ f. omega (arith, ap tag f)) w .1) (j .facts u));
   }
     where
@@ -94,7 +94,7 @@ module _ (hs : Hist) (m : Core) (g : Gh) (p : Pg) (i : Inv m g) (j : PInv hs m g
           ap (λ k. m .node k .item) (wo q h′) ∙ j .nodes .values q (was-live m g i t v n x e nx q h′ l) ∙ sym (to q h′)
 
       sf : (q : ℕ) → q < suc (g .len) → upd (p .safe) (g .len) false q ≡ true → Dec (q ≡ g .len)
-          → (q ≤ p .pp) ⊎ ((c : Node) → hs (ofNode (upd (g .who) (g .len) n q)) c
+          → (q ≤ p .pp) ⊎ ((c : Node) → hs .is (ofNode (upd (g .who) (g .len) n q)) c
           → (c .linked ≡ true) × (c .index ≡ upd (g .idx) (g .len) (ixs (m .node) n) q))
       sf q h s (yes f) = let a = upd-at (p .safe) (g .len) false f in let z : _≡_ {A = ℕ} 0 1 = cc in absurd (omega arith)
       sf q h s (no f) = rw (wo q (omega arith), io q (omega arith)) (j .nodes .safely q (omega arith) (sym (upd-other (p .safe) (g .len) false f) ∙ s))

@@ -7,8 +7,8 @@ use mathlib.Core.Option.{none, some}
 use Prim.Native.Nat.{ℕ, zero, suc, _≤_, _<_}
 use native.Mathlib.Omega.{arith}
 use Rattle.model.specs.Basics.{upd}
-use Rattle.model.specs.Lines.{nowhere}
-use Rattle.model.specs.Core.{Th, Core, content, Ans, item, busy, idle}
+use Rattle.model.specs.Lines.{Line, nowhere, flushes, fences}
+use Rattle.model.specs.Core.{Th, Core, Node, content, Ans, item, busy, idle}
 use Rattle.model.specs.Steps.{Out, remove, leave}
 use Rattle.model.specs.Bench.{Book, noteMove, closes}
 use Rattle.model.specs.Places.{ownsE, ownsD}
@@ -57,6 +57,13 @@ unfolding seg
 seg-ext it it′ zero h = refl
 seg-ext it it′ (suc b) h = rw (seg-ext it it′ b (λ p l. h p (omega arith)), h b (omega arith)) refl
 
+-- a line persisted at once, or at a fence: there is nothing new
+pub at-once : (l : Line) (con : Line → Node) (hs hs′ : Hist) → Grown (flushes l) con hs hs′ → Grown nowhere con hs hs′
+at-once l con hs hs′ w = record { here = w .here; made = w .made .0; later = w .later }
+
+pub at-fence : (t : ℕ) (l : Line) (con : Line → Node) (hs hs′ : Hist) → Grown (fences t l) con hs hs′ → Grown nowhere con hs hs′
+at-fence t l con hs hs′ w = record { here = w .here; made = w .made .0; later = w .later }
+
 -- what is to be shown of a step of thread t
 abbrev pub AfterStep : Hist → Hist → Book → List ℕ → ℕ → ℕ → Out → Type 0
 AfterStep hs hs′ b q₀ now t o = Grown (o .touch) (content (o .core)) hs hs′ → All hs′ (o .core) (noteMove b now t (o .ans)) q₀ (suc now)
@@ -70,7 +77,7 @@ module _ (hs : Hist) (m : Core) (b : Book) (q₀ : List ℕ) (now : ℕ) (a : Al
 
   -- the second layer, where no line is touched
   pub quiet : (hs′ : Hist) → Grown nowhere (content m) hs hs′ → PInv hs′ m (a .g) (a .p)
-  quiet hs′ w = fewerP hs hs′ m (a .g) (a .p) (a .inv) (w .made) (w .here) (a .pinv)
+  quiet hs′ w = fewerP hs hs′ m (a .g) (a .p) (a .inv) w (a .pinv)
 
   -- a thread moves on: nothing takes effect
   module _ (s : Th) (bt : busy (m .thr t) ≡ true) where

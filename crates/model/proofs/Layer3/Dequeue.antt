@@ -2,18 +2,18 @@
 use mathlib.Core.Path.{_≡_, refl, sym, subst, ap, _∙_}
 use mathlib.Core.Bool.{Bool, true, false}
 use mathlib.Core.List.{List, _∷_}
-use mathlib.Core.Logic.{inl, inr, _↔_}
+use mathlib.Core.Logic.{_⊎_, inl, inr, _↔_}
 use mathlib.Core.Option.{Option, none, some}
 use Prim.Native.Nat.{ℕ, suc, _≤_, _<_}
 use native.Mathlib.Omega.{arith}
 use native.Mathlib.Decide.{decLt}
 use lib.Dec.{eqb}
 use Rattle.model.specs.Basics.{upd}
-use Rattle.model.specs.Conf.{sameHead, Engine, shared, split, lineIx, lineOf, lineCount, threadIx, headLines}
-use Rattle.model.specs.Core.{content, Th, Core, empty, item, busy, idle, d1, d2, d3, d4, d5, d6, d7, s3, s6}
-use Rattle.model.specs.Lines.{nowhere, flushes, ofHead}
+use Rattle.model.specs.Conf.{Mode, atOnce, fenced, sameHead, Engine, shared, split, lineIx, lineOf, lineCount, threadIx, headLines}
+use Rattle.model.specs.Core.{d3f, d6f, Node, content, Th, Core, empty, item, busy, idle, d1, d2, d3, d4, d5, d6, d7, s3, s6}
+use Rattle.model.specs.Lines.{nowhere, ofHead}
 use Rattle.model.specs.Changes.{setHeld, setTh}
-use Rattle.model.specs.Steps.{reply, emptyTo, itemTo, Out, step, stepD2, stepD4, retireHeld}
+use Rattle.model.specs.Steps.{leave, stepD3, stepD6, reply, emptyTo, itemTo, Out, step, stepD2, stepD4, retireHeld}
 use Rattle.model.specs.Lawful.{taking}
 use Rattle.model.specs.Bench.{Book, closes}
 use Rattle.model.specs.Places.{ownsE, ownsD}
@@ -29,14 +29,14 @@ use Rattle.model.proofs.Layer1.D7.{retired, holding, kp, dq₂, dropHel
 use Rattle.model.proofs.Layer1.Stops.{leave-again, hold-again, same-number}
 use Rattle.model.proofs.Layer2.Contents.{idx-mono}
 use Rattle.model.proofs.Layer2.Invariant.{PInv, FactsOf, lowOf, markOf, Got, gotoP}
-use Rattle.model.proofs.Layer2.Stores.{keptP, toHead, headP}
+use Rattle.model.proofs.Layer2.Stores.{issuedP, keptP, toHead, headP}
 use Rattle.model.proofs.Layer2.Hands.{retiredP, holdingP}
 use Rattle.model.proofs.Layer2.D4.{D4P, markP}
 use Rattle.model.proofs.Layer3.Effects.{Lin, get, saw, Fresh, Fits}
 use Rattle.model.proofs.Layer3.Invariant.{Mark, CurOf}
 use Rattle.model.proofs.Layer3.Changes.{tickL, addL, moveC}
-use Rattle.model.proofs.Layer3.All.{All, sound-len, moved, went, answered, other, AfterStep, cu, quiet}
-use Rattle.model.proofs.Layer2.Heads.{low-cur}
+use Rattle.model.proofs.Layer3.All.{All, sound-len, moved, went, answered, other, AfterStep, cu, quiet, at-once, at-fence}
+use Rattle.model.proofs.Layer2.Heads.{low-cur, Kept}
 
 -- ---- what the engine must give: a thread's line is one of the head lines; what a thread has stored is no newer than Head
 
@@ -83,7 +83,7 @@ module _ (hs hs′ : Hist) (m : Core) (b : Book) (q₀ : List ℕ) (now : ℕ) (
     abbrev sawIt : List Lin
     sawIt = record { by = b .cur t; at = now; what = saw (a .g .hp) } ∷ a .lin
 
-    sD2to : (s : Th) → Grown nowhere (content m) hs hs′ → Inv (setTh m t s) (a .g) → FactsOf m (a .g) (a .p) t s
+    sD2to : (s : Th) → Grown nowhere (content m) hs hs′ → Inv (setTh m t s) (a .g) → FactsOf hs′ m (a .g) (a .p) t s
         → ((p : ℕ) × (a .g .base t ≤ p) × (p < a .g .len) × (a .g .who p ≡ h) × Mark sawIt (b .cur t) (saw p)
         → CurOf (b .op (b .cur t) .call) sawIt (a .g .hp) (a .g .who) (a .g .own) (a .g .base t) (a .g .len) t (b .cur t) s)
         → All hs′ (setTh m t s) b q₀ (suc now)
@@ -125,50 +125,67 @@ module _ (hs hs′ : Hist) (m : Core) (b : Book) (q₀ : List ℕ) (now : ℕ) (
   sD2 h k e (some x) f w = went hs m b q₀ now a t (d4 h k x) (rw e) _ _ (D2 m (a .g) (a .inv) t h k e (some x) f)
       (gotoP hs′ m (a .g) (a .p) (pv w) t (d4 h k x) (rw e at (a .pinv .facts t))) refl refl (cu hs m b q₀ now a t (d2 h k) e refl)
 
-  -- a place whose index is no newer than what the thread persists is persisted
-  module _ (bt : busy (m .thr t) ≡ true) (w : Grown (flushes (ofHead (lineOf (m .conf .engine) t))) (content m) hs hs′) where
+  -- of the thread's head line nothing older than f is left: a place whose index is no newer is persisted
+  module _ (bt : busy (m .thr t) ≡ true) (w : Grown nowhere (content m) hs hs′) (f : ℕ)
+      (fp : (f ≤ a .g .idx 0) ⊎ ((q : ℕ) × (q ≤ a .g .hp) × (f ≡ a .g .idx q)))
+      (low : (c : Node) → hs′ .is (ofHead (lineOf (m .conf .engine) t)) c → f ≤ c .index) where
     abbrev my : lineOf (m .conf .engine) t < headLines (m .conf)
     my = line-in (m .conf .engine) (m .conf .threads) t (a .inv .alive .range t bt)
 
-    abbrev ppD : ℕ
-    ppD = toHead hs m (a .g) (a .p) (a .inv) (a .pinv) hs′ (lineOf (m .conf .engine) t) my w .pp
+    abbrev kpD : Kept (headLines (m .conf)) (a .g .hp) (a .p .pp) (a .g .len) (a .g .idx) (lineIx (m .conf .engine) (m .hidx) (m .marks))
+        (λ k. hs .is (ofHead k)) (a .inv .log .rising) (a .inv .log .hp-in) (a .pinv .head) (λ k. hs′ .is (ofHead k)) f
+    kpD = keptP hs m (a .g) (a .p) (a .inv) (a .pinv) hs′ w (lineOf (m .conf .engine) t) f my fp low
 
-    reached : (q : ℕ) → q < a .g .len → a .g .idx q ≤ lowOf m t → q ≤ ppD
+    abbrev ppD : ℕ
+    ppD = kpD .pp′
+
+    pvD : PInv hs′ m (a .g) (toHead hs m (a .g) (a .p) (a .inv) (a .pinv) hs′ w (lineOf (m .conf .engine) t) f my fp low)
+    pvD = headP hs m (a .g) (a .p) (a .inv) (a .pinv) hs′ w (lineOf (m .conf .engine) t) f my fp low
+
+    reached : (q : ℕ) → q < a .g .len → a .g .idx q ≤ f → q ≤ ppD
     reached q h le = by (decLt ppD q)
       where
-        kp : lowOf m t ≤ a .g .idx ppD
-        kp = keptP hs m (a .g) (a .p) (a .inv) (a .pinv) hs′ (lineOf (m .conf .engine) t) my w .reach
-
         by : Dec (ppD < q) → q ≤ ppD
-        by (yes z) = absurd (omega (arith, kp, a .inv .log .rising ppD q z h))
+        by (yes z) = absurd (omega (arith, kpD .reach, a .inv .log .rising ppD q z h))
         by (no z) = omega arith
 
-  pub sD3 : (h k : ℕ) → m .thr t ≡ d3 h k → After (step m t (d3 h k))
-  sD3 h k e w =
-      answered hs m b q₀ now a t (rw e) _ m (a .g .own) (a .g .tp) (ppD (rw e) w) (a .p .safe) (a .inv)
-      (headP hs m (a .g) (a .p) (a .inv) (a .pinv) hs′ (lineOf (m .conf .engine) t) (my (rw e) w) w) (rw e) (rw e) refl refl (λ k. (λ z. z, λ z. z))
-      (keptP hs m (a .g) (a .p) (a .inv) (a .pinv) hs′ (lineOf (m .conf .engine) t) (my (rw e) w) w .up) (λ q z. z) (λ u h q ne o z. z)
-      (saw (c .0)) empty (c .4) (
-        f .0,
-        ap (λ y. b .op y .call) (sym (c .4 .its))
-            ∙ f .1,
-        inr (refl, reached (rw e) w (c .0) (c .2) (omega (arith, fc, r .ix, ap (a .g .idx) one))),
-      )
-    where
-      c : (p : ℕ) × (a .g .base t ≤ p) × (p < a .g .len) × (a .g .who p ≡ h) × Mark (a .lin) (b .cur t) (saw p)
-      c = cu hs m b q₀ now a t (d3 h k) e refl
+  -- the thread answers Empty: what it found last is persisted
+  module _ (h k : ℕ) (bt : busy (m .thr t) ≡ true) (oe : ownsE (m .thr t) ≡ none) (od : ownsD (m .thr t) ≡ none) (w : Grown nowhere (content m) hs hs′)
+      (low : (c : Node) → hs′ .is (ofHead (lineOf (m .conf .engine) t)) c → k ≤ c .index) (r : Hd (a .g .who) (a .g .idx) (a .g .base t) (a .g .hp) h k)
+      (c : (p : ℕ) × (a .g .base t ≤ p) × (p < a .g .len) × (a .g .who p ≡ h) × Mark (a .lin) (b .cur t) (saw p)) where
+    fpE : (k ≤ a .g .idx 0) ⊎ ((q : ℕ) × (q ≤ a .g .hp) × (k ≡ a .g .idx q))
+    fpE = inr (r .pos, r .hi, sym (r .ix))
 
-      f : Fits (b .op (c .4 .entry .by)) (a .g .len) (a .p .pp) (a .p .item) (a .p .safe) (saw (c .0))
-      f = rw (c .4 .kind) at (a .lins .entries (c .4 .entry) (c .4 .there) .fits)
+    f : Fits (b .op (c .4 .entry .by)) (a .g .len) (a .p .pp) (a .p .item) (a .p .safe) (saw (c .0))
+    f = rw (c .4 .kind) at (a .lins .entries (c .4 .entry) (c .4 .there) .fits)
 
-      r : Hd (a .g .who) (a .g .idx) (a .g .base t) (a .g .hp) h k
-      r = rw e at (a .inv .threads .refs t)
+    one : c .0 ≡ r .pos
+    one = same-place m (a .g) (a .inv) t bt (c .0) (r .pos) (c .1) (c .2) (r .lo) (omega (arith, r .hi, a .inv .log .hp-in)) (c .3 ∙ sym (r .is))
 
-      one : c .0 ≡ r .pos
-      one = same-place m (a .g) (a .inv) t (rw e) (c .0) (r .pos) (c .1) (c .2) (r .lo) (omega (arith, r .hi, a .inv .log .hp-in)) (c .3 ∙ sym (r .is))
+    empties : All hs′ (leave m t) (closes b now t empty) q₀ (suc now)
+    empties = answered hs m b q₀ now a t bt hs′ m (a .g .own) (a .g .tp) (ppD bt w k fpE low) (a .p .safe) (a .inv) (pvD bt w k fpE low) oe od refl refl
+        (λ k. (λ z. z, λ z. z)) (kpD bt w k fpE low .up) (λ q z. z) (λ u h q ne o z. z) (saw (c .0)) empty (c .4) (
+          f .0,
+          ap (λ y. b .op y .call) (sym (c .4 .its)) ∙ f .1,
+          inr (refl, reached bt w k fpE low (c .0) (c .2) (omega (arith, r .ix, ap (a .g .idx) one))),
+        )
 
-      fc : k ≤ lowOf m t
-      fc = rw e at (a .pinv .facts t)
+  pub sD3 : (h k : ℕ) → m .thr t ≡ d3 h k → (c : Mode) → After (stepD3 m t h k c)
+  sD3 h k e atOnce w =
+      let fc : FactsOf hs m (a .g) (a .p) t (d3 h k) = rw e at (a .pinv .facts t) in
+      empties h k (rw e) (rw e) (rw e) (at-once _ (content m) hs hs′ w) (λ c z. omega (arith, fc, ap (λ y. y .index) (w .made .1 c z)))
+      (rw e at (a .inv .threads .refs t)) (cu hs m b q₀ now a t (d3 h k) e refl)
+  sD3 h k e fenced w =
+      let fc : FactsOf hs m (a .g) (a .p) t (d3 h k) = rw e at (a .pinv .facts t) in
+      went hs m b q₀ now a t (d3f h k) (rw e) _ _ (goto m (a .g) (a .inv) t (d3f h k) (rw e) (rw e) (rw e) (rw e at (a .inv .threads .refs t)) tt)
+      (issuedP hs m (a .g) (a .p) (a .inv) (a .pinv) hs′ t (d3f h k) w (fc, λ c z. omega (arith, fc, ap (λ y. y .index) (w .later .1 _ c z)))) refl refl
+      (cu hs m b q₀ now a t (d3 h k) e refl)
+
+  pub sD3f : (h k : ℕ) → m .thr t ≡ d3f h k → After (step m t (d3f h k))
+  sD3f h k e w =
+      let fc : FactsOf hs m (a .g) (a .p) t (d3f h k) = rw e at (a .pinv .facts t) in
+      empties h k (rw e) (rw e) (rw e) (at-fence t _ (content m) hs hs′ w) (λ c z. fc .1 c (w .made .1 c z))
+      (rw e at (a .inv .threads .refs t)) (cu hs m b q₀ now a t (d3f h k) e refl)
 
   pub sD4 : (h k x : ℕ) → m .thr t ≡ d4 h k x → (c : Bool) → sameHead (m .conf .engine) (eqb (m .hnode) h) (eqb (m .hidx) k) ≡ c → After (stepD4 m t h x c)
   sD4 h k x e true f w = record {
@@ -211,7 +228,7 @@ module _ (hs hs′ : Hist) (m : Core) (b : Book) (q₀ : List ℕ) (now : ℕ) (
       v : ℕ
       v = m .node x .item
 
-      fc : FactsOf m (a .g) (a .p) t (d5 h x)
+      fc : FactsOf hs m (a .g) (a .p) t (d5 h x)
       fc = rw e at (a .pinv .facts t)
 
       got : (q : ℕ) → a .g .own h ≡ deqd t q → Got (a .g .who) (a .p .item) (a .g .len) v q
@@ -263,7 +280,7 @@ module _ (hs hs′ : Hist) (m : Core) (b : Book) (q₀ : List ℕ) (now : ℕ) (
             (omega (arith, ix, ap (λ y. a .g .idx (suc y)) (one q o))),
       ))) refl refl (cu hs m b q₀ now a t (s6 h x v) e refl)
     where
-      fc : FactsOf m (a .g) (a .p) t (s6 h x v)
+      fc : FactsOf hs m (a .g) (a .p) t (s6 h x v)
       fc = rw e at (a .pinv .facts t)
 
       d : (q : ℕ) × (a .g .own h ≡ deqd t q)
@@ -281,15 +298,51 @@ module _ (hs hs′ : Hist) (m : Core) (b : Book) (q₀ : List ℕ) (now : ℕ) (
       one : (q : ℕ) → a .g .own h ≡ deqd t q → q ≡ d .0
       one q o = let w = sym o ∙ d .1 in cc
 
-  pub sD6 : (h v : ℕ) → m .thr t ≡ d6 h v → After (step m t (d6 h v))
-  sD6 h v e w =
-      let fc : FactsOf m (a .g) (a .p) t (d6 h v) = rw e at (a .pinv .facts t) in
-      moved hs m b q₀ now a t (d7 h v) (rw e) _ (setTh m t (d7 h v)) (a .g .own) (a .g .tp) (ppD (rw e) w) (a .p .safe)
-      (goto m (a .g) (a .inv) t (d7 h v) (rw e) (rw e) (rw e) tt tt)
-      (gotoP _ m (a .g) _ (headP hs m (a .g) (a .p) (a .inv) (a .pinv) hs′ (lineOf (m .conf .engine) t) (my (rw e) w) w) t (d7 h v)
-      (λ q o. let r = fc q o in (r .0, (let z = reached (rw e) w (suc q) (r .0 .inside) (r .1) in omega arith))))
-      refl (λ k. (λ z. z, λ z. z)) refl (keptP hs m (a .g) (a .p) (a .inv) (a .pinv) hs′ (lineOf (m .conf .engine) t) (my (rw e) w) w .up) (λ q z. z)
-      (λ u h q ne o z. z) (cu hs m b q₀ now a t (d6 h v) e refl)
+  -- the place taken is persisted
+  module _ (h v : ℕ) (bt : busy (m .thr t) ≡ true) (oe : ownsE (m .thr t) ≡ none) (od : ownsD (m .thr t) ≡ some h) (w : Grown nowhere (content m) hs hs′)
+      (fc : (q : ℕ) → a .g .own h ≡ deqd t q → Got (a .g .who) (a .p .item) (a .g .len) v q
+      × ((c : Node) → hs′ .is (ofHead (lineOf (m .conf .engine) t)) c → a .g .idx (suc q) ≤ c .index))
+      (k : (q : ℕ) → a .g .own h ≡ deqd t q → Mark (a .lin) (b .cur t) (get (suc q))) where
+    d : (q : ℕ) × (a .g .own h ≡ deqd t q)
+    d = a .inv .place .deq-own t h od
+
+    sp : Spot (a .g .who) (a .g .hp) (a .g .len) h (deqd t (d .0))
+    sp = rw (d .1) at (a .inv .place .spot h)
+
+    fpT : (a .g .idx (suc (d .0)) ≤ a .g .idx 0) ⊎ ((q : ℕ) × (q ≤ a .g .hp) × (a .g .idx (suc (d .0)) ≡ a .g .idx q))
+    fpT = inr (suc (d .0), sp .1, refl)
+
+    lowT : (c : Node) → hs′ .is (ofHead (lineOf (m .conf .engine) t)) c → a .g .idx (suc (d .0)) ≤ c .index
+    lowT = fc (d .0) (d .1) .1
+
+    same-q : (q : ℕ) → a .g .own h ≡ deqd t q → q ≡ d .0
+    same-q q o = let w = sym o ∙ d .1 in cc
+
+    takes : All hs′ (setTh m t (d7 h v)) b q₀ (suc now)
+    takes = moved hs m b q₀ now a t (d7 h v) bt hs′ (setTh m t (d7 h v)) (a .g .own) (a .g .tp) (ppD bt w _ fpT lowT) (a .p .safe)
+        (goto m (a .g) (a .inv) t (d7 h v) (sym bt) (sym oe) (sym od) tt tt)
+        (gotoP hs′ m (a .g) _ (pvD bt w _ fpT lowT) t (d7 h v)
+        (λ q o. let r = fc q o in
+        (r .0, (let z = reached bt w _ fpT lowT (suc q) (r .0 .inside) (omega (arith, ap (λ y. a .g .idx (suc y)) (same-q q o))) in omega arith))))
+        refl (λ k. (λ z. z, λ z. z)) refl (kpD bt w _ fpT lowT .up) (λ q z. z) (λ u h q ne o z. z) k
+
+  pub sD6 : (h v : ℕ) → m .thr t ≡ d6 h v → (c : Mode) → After (stepD6 m t h v c)
+  sD6 h v e atOnce w =
+      let fc : FactsOf hs m (a .g) (a .p) t (d6 h v) = rw e at (a .pinv .facts t) in
+      takes h v (rw e) (rw e) (rw e) (at-once _ (content m) hs hs′ w)
+      (λ q o. let r = fc q o in (r .0, λ c z. omega (arith, r .1, ap (λ y. y .index) (w .made .1 c z)))) (cu hs m b q₀ now a t (d6 h v) e refl)
+  sD6 h v e fenced w =
+      let fc : FactsOf hs m (a .g) (a .p) t (d6 h v) = rw e at (a .pinv .facts t) in
+      went hs m b q₀ now a t (d6f h v) (rw e) _ _ (goto m (a .g) (a .inv) t (d6f h v) (rw e) (rw e) (rw e) tt tt)
+      (issuedP hs m (a .g) (a .p) (a .inv) (a .pinv) hs′ t (d6f h v) w
+      (λ q o. let r = fc q o in (r .0, r .1, λ c z. omega (arith, r .1, ap (λ y. y .index) (w .later .1 _ c z))))) refl refl
+      (cu hs m b q₀ now a t (d6 h v) e refl)
+
+  pub sD6f : (h v : ℕ) → m .thr t ≡ d6f h v → After (step m t (d6f h v))
+  sD6f h v e w =
+      let fc : FactsOf hs m (a .g) (a .p) t (d6f h v) = rw e at (a .pinv .facts t) in
+      takes h v (rw e) (rw e) (rw e) (at-fence t _ (content m) hs hs′ w) (λ q o. let r = fc q o in (r .0, λ c z. r .2 c (w .made .1 c z)))
+      (cu hs m b q₀ now a t (d6f h v) e refl)
 
   -- what a dequeue that answers knows
   module _ (h v q : ℕ) (e : m .thr t ≡ d7 h v) (o : a .g .own h ≡ deqd t q) where
@@ -301,7 +354,7 @@ module _ (hs hs′ : Hist) (m : Core) (b : Book) (q₀ : List ℕ) (now : ℕ) (
     fit =
         let r : Fits (b .op (mk .entry .by)) (a .g .len) (a .p .pp) (a .p .item) (a .p .safe)
         (get (suc q)) = rw (mk .kind) at (a .lins .entries (mk .entry) (mk .there) .fits) in
-        let fc : FactsOf m (a .g) (a .p) t (d7 h v) = rw e at (a .pinv .facts t) in
+        let fc : FactsOf hs m (a .g) (a .p) t (d7 h v) = rw e at (a .pinv .facts t) in
         let k = fc q o in
         (r .0, ap (λ y. b .op y .call) (sym (mk .its)) ∙ r .1, inr (ap item (k .0 .val), k .1))
 

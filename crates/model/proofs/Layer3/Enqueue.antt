@@ -8,11 +8,12 @@ use Prim.Native.Nat.{ℕ, suc, _≤_, _<_}
 use native.Mathlib.Omega.{arith}
 use lib.Dec.{eqb}
 use Rattle.model.specs.Basics.{upd}
-use Rattle.model.specs.Core.{Core, content, done, full, worn, withIndex, idle, a1, a2, a5, a7, a8, a9, a11, a12, d1, withItem, withLinked, a3, a4, a6}
+use Rattle.model.specs.Core.{a10f, busy, Node, Core, content, done, full, worn, withIndex, idle, a1, a2, a5, a7, a8, a9, a11, a12, d1, withItem, withLinked, a3, a4, a6}
 use Rattle.model.specs.Core.{a10}
-use Rattle.model.specs.Lines.{nowhere}
+use Rattle.model.specs.Lines.{nowhere, ofNode}
+use Rattle.model.specs.Conf.{Mode, atOnce, fenced}
 use Rattle.model.specs.Changes.{store, setTail, setFree, setTh, setNext}
-use Rattle.model.specs.Steps.{Out, stepA1, stepA7, stepA8, stepA11, stepA12, step, stepA6}
+use Rattle.model.specs.Steps.{Out, stepA1, stepA7, stepA8, stepA10, stepA11, stepA12, step, stepA6}
 use Rattle.model.specs.Lawful.{putting}
 use Rattle.model.specs.Bench.{Book, closes}
 use Rattle.model.specs.Places.{ownsE, ownsD}
@@ -27,13 +28,13 @@ use Rattle.model.proofs.Layer1.A8.{A8yes}
 use Rattle.model.proofs.Layer1.Hands.{A1yes, given-back, marks-free}
 use Rattle.model.proofs.Layer1.Stops.{leave-again, at-tail}
 use Rattle.model.proofs.Layer2.Invariant.{PInv, FactsOf, SafeAt, gotoP}
-use Rattle.model.proofs.Layer2.Stores.{storeP, A9P, A10P}
+use Rattle.model.proofs.Layer2.Stores.{storeP, A9P, A10P, issuedP}
 use Rattle.model.proofs.Layer2.Hands.{A1P, wornP}
 use Rattle.model.proofs.Layer2.A8.{A8P}
 use Rattle.model.proofs.Layer3.Effects.{put, Fresh, Fits}
-use Rattle.model.proofs.Layer3.Invariant.{Mark}
+use Rattle.model.proofs.Layer3.Invariant.{Mark, CurOf}
 use Rattle.model.proofs.Layer3.Changes.{tickL, addL, moveC}
-use Rattle.model.proofs.Layer3.All.{All, sound-len, moved, went, answered, refused, other, seg-ext, AfterStep, cu, quiet}
+use Rattle.model.proofs.Layer3.All.{All, sound-len, moved, went, answered, refused, other, seg-ext, AfterStep, cu, quiet, at-once, at-fence}
 
 module _ (hs hs′ : Hist) (m : Core) (b : Book) (q₀ : List ℕ) (now : ℕ) (a : All hs m b q₀ now) (t : ℕ) where
   abbrev After : Out → Type 0
@@ -73,7 +74,7 @@ module _ (hs hs′ : Hist) (m : Core) (b : Book) (q₀ : List ℕ) (now : ℕ) (
   sA4 v n e w =
       let on = a .inv .place .enq-own t n (rw e) in
       let c = withLinked (m .node n) false in
-      let fc : FactsOf m (a .g) (a .p) t (a4 v n) = rw e at (a .pinv .facts t) in
+      let fc : FactsOf hs m (a .g) (a .p) t (a4 v n) = rw e at (a .pinv .facts t) in
       went hs m b q₀ now a t (a5 v n) (rw e) _ _ (goto (store m n c) (a .g) (stored m (a .g) (a .inv) n c refl) t (a5 v n) (rw e) (rw e) (rw e) tt
       (rw e at (a .inv .threads .mine t)))
       (storeP hs m (a .g) (a .p) (a .inv) (a .pinv) hs′ t n c (a5 v n) w on (λ l. let z : _≡_ {A = ℕ} 0 1 = cc in absurd (omega arith))
@@ -108,7 +109,7 @@ module _ (hs hs′ : Hist) (m : Core) (b : Book) (q₀ : List ℕ) (now : ℕ) (
       let on = a .inv .place .enq-own t n (rw e) in
       let r : Ref (a .g .who) (a .g .base t) (a .g .tp) (a .g .len) x = rw e at (a .inv .threads .refs t) in
       let xn : x ≢ n = λ f. not-live m (a .g) (a .inv) t n (r .pos) on (a .inv .alive .live t (rw e) (r .pos) (r .lo) (r .hi)) (r .is ∙ f) in
-      let fc : FactsOf m (a .g) (a .p) t (a7 v n x) = rw e at (a .pinv .facts t) in
+      let fc : FactsOf hs m (a .g) (a .p) t (a7 v n x) = rw e at (a .pinv .facts t) in
       went hs m b q₀ now a t (a8 v n x) (rw e) _ _
       (goto (store m n k) (a .g) (stored-own m (a .g) (a .inv) t n k on (λ v k x f. let z : _≡_ {A = ℕ} 0 1 = cc in omega arith)) t (a8 v n x) (rw e)
       (rw e) (rw e) r
@@ -162,14 +163,31 @@ module _ (hs hs′ : Hist) (m : Core) (b : Book) (q₀ : List ℕ) (now : ℕ) (
       (rw e at (a .inv .threads .refs t)) tt)
       (A9P hs m (a .g) (a .p) (a .inv) (a .pinv) hs′ t v n x c w e refl refl refl) refl refl (cu hs m b q₀ now a t (a9 v n x) e refl)
 
-  pub sA10 : (v n x : ℕ) → m .thr t ≡ a10 v n x → After (step m t (a10 v n x))
-  sA10 v n x e w =
-      let l : Lnk (a .g .who) (a .g .base t) (a .g .len) x n = rw e at (a .inv .threads .refs t) in
-      moved hs m b q₀ now a t (a11 v n x) (rw e) _ (setTh m t (a11 v n x)) (a .g .own) (a .g .tp) (a .p .pp) (upd (a .p .safe) (suc (l .pos)) true)
-      (goto m (a .g) (a .inv) t (a11 v n x) (rw e) (rw e) (rw e) l tt)
-      (A10P hs m (a .g) (a .p) (a .inv) (a .pinv) hs′ t v n x w e l) refl (λ k. (λ z. z, λ z. z)) refl (omega arith)
-      (λ q z. upd-ind (a .p .safe) (suc (l .pos)) true (λ q y. a .p .safe q ≡ true → y ≡ true) q (λ w. refl) (λ ne w. w) z) (λ u h q ne o z. z)
+  -- the line is persisted, and the place is safe
+  module _ (v n x : ℕ) (e : busy (m .thr t) ≡ true) (oe : ownsE (m .thr t) ≡ none) (od : ownsD (m .thr t) ≡ none) (lk : m .node n .linked ≡ true)
+      (l : Lnk (a .g .who) (a .g .base t) (a .g .len) x n) where
+    safeAt : Grown nowhere (content m) hs hs′ → ((c : Node) → hs′ .is (ofNode n) c → c ≡ m .node n)
+        → CurOf (b .op (b .cur t) .call) (a .lin) (a .g .hp) (a .g .who) (a .g .own) (a .g .base t) (a .g .len) t (b .cur t) (a11 v n x)
+        → All hs′ (setTh m t (a11 v n x)) b q₀ (suc now)
+    safeAt w only k =
+        moved hs m b q₀ now a t (a11 v n x) e hs′ (setTh m t (a11 v n x)) (a .g .own) (a .g .tp) (a .p .pp) (upd (a .p .safe) (suc (l .pos)) true)
+        (goto m (a .g) (a .inv) t (a11 v n x) (sym e) (sym oe) (sym od) l tt)
+        (A10P hs m (a .g) (a .p) (a .inv) (a .pinv) hs′ t v n x w only e lk l) refl (λ k. (λ z. z, λ z. z)) refl (omega arith)
+        (λ q z. upd-ind (a .p .safe) (suc (l .pos)) true (λ q y. a .p .safe q ≡ true → y ≡ true) q (λ w. refl) (λ ne w. w) z) (λ u h q ne o z. z) k
+
+  pub sA10 : (v n x : ℕ) → m .thr t ≡ a10 v n x → (c : Mode) → After (stepA10 m t v n x c)
+  sA10 v n x e atOnce w = safeAt v n x (rw e) (rw e) (rw e) (rw e at (a .pinv .facts t)) (rw e at (a .inv .threads .refs t))
+      (at-once (ofNode n) (content m) hs hs′ w) (w .made .1) (cu hs m b q₀ now a t (a10 v n x) e refl)
+  sA10 v n x e fenced w = went hs m b q₀ now a t (a10f v n x) (rw e) _ _
+      (goto m (a .g) (a .inv) t (a10f v n x) (rw e) (rw e) (rw e) (rw e at (a .inv .threads .refs t)) tt)
+      (issuedP hs m (a .g) (a .p) (a .inv) (a .pinv) hs′ t (a10f v n x) w (rw e at (a .pinv .facts t), w .later .1 (ofNode n))) refl refl
       (cu hs m b q₀ now a t (a10 v n x) e refl)
+
+  pub sA10f : (v n x : ℕ) → m .thr t ≡ a10f v n x → After (step m t (a10f v n x))
+  sA10f v n x e w =
+      let fc : FactsOf hs m (a .g) (a .p) t (a10f v n x) = rw e at (a .pinv .facts t) in
+      safeAt v n x (rw e) (rw e) (rw e) (fc .0) (rw e at (a .inv .threads .refs t))
+      (at-fence t (ofNode n) (content m) hs hs′ w) (λ c h. fc .1 c (w .made .1 c h)) (cu hs m b q₀ now a t (a10f v n x) e refl)
 
   pub sA11 : (v n x : ℕ) → m .thr t ≡ a11 v n x → (c : Bool) → eqb (m .tail) x ≡ c → After (stepA11 m t n c)
   sA11 v n x e c f = by c f

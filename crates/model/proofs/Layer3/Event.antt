@@ -1,14 +1,16 @@
 -- Each event but a crash keeps the whole invariant.
-use mathlib.Core.Path.{_≡_, refl}
+use mathlib.Core.Path.{_≡_, refl, ap}
 use mathlib.Core.Bool.{true, false}
 use mathlib.Core.List.{List}
+use mathlib.Core.Logic.{_⊎_}
 use mathlib.Core.Option.{none}
-use Prim.Native.Nat.{ℕ, suc, pred, _<_}
+use Prim.Native.Nat.{ℕ, suc, pred, _≤_, _<_}
 use native.Mathlib.Omega.{arith}
 use lib.Dec.{leb}
 use Rattle.model.specs.Lines.{Line, ofHead, ofNode, nowhere, flushes}
-use Rattle.model.specs.Conf.{Within}
-use Rattle.model.specs.Core.{Th, Core, content, nothing, busy, idle, a1, a2, a3, a4, a5, a6, a7, a8, a9, a10, a11, a12, d1, d2, d3}
+use Rattle.model.specs.Conf.{Within, lineIx}
+use Rattle.model.specs.Core.{a10f, d3f, d6f}
+use Rattle.model.specs.Core.{Th, Core, Node, content, nothing, busy, idle, a1, a2, a3, a4, a5, a6, a7, a8, a9, a10, a11, a12, d1, d2, d3}
 use Rattle.model.specs.Core.{d4, d5, d6, d7, s3, s6}
 use Rattle.model.specs.Changes.{setTh}
 use Rattle.model.specs.Steps.{move, does, Out, step}
@@ -25,9 +27,9 @@ use Rattle.model.proofs.Layer2.Hands.{beginP}
 use Rattle.model.proofs.Layer3.Effects.{Fresh}
 use Rattle.model.proofs.Layer3.Invariant.{CurOf}
 use Rattle.model.proofs.Layer3.Changes.{quietL, tickL, beginL, beginC}
-use Rattle.model.proofs.Layer3.All.{All, AfterStep, quiet}
-use Rattle.model.proofs.Layer3.Enqueue.{sA1, sA7, sA8, sA11, sA12, sA2, sA3, sA4, sA5, sA6, sA9, sA10}
-use Rattle.model.proofs.Layer3.Dequeue.{sD2, sD3, sD4, sD5, sS3, sS6, sD6, sD7, sD1}
+use Rattle.model.proofs.Layer3.All.{All, AfterStep, quiet, at-once}
+use Rattle.model.proofs.Layer3.Enqueue.{sA1, sA7, sA8, sA11, sA12, sA2, sA3, sA4, sA5, sA6, sA9, sA10, sA10f}
+use Rattle.model.proofs.Layer3.Dequeue.{sD2, sD3, sD4, sD5, sS3, sS6, sD6, sD7, sD1, sD3f, sD6f}
 
 module _ (hs hs′ : Hist) (m : Core) (b : Book) (q₀ : List ℕ) (now : ℕ) (a : All hs m b q₀ now) (t : ℕ) where
   abbrev After : Out → Type 0
@@ -55,15 +57,18 @@ module _ (hs hs′ : Hist) (m : Core) (b : Book) (q₀ : List ℕ) (now : ℕ) (
   sStep (a7 v n x) e = sA7 hs hs′ m b q₀ now a t v n x e (leb (m .conf .top) (m .node x .index))
   sStep (a8 v n x) e = sA8 hs hs′ m b q₀ now a t v n x e _ refl
   sStep (a9 v n x) e = sA9 hs hs′ m b q₀ now a t v n x e
-  sStep (a10 v n x) e = sA10 hs hs′ m b q₀ now a t v n x e
+  sStep (a10 v n x) e = sA10 hs hs′ m b q₀ now a t v n x e (m .conf .mode)
+  sStep (a10f v n x) e = sA10f hs hs′ m b q₀ now a t v n x e
   sStep (a11 v n x) e = sA11 hs hs′ m b q₀ now a t v n x e _ refl
   sStep (a12 v n x) e = sA12 hs hs′ m b q₀ now a t v n x e _ refl _ refl
   sStep d1 e = sD1 hs hs′ m b q₀ now a t e
   sStep (d2 h k) e = sD2 hs hs′ m b q₀ now a t h k e _ refl
-  sStep (d3 h k) e = sD3 hs hs′ m b q₀ now a t h k e
+  sStep (d3 h k) e = sD3 hs hs′ m b q₀ now a t h k e (m .conf .mode)
+  sStep (d3f h k) e = sD3f hs hs′ m b q₀ now a t h k e
   sStep (d4 h k x) e = sD4 hs hs′ m b q₀ now a t h k x e _ refl
   sStep (d5 h x) e = sD5 hs hs′ m b q₀ now a t h x e
-  sStep (d6 h v) e = sD6 hs hs′ m b q₀ now a t h v e
+  sStep (d6 h v) e = sD6 hs hs′ m b q₀ now a t h v e (m .conf .mode)
+  sStep (d6f h v) e = sD6f hs hs′ m b q₀ now a t h v e
   sStep (s3 h k) e = sS3 hs hs′ m b q₀ now a t h k e
   sStep (s6 h x v) e = sS6 hs hs′ m b q₀ now a t h x v e
   sStep (d7 h v) e = sD7 hs hs′ m b q₀ now a t h v e _ refl
@@ -78,7 +83,7 @@ module _ (hs hs′ : Hist) (m : Core) (b : Book) (q₀ : List ℕ) (now : ℕ) (
 
   pub beginAll : Grown nowhere (content m) hs hs′ → (s : Th) (c : Call) → t < m .conf .threads → busy (m .thr t) ≡ false → busy s ≡ true → ownsE s ≡ none → ownsD s ≡ none
       → ((k : ℕ) → Refs (a .g .who) (a .g .idx) k (a .g .hp) (a .g .tp) (a .g .len) s) → Mine (ixs (m .node)) (m .next) s
-      → ((k : ℕ) → Facts (m .node) (a .g .who) (a .g .idx) (a .g .own) k (a .g .len) (a .p .item) (a .p .pp) (a .p .safe) (lowOf m t) (markOf m t)
+      → ((k : ℕ) → Facts (hs′ .since t) (m .node) (a .g .who) (a .g .idx) (a .g .own) k (a .g .len) (a .p .item) (a .p .pp) (a .p .safe) (lowOf m t) (markOf m t)
       (m .conf .engine) t s)
       → CurOf c (a .lin) (a .g .hp) (a .g .who) (a .g .own) (pred (a .g .hp)) (a .g .len) t (b .count) s
       → All hs′ (setTh m t s) (opens b now t c) q₀ (suc now)
@@ -106,23 +111,34 @@ pub backAll : (hs hs′ : Hist) (m : Core) (b : Book) (q₀ : List ℕ) (now : �
     → Grown (flushes l) (content m) hs hs′ → All hs′ m b q₀ (suc now)
 backAll hs hs′ m b q₀ now a (ofHead k) kh w = record {
   g = a .g;
-  p = toHead hs m (a .g) (a .p) (a .inv) (a .pinv) hs′ k kh w;
+  p = toHead hs m (a .g) (a .p) (a .inv) (a .pinv) hs′ w₀ k (lineIx (m .conf .engine) (m .hidx) (m .marks) k) kh fp low;
   first = a .first;
   lin = a .lin;
   inv = a .inv;
-  pinv = headP hs m (a .g) (a .p) (a .inv) (a .pinv) hs′ k kh w;
-  lins = tickL _ _ _ _ _ _ _ _ _ _ (quietL _ _ _ _ _ _ _ _ _ _ (a .lins) _ (a .p .safe) (keptP hs m (a .g) (a .p) (a .inv) (a .pinv) hs′ k kh w .up) (λ q z. z));
+  pinv = headP hs m (a .g) (a .p) (a .inv) (a .pinv) hs′ w₀ k (lineIx (m .conf .engine) (m .hidx) (m .marks) k) kh fp low;
+  lins = tickL _ _ _ _ _ _ _ _ _ _ (quietL _ _ _ _ _ _ _ _ _ _ (a .lins) _ (a .p .safe) (keptP hs m (a .g) (a .p) (a .inv) (a .pinv) hs′ w₀ k (lineIx (m .conf .engine) (m .hidx) (m .marks) k) kh fp low .up)
+      (λ q z. z));
   curs = a .curs;
   roots = a .roots;
   table = a .table;
 }
+  where
+    w₀ : Grown nowhere (content m) hs hs′
+    w₀ = at-once (ofHead k) (content m) hs hs′ w
+
+    fp : (lineIx (m .conf .engine) (m .hidx) (m .marks) k ≤ a .g .idx 0)
+        ⊎ ((q : ℕ) × (q ≤ a .g .hp) × (lineIx (m .conf .engine) (m .hidx) (m .marks) k ≡ a .g .idx q))
+    fp = a .pinv .head .heads k kh _ (a .pinv .head .present k kh)
+
+    low : (c : Node) → hs′ .is (ofHead k) c → lineIx (m .conf .engine) (m .hidx) (m .marks) k ≤ c .index
+    low c z = omega (arith, ap (λ y. y .index) (w .made .1 c z))
 backAll hs hs′ m b q₀ now a (ofNode n) kh w = record {
   g = a .g;
   p = a .p;
   first = a .first;
   lin = a .lin;
   inv = a .inv;
-  pinv = fewerP hs hs′ m (a .g) (a .p) (a .inv) (w .made .0) (w .here) (a .pinv);
+  pinv = fewerP hs hs′ m (a .g) (a .p) (a .inv) (at-once (ofNode n) (content m) hs hs′ w) (a .pinv);
   lins = tickL _ _ _ _ _ _ _ _ _ _ (a .lins);
   curs = a .curs;
   roots = a .roots;

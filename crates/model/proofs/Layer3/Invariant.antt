@@ -6,6 +6,7 @@ use mathlib.Core.Logic.{_≢_, inl, inr}
 use mathlib.Core.Option.{some}
 use Prim.Native.Nat.{ℕ, suc, _≤_, _<_}
 use native.Mathlib.Omega.{arith}
+use Rattle.model.specs.Core.{a10f, d3f, d6f}
 use Rattle.model.specs.Core.{Th, nothing, done, empty, item, busy, idle, a1, a2, a3, a4, a5, a6, a7, a8, a9, a10, a11, a12, d1, d2, d3, d4, d5}
 use Rattle.model.specs.Core.{d6, d7, s3, s6}
 use Rattle.model.specs.Lawful.{Op, Call, putting, taking}
@@ -32,15 +33,18 @@ CurOf call lin hp who own b len t o (a7 v n x) = (call ≡ putting v) × Fresh o
 CurOf call lin hp who own b len t o (a8 v n x) = (call ≡ putting v) × Fresh o lin
 CurOf call lin hp who own b len t o (a9 v n x) = (p : ℕ) × (b ≤ p) × (p < len) × (who p ≡ n) × Mark lin o (put p)
 CurOf call lin hp who own b len t o (a10 v n x) = (p : ℕ) × (b ≤ p) × (p < len) × (who p ≡ n) × Mark lin o (put p)
+CurOf call lin hp who own b len t o (a10f v n x) = (p : ℕ) × (b ≤ p) × (p < len) × (who p ≡ n) × Mark lin o (put p)
 CurOf call lin hp who own b len t o (a11 v n x) = (p : ℕ) × (b ≤ p) × (p < len) × (who p ≡ n) × Mark lin o (put p)
 CurOf call lin hp who own b len t o (a12 v n x) = (call ≡ putting v) × Fresh o lin
 CurOf call lin hp who own b len t o d1 = (call ≡ taking) × Fresh o lin
 CurOf call lin hp who own b len t o (d2 h i) = (call ≡ taking) × Fresh o lin
 CurOf call lin hp who own b len t o (d3 h i) = (p : ℕ) × (b ≤ p) × (p < len) × (who p ≡ h) × Mark lin o (saw p)
+CurOf call lin hp who own b len t o (d3f h i) = (p : ℕ) × (b ≤ p) × (p < len) × (who p ≡ h) × Mark lin o (saw p)
 CurOf call lin hp who own b len t o (s3 h i) = (p : ℕ) × (b ≤ p) × (p < len) × (who p ≡ h) × Mark lin o (saw p)
 CurOf call lin hp who own b len t o (d4 h i x) = (call ≡ taking) × Fresh o lin
 CurOf call lin hp who own b len t o (d5 h x) = (q : ℕ) → own h ≡ deqd t q → Mark lin o (get (suc q))
 CurOf call lin hp who own b len t o (d6 h v) = (q : ℕ) → own h ≡ deqd t q → Mark lin o (get (suc q))
+CurOf call lin hp who own b len t o (d6f h v) = (q : ℕ) → own h ≡ deqd t q → Mark lin o (get (suc q))
 CurOf call lin hp who own b len t o (s6 h x v) = (q : ℕ) → own h ≡ deqd t q → Mark lin o (get (suc q))
 CurOf call lin hp who own b len t o (d7 h v) = (q : ℕ) → own h ≡ deqd t q → Mark lin o (get (suc q))
 
@@ -67,15 +71,18 @@ module _ (call : Call) (lin lin′ : List Lin) (hp hp′ : ℕ) (who who′ : �
   cur-map (a8 v n x) f k = (k .0, fr (k .1))
   cur-map (a9 v n x) f k = linkd put k
   cur-map (a10 v n x) f k = linkd put k
+  cur-map (a10f v n x) f k = linkd put k
   cur-map (a11 v n x) f k = linkd put k
   cur-map (a12 v n x) f k = (k .0, fr (k .1))
   cur-map d1 f k = (k .0, fr (k .1))
   cur-map (d2 h i) f k = (k .0, fr (k .1))
   cur-map (d3 h i) f k = linkd saw k
+  cur-map (d3f h i) f k = linkd saw k
   cur-map (s3 h i) f k = linkd saw k
   cur-map (d4 h i x) f k = (k .0, fr (k .1))
   cur-map (d5 h x) f k = λ q e. mark (k q (f h q refl e))
   cur-map (d6 h v) f k = λ q e. mark (k q (f h q refl e))
+  cur-map (d6f h v) f k = λ q e. mark (k q (f h q refl e))
   cur-map (s6 h x v) f k = λ q e. mark (k q (f h q refl e))
   cur-map (d7 h v) f k = λ q e. mark (k q (f h q refl e))
 

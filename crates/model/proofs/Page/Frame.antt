@@ -7,12 +7,13 @@ use Prim.Native.Nat.{ℕ, zero, suc}
 use lib.Dec.{eqb, leb}
 use Rattle.model.specs.Basics.{upd}
 use Rattle.model.specs.Lines.{Line, ofHead, ofNode, Touch, nowhere, stores}
-use Rattle.model.specs.Conf.{Engine, shared, split, sameHead, headTouch}
+use Rattle.model.specs.Conf.{Mode, atOnce, fenced, Engine, shared, split, sameHead, headTouch}
+use Rattle.model.specs.Core.{a10f, d3f, d6f}
 use Rattle.model.specs.Core.{Th, Core, Node, hd, lineHas, content, item, idle, a1, a2, a3, a4, a5, a6, a7, a8, a9, a10, a11, a12, d1, d2, d3}
 use Rattle.model.specs.Core.{d4, d5, d6, d7, s3, s6}
 use Rattle.model.specs.Changes.{setHeld}
 use Rattle.model.specs.Steps.{Out, Act, enq, deq, move, does, step, stepA1, stepA6, stepA7, stepA8, stepA11, stepA12, stepD2, stepD4}
-use Rattle.model.specs.Steps.{retireHeld, replies}
+use Rattle.model.specs.Steps.{retireHeld, replies, stepA10, stepD3, stepD6}
 use Rattle.model.proofs.Basics.{upd-other}
 
 abbrev pub next : Core → Act → Core
@@ -73,6 +74,18 @@ module _ (m : Core) (t : ℕ) where
   fA12 v n true (some y) = (refl, λ l n. refl)
   fA12 v n false o = (refl, λ l n. refl)
 
+  fA10 : (v n x : ℕ) (c : Mode) → Framed m (stepA10 m t v n x c)
+  fA10 v n x atOnce = (refl, λ l n. refl)
+  fA10 v n x fenced = (refl, λ l n. refl)
+
+  fD3 : (h i : ℕ) (c : Mode) → Framed m (stepD3 m t h i c)
+  fD3 h i atOnce = (refl, λ l n. refl)
+  fD3 h i fenced = (refl, λ l n. refl)
+
+  fD6 : (h v : ℕ) (c : Mode) → Framed m (stepD6 m t h v c)
+  fD6 h v atOnce = (refl, λ l n. refl)
+  fD6 h v fenced = (refl, λ l n. refl)
+
   fD2 : (h i : ℕ) (o : Option ℕ) → Framed m (stepD2 m t h i o)
   fD2 h i none = (refl, λ l n. refl)
   fD2 h i (some y) = (refl, λ l n. refl)
@@ -96,15 +109,18 @@ module _ (m : Core) (t : ℕ) where
   fStep (a7 v n x) = fA7 v n x (leb (m .conf .top) (m .node x .index))
   fStep (a8 v n x) = fA8 v n x (m .next x)
   fStep (a9 v n x) = (refl, λ l ne. cell-frame (m .conf .engine) (m .node) (m .hidx) (m .marks) n _ l ne)
-  fStep (a10 v n x) = (refl, λ l n. refl)
+  fStep (a10 v n x) = fA10 v n x (m .conf .mode)
+  fStep (a10f v n x) = (refl, λ l n. refl)
   fStep (a11 v n x) = fA11 n (eqb (m .tail) x)
   fStep (a12 v n x) = fA12 v n (eqb (m .tail) x) (m .next x)
   fStep d1 = (refl, λ l n. refl)
   fStep (d2 h i) = fD2 h i (m .next h)
-  fStep (d3 h i) = (refl, λ l n. refl)
+  fStep (d3 h i) = fD3 h i (m .conf .mode)
+  fStep (d3f h i) = (refl, λ l n. refl)
   fStep (d4 h i x) = fD4 h x (sameHead (m .conf .engine) (eqb (m .hnode) h) (eqb (m .hidx) i))
   fStep (d5 h x) = (refl, λ l n. refl)
-  fStep (d6 h v) = (refl, λ l n. refl)
+  fStep (d6 h v) = fD6 h v (m .conf .mode)
+  fStep (d6f h v) = (refl, λ l n. refl)
   fStep (s3 h i) = (refl, λ l ne. mark-frame (m .conf .engine) (m .node) (m .hidx) (m .marks) t (m .node h .index) l ne)
   fStep (s6 h x v) = (refl, λ l ne. mark-frame (m .conf .engine) (m .node) (m .hidx) (m .marks) t (m .node x .index) l ne)
   fStep (d7 h v) = fD7 h v (m .held t)

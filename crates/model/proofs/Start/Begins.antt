@@ -15,11 +15,11 @@ use Rattle.model.specs.Lines.{Line, ofHead, ofNode}
 use Rattle.model.specs.Core.{Core, content, Node, withIndex}
 use Rattle.model.specs.Choice.{lowest}
 use Rattle.model.specs.Recovery.{Image, headOf, imageHas, recovered, queueOf, orZero, start, start′, itemsOf}
-use Rattle.model.specs.Machine.{Has, starts}
+use Rattle.model.specs.Machine.{starts}
 use Rattle.model.specs.Bench.{newBook}
 use Rattle.model.specs.Demand3.{Fit}
 use Rattle.model.proofs.Basics.{upd-ind, upd-other, upd-same, yes-of, T-of, eq-no, lt-no, both-of, not-true, not-of}
-use Rattle.model.proofs.Times.{Hist, startHas, startHere}
+use Rattle.model.proofs.Times.{Hist, histOf, startHas, startHere}
 use Rattle.model.proofs.Layer1.Ghost.{Gh, Inv, Place, queue, spare, off, Marks, Spot}
 use Rattle.model.proofs.Layer2.Contents.{Pg, Known, Quiet}
 use Rattle.model.proofs.Layer2.Invariant.{PInv}
@@ -232,8 +232,8 @@ module _ (g : Image) (ft : Fit g) (ty : (n : ℕ) → g .conf .nodes ≤ n → r
       by c (inr e) = absurd (rec-ne (who₀ (suc p)) r (e .0))
 
   -- the contents hs of the lines: what was persisted, and what is cached
-  module _ (hs : Hist) (only : (l : Line) (c : Node) → hs l c → (c ≡ imageHas g l) ⊎ (c ≡ content mk l)) (here : (l : Line) → hs l (content mk l)) where
-    contents : (n : ℕ) (c : Node) → hs (ofNode n) c → (c ≡ g .at n) ⊎ ((n ≡ low .0) × (c ≡ withIndex (g .at (low .0)) (headOf g)))
+  module _ (hs : Hist) (only : (l : Line) (c : Node) → hs .is l c → (c ≡ imageHas g l) ⊎ (c ≡ content mk l)) (here : (l : Line) → hs .is l (content mk l)) where
+    contents : (n : ℕ) (c : Node) → hs .is (ofNode n) c → (c ≡ g .at n) ⊎ ((n ≡ low .0) × (c ≡ withIndex (g .at (low .0)) (headOf g)))
     unfolding start′
     contents n c h = by (only (ofNode n) c h)
       where
@@ -245,7 +245,7 @@ module _ (g : Image) (ft : Fit g) (ty : (n : ℕ) → g .conf .nodes ≤ n → r
     pinv₀ : PInv hs mk gh pg
     unfolding start′ headOf
     pinv₀ = record {
-      head = heads₀ g (λ p. key (who₀ p)) key₀ (g .conf .engine) (g .conf .threads) (λ k. hs (ofHead k)) (λ k c. only (ofHead k) c) (λ k. here (ofHead k)) (ft .lined) refl;
+      head = heads₀ g (λ p. key (who₀ p)) key₀ (g .conf .engine) (g .conf .threads) (λ k. hs .is (ofHead k)) (λ k c. only (ofHead k) c) (λ k. here (ofHead k)) (ft .lined) refl;
       nodes = record {
         cached = λ n. here (ofNode n);
         linked = λ n c h l. linked₀ n c (contents n c h) l;
@@ -259,7 +259,7 @@ module _ (g : Image) (ft : Fit g) (ty : (n : ℕ) → g .conf .nodes ≤ n → r
       where
         sf : (p : ℕ) → (p ≤ 0) ⊎ ((c : Node) → (c ≡ g .at (who₀ p)) ⊎ ((who₀ p ≡ low .0) × (c ≡ withIndex (g .at (low .0)) (headOf g)))
             → (c .linked ≡ true) × (c .index ≡ key (who₀ p)))
-            → (p ≤ 0) ⊎ ((c : Node) → hs (ofNode (who₀ p)) c → (c .linked ≡ true) × (c .index ≡ key (who₀ p)))
+            → (p ≤ 0) ⊎ ((c : Node) → hs .is (ofNode (who₀ p)) c → (c .linked ≡ true) × (c .index ≡ key (who₀ p)))
         sf p (inl z) = inl z
         sf p (inr f) = inr (λ c h. f c (contents (who₀ p) c h))
 
@@ -282,7 +282,7 @@ module _ (g : Image) (ft : Fit g) (ty : (n : ℕ) → g .conf .nodes ≤ n → r
       by none e = rw (lt-no n (g .conf .nodes) h) refl
       by (some p) e = let w = find-is n L p e in absurd (omega (arith, under (subst (λ y. has y L) (w .1) (has-getD L p (w .0)))))
 
-  all₀ : (hs : Hist) → ((l : Line) (c : Node) → hs l c → (c ≡ imageHas g l) ⊎ (c ≡ content mk l)) → ((l : Line) → hs l (content mk l))
+  all₀ : (hs : Hist) → ((l : Line) (c : Node) → hs .is l c → (c ≡ imageHas g l) ⊎ (c ≡ content mk l)) → ((l : Line) → hs .is l (content mk l))
       → (now : ℕ) → All hs mk newBook (itemsOf g) now
   unfolding start′
   all₀ hs only here now = record {
@@ -306,10 +306,10 @@ module _ (g : Image) (ft : Fit g) (ty : (n : ℕ) → g .conf .nodes ≤ n → r
     table = λ n. (table₀ n, inside₀ (g .conf .nodes) n (find n L));
   }
 
-  pub begins : (hs : Hist) → ((l : Line) (c : Node) → hs l c → (c ≡ imageHas g l) ⊎ (c ≡ content (start g) l)) → ((l : Line) → hs l (content (start g) l))
+  pub begins : (hs : Hist) → ((l : Line) (c : Node) → hs .is l c → (c ≡ imageHas g l) ⊎ (c ≡ content (start g) l)) → ((l : Line) → hs .is l (content (start g) l))
       → (now : ℕ) → All hs (start g) newBook (itemsOf g) now
-  begins hs = subst (λ m. ((l : Line) (c : Node) → hs l c → (c ≡ imageHas g l) ⊎ (c ≡ content m l)) → ((l : Line) → hs l (content m l))
+  begins hs = subst (λ m. ((l : Line) (c : Node) → hs .is l c → (c ≡ imageHas g l) ⊎ (c ≡ content m l)) → ((l : Line) → hs .is l (content m l))
       → (now : ℕ) → All hs m newBook (itemsOf g) now) (sym is-start) (all₀ hs)
 
-  pub startAll : (now : ℕ) → All (Has (starts g)) (start g) newBook (itemsOf g) now
-  startAll = begins (Has (starts g)) (startHas g) (startHere g)
+  pub startAll : (now : ℕ) → All (histOf (starts g)) (start g) newBook (itemsOf g) now
+  startAll = begins (histOf (starts g)) (startHas g) (startHere g)
