@@ -2,6 +2,7 @@
 pub mod Plain
 pub mod Range
 pub mod Runs
+pub mod Steady
 pub mod Six
 pub mod Count
 pub mod Numbers

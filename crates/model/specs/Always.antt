@@ -1,17 +1,19 @@
--- What is so after every event of a run, as types: every number is in its range; the numbers of nodes in the six places add up to N.
+-- What is so after every event of a run, as types: every number is in its range; lines are steady; the numbers of nodes in the six places add up to N.
 use mathlib.Core.Path.{_≡_}
 use mathlib.Core.Bool.{Bool, true, false, not}
 use mathlib.Core.List.{List, [], _∷_}
 use mathlib.Core.Logic.{_≢_, _↔_}
 use mathlib.Core.Option.{Option, none, some}
-use Prim.Native.Nat.{ℕ, zero, suc, _+_, _<_}
+use Prim.Native.Nat.{ℕ, zero, suc, _+_, _≤_, _<_}
 use lib.Dec.{eqb}
 use Rattle.model.specs.Basics.{sel, has}
+use Rattle.model.specs.Lines.{ofHead, ofNode}
+use Rattle.model.specs.Conf.{headLines}
 use Rattle.model.specs.Core.{a10f, d3f, d6f}
 use Rattle.model.specs.Core.{Core, Th, busy, idle, a1, a2, a3, a4, a5, a6, a7, a8, a9, a10, a11, a12, d1, d2, d3, d4, d5, d6, d7}
 use Rattle.model.specs.Core.{s3, s6}
 use Rattle.model.specs.Recovery.{Image}
-use Rattle.model.specs.Machine.{Event, starts, run}
+use Rattle.model.specs.Machine.{M, Event, starts, run}
 use Rattle.model.specs.Demand3.{Fit, Tidy, TakesAll}
 use Rattle.model.specs.Places.{PlaceKind, inQueue, isWaiting, inDeq, isHeld, inEnq, isFree, walk, At, ownsE, ownsD}
 
@@ -58,6 +60,16 @@ pub record InRange (m : Core) : Type 0 where
 
 abbrev pub AlwaysInRange : Type 0
 AlwaysInRange = (g : Image) → Fit g → Tidy g → (l : List Event) → TakesAll (starts g) l → InRange (run (starts g) l .core)
+
+-- ---- what lines do in the course of time
+
+-- head lines never fall, and from its flush to its fence the line of an enqueue's node does not change
+pub record Steady (m : M) : Type 0 where
+  pub heads : (k : ℕ) → k < headLines (m .core .conf) → (i j : ℕ) → i ≤ j → j ≤ m .now → m .past (ofHead k) i .index ≤ m .past (ofHead k) j .index
+  pub nodes : (t v n x : ℕ) → m .core .thr t ≡ a10f v n x → (i : ℕ) → m .mark t ≤ i → i ≤ m .now → m .past (ofNode n) i ≡ m .core .node n
+
+abbrev pub AlwaysSteady : Type 0
+AlwaysSteady = (g : Image) → Fit g → Tidy g → (l : List Event) → TakesAll (starts g) l → Steady (run (starts g) l)
 
 -- ---- the six places, and the six numbers
 

@@ -20,7 +20,7 @@ use Rattle.model.proofs.Layer2.Invariant.{PInv, Facts, FactsOf, lowOf, 
 use Rattle.model.proofs.Layer2.Hands.{handsP, handsFacts}
 
 -- Head's index rises
-low-up : (E : Engine) (i i′ : ℕ) (f : ℕ → ℕ) (k : ℕ) → i ≤ i′ → lineIx E i f k ≤ lineIx E i′ f k
+pub low-up : (E : Engine) (i i′ : ℕ) (f : ℕ → ℕ) (k : ℕ) → i ≤ i′ → lineIx E i f k ≤ lineIx E i′ f k
 low-up shared i i′ f zero h = h
 low-up shared i i′ f (suc k) h = omega arith
 low-up split i i′ f k h = omega arith
@@ -88,7 +88,7 @@ module _ (hs : Hist) (m : Core) (g : Gh) (p : Pg) (i : Inv m g) (j : PInv hs m g
   abbrev m₄ : Core
   m₄ = setTh (setHead m x (m .node x .index)) t (d5 h x)
 
-  up-ix : m .hidx ≤ m .node x .index
+  pub up-ix : m .hidx ≤ m .node x .index
   up-ix = omega (arith, i .log .head-ix, x-ix m g i t h k x e eh, i .log .rising (g .hp) (suc (g .hp)) (omega arith) (more m g i t h k x e eh))
 
   pub D4P : (hs′ : Hist) → Grown (headTouch (m .conf .engine)) (content m₄) hs hs′ → PInv hs′ m₄ (headG g t h) p
