@@ -241,3 +241,30 @@ module _ (m : M) (c : Core) (i : Timed m) where
   -- a line persisted at once has the present content there
   pub first-new : (j : Line) → goesOn m c (flushes j) .past j (goesOn m c (flushes j) .from j) ≡ content c j
   first-new j = upd-at (m .past j) (suc (m .now)) (content c j) (updL-at (m .from) j (suc (m .now)) refl)
+
+  -- ---- a fence: it counts where nothing later is persisted there
+
+  module _ (u : ℕ) (j : Line) where
+    -- where it does not count, all stays
+    pub fence-old : m .mark u ≤ m .from j → from′ (fences u j) j ≡ m .from j
+    fence-old h = omega (arith, updL-at (m .from) j (max (m .from j) (m .mark u)) refl)
+
+    -- where it does, the contents are those since the flush, and the first is that at the flush
+    pub fence-new : m .from j ≤ m .mark u → from′ (fences u j) j ≡ m .mark u
+    fence-new h = omega (arith, updL-at (m .from) j (max (m .from j) (m .mark u)) refl)
+
+    pub fence-has : (a : Node) → m .from j ≤ m .mark u → Since m u j a → Has (goesOn m c (fences u j)) j a
+    fence-has a h s = record {
+      time = s .time;
+      since = omega (arith, s .since, fence-new h);
+      until = omega (arith, s .until);
+      is = s .is ∙ sym (upd-other (m .past j) (suc (m .now)) (content c j) (λ z. omega (arith, s .until)));
+    }
+
+    pub fence-first : m .from j ≤ m .mark u → goesOn m c (fences u j) .past j (goesOn m c (fences u j) .from j) ≡ m .past j (m .mark u)
+    fence-first h = ap (upd (m .past j) (suc (m .now)) (content c j)) (fence-new h)
+        ∙ upd-other (m .past j) (suc (m .now)) (content c j) (λ z. omega (arith, i .marked u))
+
+    -- another line is left alone
+    pub fence-other : (l : Line) → l ≢ j → from′ (fences u j) l ≡ m .from l
+    fence-other l ne = updL-other (m .from) j (max (m .from j) (m .mark u)) ne
