@@ -4,12 +4,13 @@ use mathlib.Core.List.{[], _∷_}
 use mathlib.Core.Logic.{_⊎_, inl, inr}
 use Prim.Native.Nat.{ℕ, zero, suc, _<_}
 use native.Mathlib.Omega.{arith}
+use lib.ListN.{getD}
 use Rattle.image.specs.declared.Content.{Content}
 use Rattle.image.specs.declared.Image.{Image}
 use Rattle.image.specs.Recovered.{dummyOf}
 use Rattle.machine.specs.Line as memory
 use Rattle.machine.specs.Line.{cachedAt, persistedAt}
-use Rattle.machine.specs.Start.{startWith, startOf}
+use Rattle.machine.specs.Start.{blankMachine, startWith, startOf}
 use Rattle.machine.specs.declared.Machine.{Machine}
 use Rattle.machine.proofs.LineLaws.{LineIn, one-head}
 use Rattle.schedule.specs.Run.{begins}
@@ -55,9 +56,15 @@ module _ (g : Image) (t : ℕ) (G : recovery.Image) (r : ImageT g t G) (dm : dum
   beginsT = record {
     lists = λ l h a z. by l h a (joins-old (persistedAt (startOf g t) l ∷ []) (cachedAt (startOf g t) l) a (subst (Among a) (one-moment (startOf g t) l) z));
     kept = same;
+    now = refl;
+    times = λ l h i z. subst (λ i. starts G .past (lineShown l) (suc i) ≡ shownContent (cachedAt (getD (startOf g t ∷ []) i blankMachine) l)) (sym (first i z)) (shown-cached _ _ _ d l h);
+    from = λ l h. inr (refl, refl);
     early = λ l. omega arith;
   }
     where
+      first : (i : ℕ) → i < 1 → i ≡ 0
+      first i h = omega arith
+
       same : (l : memory.Line) → LineIn (startOf g t .n) l → imageHas G (lineShown l) ≡ shownContent (persistedAt (startOf g t) l)
       same l h = line-is l (subst (λ n. LineIn n l) (size-is g t) h) ∙ ap shownContent (sym (kept-is _ _ _ d l h))
 

@@ -2,29 +2,32 @@
 use mathlib.Core.Path.{_≡_, refl, sym, ap, subst, _∙_}
 use mathlib.Core.List.{[], _∷_, _++_, map, map-append}
 use mathlib.Core.Logic.{_≢_, _⊎_, inl, inr}
-use Prim.Native.Nat.{ℕ, zero, suc, _≤_, _<_}
+use Prim.Native.Nat.{_+_, ℕ, zero, suc, _≤_, _<_}
 use native.Mathlib.Omega.{arith}
-use lib.ListN.{length, drop, length-append}
-use lib.Seq.{drop-append-seam, drop-append-le}
+use native.Mathlib.Decide.{decLt}
+use lib.ListN.{length, getD, drop, length-append, List·getD-append}
+use lib.Seq.{drop-append-seam, drop-append-le, getD-append-seam}
 use Rattle.image.specs.declared.Content.{Content}
 use Rattle.machine.specs.Line as memory
 use Rattle.machine.specs.Record.{top}
 use Rattle.machine.specs.Line.{cachedAt, persistedAt}
+use Rattle.machine.specs.Start.{blankMachine}
 use Rattle.machine.specs.declared.Machine.{Machine}
 use Rattle.machine.proofs.LineLaws as lines
 use Rattle.machine.proofs.LineLaws.{LineIn}
 use Rattle.schedule.specs.Run as run
 use Rattle.schedule.specs.Run.{Touched, noLine, aLine, fromAfter, goesOn}
 use Rattle.page.specs.Contents.{joins, gathered, contentsOf}
-use Rattle.model.specs.Lines as times
-use Rattle.model.specs.Lines.{Line, Touch, nowhere, stores, flushes, issues, fences}
+use Rattle.model.specs.Lines as abstract
+use Rattle.model.specs.Lines.{updL, Line, Touch, nowhere, stores, flushes, issues, fences}
 use Rattle.model.specs.Conf.{lineIx}
 use Rattle.model.specs.Core as core
 use Rattle.model.specs.Core.{Core, content, hd}
 use Rattle.model.specs.Machine as model
 use Rattle.model.specs.Machine.{M, Has}
 use Rattle.model.specs.Bench.{Bench}
-use Rattle.model.proofs.Lines.{no-line, updL-other}
+use Rattle.model.proofs.Basics.{upd-other, upd-at}
+use Rattle.model.proofs.Lines.{no-line, updL-other, updL-at}
 use Rattle.model.proofs.Times.{Timed, onHere, onOld, first-stays, first-new}
 use Rattle.model.proofs.Always.Runs.{Kept}
 use Rattle.tied.specs.Always.{Among}
@@ -105,10 +108,18 @@ contents-new b m l =
 
 -- ---- the benches
 
+-- moment i is time i + 1; contents that count from the start count there from time 0
+abbrev pub FromT : ℕ → ℕ → Type 0
+FromT k i = (k ≡ suc i) ⊎ ((k ≡ 0) × (i ≡ 0))
+
 -- each content of a line is one of the abstract machine's, what is persisted is the same; and the moments from which they count
 pub record ListsT (b : run.Bench) (B : M) : Type 0 where
   pub lists : (l : memory.Line) → LineIn (b .machine .n) l → (a : Content) → Among a (contentsOf b l) → Small a × Has B (lineShown l) (shownContent a)
   pub kept : (l : memory.Line) → LineIn (b .machine .n) l → B .past (lineShown l) (B .from (lineShown l)) ≡ shownContent (persistedAt (b .machine) l)
+  pub now : B .now ≡ length (b .past)
+  pub times : (l : memory.Line) → LineIn (b .machine .n) l → (i : ℕ) → i < length (b .past)
+      → B .past (lineShown l) (suc i) ≡ shownContent (cachedAt (getD (b .past) i blankMachine) l)
+  pub from : (l : memory.Line) → LineIn (b .machine .n) l → FromT (B .from (lineShown l)) (b .from l)
   pub early : (l : memory.Line) → b .from l ≤ length (b .past)
 
 pub record BenchT (b : run.Bench) (B : Bench) : Type 0 where
@@ -136,7 +147,7 @@ module _ (b : run.Bench) (B : M) (c′ : Core) (m′ : Machine) (w : Touched) (k
 
   -- a line that is not persisted
   grows : (l : memory.Line) → LineIn (b .machine .n) l → fromAfter w (length (b .past)) (b .from) l ≡ b .from l
-      → keeps w (b .machine) (persistedAt (b .machine)) l ≡ persistedAt (b .machine) l → times.fromAfter k (suc (B .now)) (B .mark) (B .from) (lineShown l) ≡ B .from (lineShown l)
+      → keeps w (b .machine) (persistedAt (b .machine)) l ≡ persistedAt (b .machine) l → abstract.fromAfter k (suc (B .now)) (B .mark) (B .from) (lineShown l) ≡ B .from (lineShown l)
       → Line-at l
   grows l h fr kp fm = (
     λ a z. by a (joins-old (contentsOf b l) (cachedAt m′ l) a (subst (Among a) (contents-more b m′ w l fr (r .early l) same) z)),
@@ -177,9 +188,9 @@ module _ (b : run.Bench) (B : M) (c′ : Core) (m′ : Machine) (w : Touched) (k
 
   line-by : (w₀ : Touched) (k₀ : Touch) → w ≡ w₀ → k ≡ k₀ → Touches w₀ k₀ → (l : memory.Line) → LineIn (b .machine .n) l → Line-at l
   line-by noLine nowhere ew ek t l h = grows l h (ap (λ w. fromAfter w (length (b .past)) (b .from) l) ew)
-      (ap (λ w. keeps w (b .machine) (persistedAt (b .machine)) l) ew) (ap (λ k. times.fromAfter k (suc (B .now)) (B .mark) (B .from) (lineShown l)) ek)
+      (ap (λ w. keeps w (b .machine) (persistedAt (b .machine)) l) ew) (ap (λ k. abstract.fromAfter k (suc (B .now)) (B .mark) (B .from) (lineShown l)) ek)
   line-by noLine (stores L) ew ek t l h = grows l h (ap (λ w. fromAfter w (length (b .past)) (b .from) l) ew)
-      (ap (λ w. keeps w (b .machine) (persistedAt (b .machine)) l) ew) (ap (λ k. times.fromAfter k (suc (B .now)) (B .mark) (B .from) (lineShown l)) ek)
+      (ap (λ w. keeps w (b .machine) (persistedAt (b .machine)) l) ew) (ap (λ k. abstract.fromAfter k (suc (B .now)) (B .mark) (B .from) (lineShown l)) ek)
   line-by noLine (flushes L) ew ek t l h = absurd t
   line-by noLine (issues u) ew ek t l h = absurd t
   line-by noLine (fences u L) ew ek t l h = absurd t
@@ -193,17 +204,59 @@ module _ (b : run.Bench) (B : M) (c′ : Core) (m′ : Machine) (w : Touched) (k
       by (yes e) = subst Line-at (sym e) (persists j (subst (LineIn (b .machine .n)) e h) ew (ek ∙ ap flushes t))
       by (no ne) = grows l h (ap (λ w. fromAfter w (length (b .past)) (b .from) l) ew ∙ lines.put-other (b .from) j (length (b .past)) l ne)
           (ap (λ w. keeps w (b .machine) (persistedAt (b .machine)) l) ew ∙ lines.put-other (persistedAt (b .machine)) j (cachedAt (b .machine) j) l ne)
-          (ap (λ k. times.fromAfter k (suc (B .now)) (B .mark) (B .from) (lineShown l)) ek ∙ updL-other (B .from) L (suc (B .now)) (λ e. ne (line-one l j (e ∙ t))))
+          (ap (λ k. abstract.fromAfter k (suc (B .now)) (B .mark) (B .from) (lineShown l)) ek ∙ updL-other (B .from) L (suc (B .now)) (λ e. ne (line-one l j (e ∙ t))))
 
   early-by : (w₀ : Touched) (l : memory.Line) → fromAfter w₀ (length (b .past)) (b .from) l ≤ length (b .past)
   early-by noLine l = r .early l
   early-by (aLine j) l = lines.put-ind (b .from) j (length (b .past)) (λ k y. y ≤ length (b .past)) l (omega arith) (λ ne. r .early l)
+
+  -- the two ways of counting
+  now-on : model.goesOn B c′ k .now ≡ length (b .past ++ (m′ ∷ []))
+  now-on = ap suc (r .now) ∙ one ∙ sym (length-append (b .past) (m′ ∷ []))
+    where
+      one : suc (length (b .past)) ≡ length (b .past) + 1
+      one = omega arith
+
+  times-on : (l : memory.Line) → LineIn (b .machine .n) l → (i : ℕ) → i < length (b .past ++ (m′ ∷ []))
+      → model.goesOn B c′ k .past (lineShown l) (suc i) ≡ shownContent (cachedAt (getD (b .past ++ (m′ ∷ [])) i blankMachine) l)
+  times-on l h i z = by (decLt i (length (b .past)))
+    where
+      by : Dec (i < length (b .past)) → model.goesOn B c′ k .past (lineShown l) (suc i) ≡ shownContent (cachedAt (getD (b .past ++ (m′ ∷ [])) i blankMachine) l)
+      by (yes y) = upd-other (B .past (lineShown l)) (suc (B .now)) (content c′ (lineShown l)) (λ e. omega (arith, r .now)) ∙ r .times l h i y
+          ∙ ap (λ a. shownContent (cachedAt a l)) (sym (List·getD-append (b .past) (m′ ∷ []) blankMachine i y))
+      by (no y) =
+          let e : i ≡ length (b .past) = omega (arith, length-append (b .past) (m′ ∷ [])) in
+          upd-at (B .past (lineShown l)) (suc (B .now)) (content c′ (lineShown l)) (omega (arith, r .now))
+          ∙ shown-cached _ m′ c′ d′ l (in-new l h)
+          ∙ ap (λ a. shownContent (cachedAt a l)) (sym (ap (λ j. getD (b .past ++ (m′ ∷ [])) j blankMachine) e ∙ getD-append-seam (b .past) m′ [] blankMachine))
+
+  from-on : (w₀ : Touched) (k₀ : Touch) → Touches w₀ k₀ → (l : memory.Line) → LineIn (b .machine .n) l
+      → FromT (abstract.fromAfter k₀ (suc (B .now)) (B .mark) (B .from) (lineShown l)) (fromAfter w₀ (length (b .past)) (b .from) l)
+  from-on noLine nowhere t l h = r .from l h
+  from-on noLine (stores L) t l h = r .from l h
+  from-on noLine (flushes L) t l h = absurd t
+  from-on noLine (issues u) t l h = absurd t
+  from-on noLine (fences u L) t l h = absurd t
+  from-on (aLine j) nowhere t l h = absurd t
+  from-on (aLine j) (stores L) t l h = absurd t
+  from-on (aLine j) (issues u) t l h = absurd t
+  from-on (aLine j) (fences u L) t l h = absurd t
+  from-on (aLine j) (flushes L) t l h = by (lines.line-eq l j)
+    where
+      by : Dec (l ≡ j) → FromT (updL (B .from) L (suc (B .now)) (lineShown l)) (memory.putLine (b .from) j (length (b .past)) l)
+      by (yes e) = inl (updL-at (B .from) L (suc (B .now)) (ap lineShown e ∙ sym t) ∙ ap suc (r .now)
+          ∙ ap suc (sym (lines.put-at (b .from) j (length (b .past)) l e)))
+      by (no ne) = subst (λ y. FromT y (memory.putLine (b .from) j (length (b .past)) l)) (sym (updL-other (B .from) L (suc (B .now)) (λ e. ne (line-one l j (e ∙ t)))))
+          (subst (FromT (B .from (lineShown l))) (sym (lines.put-other (b .from) j (length (b .past)) l ne)) (r .from l h))
 
   -- the lists after one more moment
   pub goesOnT : ListsT (goesOn b m′ w) (model.goesOn B c′ k)
   goesOnT = record {
     lists = λ l h. line-by w k refl refl t l (subst (λ n. LineIn n l) same-n h) .0;
     kept = λ l h. line-by w k refl refl t l (subst (λ n. LineIn n l) same-n h) .1;
+    now = now-on;
+    times = λ l h. times-on l (subst (λ n. LineIn n l) same-n h);
+    from = λ l h. from-on w k t l (subst (λ n. LineIn n l) same-n h);
     early = λ l. let e = early-by w l in omega (arith, length-append (b .past) (m′ ∷ []));
   }
 

@@ -3,7 +3,7 @@ use mathlib.Core.Path.{_≡_, refl, sym, ap, ap₂, subst, _∙_}
 use mathlib.Core.Bool.{Bool, true, false}
 use mathlib.Core.List.{List, [], _∷_, _++_, map}
 use mathlib.Core.Logic.{_≢_}
-use Prim.Native.Nat.{ℕ, suc, _+_}
+use Prim.Native.Nat.{ℕ, suc, _+_, _<_}
 use native.Mathlib.Omega.{arith}
 use native.Mathlib.Nat.{add-zero}
 use lib.ListN.{length}
@@ -12,6 +12,7 @@ use Rattle.answer.specs.Answers.{told, accepted}
 use Rattle.answer.specs.declared.Answer.{Answer}
 use Rattle.answer.specs.declared.Answer.the-variants.{Taken}
 use Rattle.image.specs.declared.Image.{Image}
+use Rattle.machine.specs.Line as memory
 use Rattle.machine.specs.Start.{startOf, startAnswer}
 use Rattle.machine.specs.Retire.{out}
 use Rattle.machine.specs.Range.{inRange}
@@ -19,6 +20,7 @@ use Rattle.machine.specs.Event.{deedOf, eventAnswer, eventAt, done}
 use Rattle.machine.specs.declared.Machine.{Machine}
 use Rattle.machine.specs.declared.Event.{Event}
 use Rattle.machine.specs.declared.Out.{Out}
+use Rattle.machine.proofs.LineLaws.{one-head}
 use Rattle.schedule.specs.Run as schedule
 use Rattle.schedule.specs.Run.{Ran, run, andBefore, turned, begins}
 use Rattle.model.specs.Core.{Ans, nothing, full, worn, empty, item}
@@ -26,7 +28,10 @@ use Rattle.model.specs.Core as core
 use Rattle.model.specs.Machine.{answer, answers}
 use Rattle.model.specs.Bench.{Bench, turn, bench, opening}
 use Rattle.model.specs.Demand3.{TakesAll}
+use Rattle.model.specs.Conf.{headLines}
+use Rattle.model.specs.Always.{Steady}
 use Rattle.model.proofs.Always.Runs.{openKept}
+use Rattle.tied.specs.Always.{Rises}
 use Rattle.tied.specs.Shown.{imageShown, Narrow, eventShown, answerOf}
 use Rattle.tied.proofs.Range.{tied-in-range}
 use Rattle.tied.proofs.Accepted.{sound-is, shownT, tidy, fit-of}
@@ -173,3 +178,13 @@ module _ (g : Image) (t : ℕ) (a : accepted (startAnswer g t) ≡ true) (w : Na
 -- 18 refuses no record of a run, at whatever event it stopped
 pub bench-in-range : (b : schedule.Bench) (B : Bench) → BenchT b B → inRange (b .machine) ≡ true
 bench-in-range b B r = tied-in-range _ (b .machine) (B .mach .core) (r .tied) (ranged b B r)
+
+-- Head's line never falls
+pub bench-rises : (b : schedule.Bench) (B : Bench) → BenchT b B → Steady (B .mach) → Rises b
+bench-rises b B r s i j le lt =
+    let one : 0 < headLines (B .mach .core .conf) = subst (λ c. 0 < headLines c) (sym (r .tied .conf)) (omega arith) in
+    let there : 0 < memory.headLines (b .machine .n) = omega (arith, one-head (b .machine .n)) in
+    let h = s .heads 0 one (suc i) (suc j) (omega arith) (omega (arith, r .lists .now)) in
+    let x = ap (λ c. c .index) (r .lists .times (memory.ofHead 0) there i (omega arith)) in
+    let y = ap (λ c. c .index) (r .lists .times (memory.ofHead 0) there j lt) in
+    omega (arith, h, x, y)

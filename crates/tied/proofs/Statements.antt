@@ -21,14 +21,17 @@ use Rattle.model.specs.Recovery as recovery
 use Rattle.model.specs.Machine as machine
 use Rattle.model.specs.Bench as model
 use Rattle.model.specs.Demand3.{Fit, Tidy, TakesAll}
+use Rattle.model.specs.Always.{Steady}
+use Rattle.model.proofs.Always.Runs.{bench-run}
+use Rattle.model.proofs.Always.Steady.{always-steady}
 use Rattle.tied.specs.Shown.{imageShown, Narrow, eventShown, answerOf, lineShown, shownContent}
-use Rattle.tied.specs.Always.{Among, ExactlyOne, AddUp, WasThere}
+use Rattle.tied.specs.Always.{Rises, Among, ExactlyOne, AddUp, WasThere}
 use Rattle.tied.proofs.Accepted.{sound-is, shownT, tidy, fit-of}
 use Rattle.tied.proofs.Images.{ImageT}
 use Rattle.tied.proofs.Bench.{BenchT}
 use Rattle.tied.proofs.Turn.{persistedT}
 use Rattle.tied.proofs.Refusals.{crash-starts}
-use Rattle.tied.proofs.Run.{RunT, startT, stop-number, bench-in-range}
+use Rattle.tied.proofs.Run.{RunT, startT, stop-number, bench-in-range, bench-rises}
 use Rattle.tied.proofs.Sixes.{size-run, threads-run, exactly-one, add-up}
 
 module _ (g : Image) (t : ℕ) (a : accepted (startAnswer g t) ≡ true) (w : Narrow g) (q : ℕ) (l : List Event) where
@@ -91,6 +94,11 @@ module _ (g : Image) (t : ℕ) (a : accepted (startAnswer g t) ≡ true) (w : Na
   -- "the persisted copy is always some earlier or present content": that of the last start, or one cached since
   pub run-was-there : (k : Line) → LineIn (g .n) k → WasThere (R .bench) k
   run-was-there k h = r .ends .past .was k (subst (λ n. LineIn n k) (sym run-size) h)
+
+  -- Head's line never falls
+  pub run-rises : Rises (R .bench)
+  run-rises = bench-rises _ _ (r .ends) (subst Steady (sym (bench-run (map (eventShown (g .n)) (r .taken)) (model.opening G)))
+      (always-steady G fits tidies (map (eventShown (g .n)) (r .taken)) (r .takes)))
 
   -- ---- of the abstract machine's run of the same events, where none is refused
 

@@ -3,11 +3,12 @@ use mathlib.Core.Path.{_≡_}
 use mathlib.Core.Bool.{Bool, true}
 use mathlib.Core.List.{List, [], _∷_, map}
 use mathlib.Core.Logic.{_⊎_}
-use Prim.Native.Nat.{ℕ, _+_, _<_}
-use lib.ListN.{getD}
+use Prim.Native.Nat.{ℕ, _+_, _≤_, _<_}
+use lib.ListN.{getD, length}
 use Rattle.image.specs.declared.Content.{Content}
-use Rattle.machine.specs.Line.{Line, cachedAt, persistedAt}
+use Rattle.machine.specs.Line.{Line, ofHead, cachedAt, persistedAt}
 use Rattle.machine.specs.Place.{inQueue, isFree, isWaiting, isHeld, inEnqueue, inDequeue, placesOf}
+use Rattle.machine.specs.Start.{blankMachine}
 use Rattle.machine.specs.declared.Machine.{Machine}
 use Rattle.machine.specs.declared.Places.{Places}
 use Rattle.schedule.specs.Run.{Bench}
@@ -49,3 +50,9 @@ atStart b = getD (b .past) 0 (b .machine)
 -- line l's persisted copy is what was persisted at the last start, or a cached content since
 abbrev pub WasThere : Bench → Line → Type 0
 WasThere b l = Among (persistedAt (b .machine) l) (persistedAt (atStart b) l ∷ map (λ m. cachedAt m l) (b .past))
+
+-- ---- what Head's line does in the course of time
+
+-- from one moment to a later one since the last start its index never falls
+abbrev pub Rises : Bench → Type 0
+Rises b = (i j : ℕ) → i ≤ j → j < length (b .past) → cachedAt (getD (b .past) i blankMachine) (ofHead 0) .index ≤ cachedAt (getD (b .past) j blankMachine) (ofHead 0) .index
