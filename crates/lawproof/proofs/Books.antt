@@ -11,6 +11,9 @@ use Rattle.machine.specs.Line.{persisted}
 use Rattle.machine.specs.Start.{startOf, startAnswer, blankMachine}
 use Rattle.machine.specs.Event as machine
 use Rattle.machine.specs.Event.{Deed, unknown, enqueues, dequeues, steps, writesBack, crashes, deedOf, eventAnswer}
+use Rattle.machine.specs.Record.{thread}
+use Rattle.machine.specs.Stage.{stage, Stage, noStep, A1, A2, A3, A4, A5, A6, A7, A8, A9, A10, A11, A12, D1, D2, D3, D4, D5, D6, D7}
+use Rattle.machine.specs.declared.Thread.{Thread}
 use Rattle.machine.specs.declared.Machine.{Machine}
 use Rattle.machine.specs.declared.Event.{Event}
 use Rattle.schedule.specs.Run as schedule
@@ -18,16 +21,17 @@ use Rattle.schedule.specs.Run.{Ran, run, begins, turned, andBefore}
 use Rattle.lawful.specs.Operation.{Operation, Reply, done, full, wornOut, empty, gave, says, puts, takes, answeredBy, noted, operations}
 use Rattle.lawful.specs.Plain.{queueIn}
 use Rattle.model.specs.Core as core
-use Rattle.model.specs.Core.{Core, Th, Ans, busy, a1, d1}
+use Rattle.model.specs.Core.{Core, Th, Ans, busy, acts, a1, d1}
 use Rattle.model.specs.Steps.{step}
 use Rattle.model.specs.Recovery.{start, start′}
 use Rattle.model.specs.Machine as model
 use Rattle.model.specs.Bench.{Bench, closes, noteMove, turn, bench, opening}
 use Rattle.model.proofs.Basics.{upd-same, upd-other}
-use Rattle.tied.specs.Shown.{imageShown, Narrow, answerOf, eventBy, eventShown}
+use Rattle.tied.specs.Shown.{threadOf, imageShown, Narrow, answerOf, eventBy, eventShown}
 use Rattle.tied.proofs.Accepted.{sound-is, shownT, fit-of}
 use Rattle.tied.proofs.Begins.{size-is}
 use Rattle.tied.proofs.Bench.{BenchT}
+use Rattle.tied.proofs.Changes.{count-t}
 use Rattle.tied.proofs.Turn as tied
 use Rattle.tied.proofs.Run.{run-taken, first-taken, opensT}
 use Rattle.lawproof.proofs.Moves.{moved}
@@ -43,6 +47,29 @@ start-idle : (m : model.M) (u : ℕ) → busy (start (model.persisted m) .thr u)
 unfolding start′
 start-idle m u = refl
 
+-- no thread of the record is elsewhere
+acts-of : (s : Stage) (v : Thread) → busy (threadOf s v) ≡ true → acts (threadOf s v) ≡ true
+acts-of noStep v b = b
+acts-of A1 v b = b
+acts-of A2 v b = b
+acts-of A3 v b = b
+acts-of A4 v b = b
+acts-of A5 v b = b
+acts-of A6 v b = b
+acts-of A7 v b = b
+acts-of A8 v b = b
+acts-of A9 v b = b
+acts-of A10 v b = b
+acts-of A11 v b = b
+acts-of A12 v b = b
+acts-of D1 v b = b
+acts-of D2 v b = b
+acts-of D3 v b = b
+acts-of D4 v b = b
+acts-of D5 v b = b
+acts-of D6 v b = b
+acts-of D7 v b = b
+
 -- ---- one event
 
 module _ (b : schedule.Bench) (B : Bench) (r : BenchT b B) (ops : List Operation) (k : BookT b B ops) where
@@ -52,8 +79,14 @@ module _ (b : schedule.Bench) (B : Bench) (r : BenchT b B) (ops : List Operation
   abbrev c : Core
   c = B .mach .core
 
+  working : (u : ℕ) → busy (c .thr u) ≡ true → acts (c .thr u) ≡ true
+  working u b =
+      let h : u < m .t = subst (λ t. u < t) (count-t _ m c (r .tied)) (r .kept .all .inv .alive .range u b) in
+      let e = r .tied .threads .at u h .stage in
+      ap acts e ∙ acts-of (stage m u) (thread m u) (ap busy (sym e) ∙ b)
+
   lt : (u : ℕ) → busy (c .thr u) ≡ true → B .book .cur u < B .book .count
-  lt = r .kept .all .curs .lt
+  lt u b = r .kept .all .curs .lt u (working u b)
 
   -- the moment of the last start stays the first
   first-on : (m′ : Machine) → queueIn (getD (b .past ++ (m′ ∷ [])) 0 blankMachine) ≡ B .first
@@ -74,7 +107,7 @@ module _ (b : schedule.Bench) (B : Bench) (r : BenchT b B) (ops : List Operation
     step-book bt = by
       where
         said : (a : Reply) → says a ≡ true → OpsT (map (answeredBy (B .now) t a) ops) (closes (B .book) (B .now) t (shownReply a)) thr′
-        said a s = answerT ops (B .book) (c .thr) thr′ t (k .book) (moved c t (c .thr t) bt .others) lt (B .now) a bt (r .kept .all .curs .pending t bt) s
+        said a s = answerT ops (B .book) (c .thr) thr′ t (k .book) (moved c t (c .thr t) bt .others) lt (B .now) a bt (r .kept .all .curs .pending t (working t bt)) s
 
         by : (x : Ans) → step c t (c .thr t) .ans ≡ x → OpsT (noted (B .now) e (answerOf x) ops steps) (noteMove (B .book) (B .now) t x) thr′
         by core.nothing f = goneT ops (B .book) (c .thr) thr′ t (k .book) (moved c t (c .thr t) bt .others) lt bt (moved c t (c .thr t) bt .stays f)

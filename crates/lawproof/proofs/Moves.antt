@@ -9,7 +9,7 @@ use lib.Dec.{eqb, leb}
 use Rattle.lists.proofs.BoolLaws.{no-way}
 use Rattle.model.specs.Basics.{upd}
 use Rattle.model.specs.Conf.{Mode, atOnce, fenced, Engine, shared, split, sameHead}
-use Rattle.model.specs.Core.{Core, Th, busy, idle, a1, a2, a3, a4, a5, a6, a7, a8, a9, a10, a11, a12, d1, d2, d3, d4, d5, d6, d7, a10f, d3f, d6f, s3, s6}
+use Rattle.model.specs.Core.{Core, Th, busy, idle, a1, a2, a3, a4, a5, a6, a7, a8, a9, a10, a11, a12, d1, d2, d3, d4, d5, d6, d7, a10f, d3f, d6f, s3, s6, elsewhere}
 use Rattle.model.specs.Core.{Ans, nothing, done, full, worn, empty, item}
 use Rattle.model.specs.Steps.{Out, step, stepA1, stepA6, stepA7, stepA8, stepA11, stepA12, stepD2, stepD4, stepA10, stepD3, stepD6, emptyTo, itemTo, retireHeld}
 use Rattle.model.proofs.Basics.{upd-same, upd-other}
@@ -114,6 +114,7 @@ module _ (m : Core) (t : ℕ) where
   moved (a11 v n x) b = mA11 n (eqb (m .tail) x)
   moved (a12 v n x) b = mA12 v n (eqb (m .tail) x) (m .next x)
   moved d1 b = on (d2 (m .hnode) (m .hidx)) _ refl refl
+  moved elsewhere b = on elsewhere _ refl refl
   moved (d2 h i) b = mD2 h i (m .next h)
   moved (d3 h i) b = mD3 h i (m .conf .mode)
   moved (d3f h i) b = off _ refl refl

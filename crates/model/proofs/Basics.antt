@@ -98,3 +98,7 @@ upd-upd f i a b = fun-ext (λ j. go j (ℕ-discrete j i))
     go : (j : ℕ) → Dec (j ≡ i) → upd (upd f i a) i b j ≡ upd f i b j
     go j (yes e) = rw (upd-at (upd f i a) i b e, upd-at f i b e) refl
     go j (no ne) = rw (upd-other (upd f i a) i b ne, upd-other f i a ne, upd-other f i b ne) refl
+
+-- a table changed to what it holds is as it was
+pub upd-own {ℓ} : {A : Type ℓ} (f : ℕ → A) (i : ℕ) (a : A) → f i ≡ a → upd f i a ≡ f
+upd-own f i a e = fun-ext (λ j. upd-ind f i a (λ j x. x ≡ f j) j (sym e) (λ ne. refl))

@@ -9,7 +9,7 @@ use lib.Dec.{eqb}
 use Rattle.model.specs.Basics.{sel, has}
 use Rattle.model.specs.Lines.{ofHead, ofNode}
 use Rattle.model.specs.Conf.{headLines}
-use Rattle.model.specs.Core.{a10f, d3f, d6f}
+use Rattle.model.specs.Core.{elsewhere, a10f, d3f, d6f}
 use Rattle.model.specs.Core.{Core, Th, busy, idle, a1, a2, a3, a4, a5, a6, a7, a8, a9, a10, a11, a12, d1, d2, d3, d4, d5, d6, d7}
 use Rattle.model.specs.Core.{s3, s6}
 use Rattle.model.specs.Recovery.{Image}
@@ -36,6 +36,7 @@ ThIn N next (a10f v n t) = (n < N) × (t < N)
 ThIn N next (a11 v n t) = (n < N) × (t < N)
 ThIn N next (a12 v n t) = (n < N) × (t < N) × (next t ≢ none)
 ThIn N next d1 = Unit {0}
+ThIn N next elsewhere = Unit {0}
 ThIn N next (d2 h i) = h < N
 ThIn N next (d3 h i) = h < N
 ThIn N next (d3f h i) = h < N

@@ -10,13 +10,15 @@ use Rattle.model.specs.Conf.{Conf, Engine, lineIx}
 
 -- what a thread is about to do, with what it has read: v the item, n its own node, t the tail read at A5,
 -- h i the head read at D1, x the next read at D2. a10f, d3f and d6f are the fences behind A10, D3 and
--- D6 in `fenced`. s3 and s6 are the stores before D3 and D6 in `split`; there no step uses i
+-- D6 in `fenced`. s3 and s6 are the stores before D3 and D6 in `split`; there no step uses i.
+-- elsewhere: the thread has an operation on another queue over the same table
 pub data Th : Type 0 where
   idle : Th
   a1 : (v : ℕ) → Th
   a2 a3 a4 a5 : (v n : ℕ) → Th
   a6 a7 a8 a9 a10 a11 a12 : (v n t : ℕ) → Th
   d1 : Th
+  elsewhere : Th
   d2 d3 : (h i : ℕ) → Th
   d4 : (h i x : ℕ) → Th
   d5 : (h x : ℕ) → Th
@@ -44,6 +46,7 @@ busy (a10f v n t) = true
 busy (a11 v n t) = true
 busy (a12 v n t) = true
 busy d1 = true
+busy elsewhere = true
 busy (d2 h i) = true
 busy (d3 h i) = true
 busy (d3f h i) = true
@@ -54,6 +57,35 @@ busy (d6 h v) = true
 busy (d6f h v) = true
 busy (s6 h x v) = true
 busy (d7 h v) = true
+
+-- the thread has an operation of this queue
+abbrev pub acts : Th → Bool
+acts idle = false
+acts (a1 v) = true
+acts (a2 v n) = true
+acts (a3 v n) = true
+acts (a4 v n) = true
+acts (a5 v n) = true
+acts (a6 v n t) = true
+acts (a7 v n t) = true
+acts (a8 v n t) = true
+acts (a9 v n t) = true
+acts (a10 v n t) = true
+acts (a10f v n t) = true
+acts (a11 v n t) = true
+acts (a12 v n t) = true
+acts d1 = true
+acts elsewhere = false
+acts (d2 h i) = true
+acts (d3 h i) = true
+acts (d3f h i) = true
+acts (s3 h i) = true
+acts (d4 h i x) = true
+acts (d5 h x) = true
+acts (d6 h v) = true
+acts (d6f h v) = true
+acts (s6 h x v) = true
+acts (d7 h v) = true
 
 -- the answers: none yet, Done, Full, Worn out, Empty, an item
 pub data Ans : Type 0 where

@@ -5,7 +5,7 @@ use mathlib.Core.List.{[]}
 use mathlib.Core.Logic.{_≢_}
 use mathlib.Core.Option.{Option, none, some}
 use Prim.Native.Nat.{ℕ, zero, suc}
-use Rattle.model.specs.Core.{a10f, d3f, d6f}
+use Rattle.model.specs.Core.{elsewhere, a10f, d3f, d6f}
 use Rattle.model.specs.Core.{Core, Th, idle, a1, a2, a3, a4, a5, a6, a7, a8, a9, a10, a11, a12, d1, d2, d3, d4, d5, d6, d7, s3, s6}
 
 -- the node that an enqueue owns before its A8
@@ -25,6 +25,7 @@ ownsE (a10f v n t) = none
 ownsE (a11 v n t) = none
 ownsE (a12 v n t) = some n
 ownsE d1 = none
+ownsE elsewhere = none
 ownsE (d2 h i) = none
 ownsE (d3 h i) = none
 ownsE (d3f h i) = none
@@ -53,6 +54,7 @@ ownsD (a10f v n t) = none
 ownsD (a11 v n t) = none
 ownsD (a12 v n t) = none
 ownsD d1 = none
+ownsD elsewhere = none
 ownsD (d2 h i) = none
 ownsD (d3 h i) = none
 ownsD (d3f h i) = none

@@ -7,7 +7,7 @@ use lib.Dec.{eqb, leb}
 use Rattle.model.specs.Basics.{bothb, upd}
 use Rattle.model.specs.Lines.{Touch, nowhere, stores, flushes, issues, fences, ofHead, ofNode}
 use Rattle.model.specs.Conf.{Mode, atOnce, fenced, Engine, shared, split, lineOf, headTouch, sameHead}
-use Rattle.model.specs.Core.{a10f, d3f, d6f, Core, Th, busy, Ans, nothing, done, full, worn, empty, item, withItem, withLinked, withIndex, idle, a1, a2, a3, a4}
+use Rattle.model.specs.Core.{elsewhere, a10f, d3f, d6f, Core, Th, busy, Ans, nothing, done, full, worn, empty, item, withItem, withLinked, withIndex, idle, a1, a2, a3, a4}
 use Rattle.model.specs.Core.{a5, a6, a7, a8, a9, a10, a11, a12, d1, d2, d3, d4, d5, d6, d7, s3, s6}
 use Rattle.model.specs.Changes.{setTh, setNext, store, setHead, setTail, setFree, setLast, setHeld, setMark}
 
@@ -158,6 +158,8 @@ step m t (a11 v n x) = stepA11 m t n (eqb (m .tail) x)
 step m t (a12 v n x) = stepA12 m t v n (eqb (m .tail) x) (m .next x)
 -- D1 Head read. D2 next of that node read
 step m t d1 = go m t (d2 (m .hnode) (m .hidx))
+-- a thread with an operation on another queue moves there
+step m t elsewhere = go m t elsewhere
 step m t (d2 h i) = stepD2 m t h i (m .next h)
 -- D3 line 0 persisted (`split`: the thread's line). Empty
 step m t (d3 h i) = stepD3 m t h i (m .conf .mode)

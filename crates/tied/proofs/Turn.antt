@@ -75,7 +75,7 @@ module _ (b : run.Bench) (B : Bench) (r : BenchT b B) where
   }
 
   pub persisted-fit : Fit (machine.persisted (B .mach))
-  persisted-fit = fit _ _ _ _ _ (r .kept .all) (machine.persisted (B .mach)) (stays-put (B .mach) _ _ _ (r .kept .all) (r .kept .timed))
+  persisted-fit = fit _ _ _ _ _ _ (r .kept .all) (machine.persisted (B .mach)) (stays-put (B .mach) _ _ _ (r .kept .all) (r .kept .timed))
 
   module _ (q : ℕ) (e : Event) where
     thread-in : threadTooLarge m e ≡ false → e .number < m .t

@@ -14,7 +14,7 @@ use Rattle.model.specs.Demand3.{Fit, Tidy, TakesAll}
 use Rattle.model.specs.Places.{PlaceKind, inQueue, isWaiting, inDeq, isHeld, inEnq, isFree, walk, At, ownsE, ownsD}
 use Rattle.model.specs.Always.{isIt, isNil, placed, sixTotal, OnePlace, PlacesTested, SixAddUp}
 use Rattle.model.proofs.Times.{Hist}
-use Rattle.model.proofs.Layer1.Ghost.{queue, off}
+use Rattle.model.proofs.Layer1.Ghost.{lent, queue, off}
 use Rattle.model.proofs.Layer1.Stops.{idle-of}
 use Rattle.model.proofs.Layer3.All.{All}
 use Rattle.model.proofs.Always.Plain.{Plain}
@@ -39,11 +39,11 @@ is-not-nil : (l : List ℕ) → not (isNil l) ≡ true → l ≢ []
 is-not-nil [] e f = let z : _≡_ {A = ℕ} 0 1 = cc in omega arith
 is-not-nil (x ∷ l) e f = let z : isNil (x ∷ l) ≡ true = ap isNil f in let y : _≡_ {A = ℕ} 0 1 = cc in omega arith
 
-module _ (hs : Hist) (m : Core) (b : Book) (q₀ : List ℕ) (now : ℕ) (a : All hs m b q₀ now) (p : Plain m) where
+module _ (hs : Hist) (m : Core) (b : Book) (q₀ : List ℕ) (now : ℕ) (a : All (λ n. false) hs m b q₀ now) (p : Plain m) where
   -- the queue has at most N nodes
   chain : a .g .len - a .g .hp ≤ m .conf .nodes
   chain = pigeon (m .conf .nodes) (a .g .len - a .g .hp) (λ i. a .g .who (a .g .hp + i))
-      (λ i h. at-head hs m b q₀ now a (a .g .hp + i) (omega arith) (omega arith))
+      (λ i h. at-head (λ n. false) hs m b q₀ now a (a .g .hp + i) (omega arith) (omega arith))
       (λ i j h k e.
       let x = a .inv .place .queued (a .g .hp + i) (omega arith) (omega arith) in
       let y = a .inv .place .queued (a .g .hp + j) (omega arith) (omega arith) in
@@ -75,8 +75,11 @@ module _ (hs : Hist) (m : Core) (b : Book) (q₀ : List ℕ) (now : ℕ) (a : Al
   somewhere : (n : ℕ) → n < m .conf .nodes → a .g .own n ≢ off
   somewhere n h o = omega (arith, a .table n .1 o)
 
+  here : (n : ℕ) → a .g .own n ≢ lent
+  here n o = let z = a .lents n .0 o in let y : _≡_ {A = ℕ} 0 1 = cc in omega arith
+
   one-place : (n : ℕ) → n < m .conf .nodes → (k : PlaceKind) × At m n k × ((k′ : PlaceKind) → At m n k′ → k ≡ k′)
-  one-place n h = exactly-one m (a .g) (a .inv) n (somewhere n h)
+  one-place n h = exactly-one m (a .g) (a .inv) n (somewhere n h) (here n)
 
   add-up : sixTotal (placed m) (m .conf .nodes) ≡ m .conf .nodes
   add-up = six-sum (placed m) (m .conf .nodes) (λ n h. let w = one-place n h in (w .0, is-test n (w .0) (w .1), λ k e. w .2 k (test-is n k e)))

@@ -9,7 +9,7 @@ use Prim.Native.Nat.{ℕ, zero, suc, _+_, _<_}
 use native.Mathlib.Omega.{arith}
 use lib.Dec.{eqb, leb}
 use Rattle.model.specs.Basics.{bothb, upd, has}
-use Rattle.model.specs.Core.{a10f, d3f, d6f}
+use Rattle.model.specs.Core.{elsewhere, a10f, d3f, d6f}
 use Rattle.model.specs.Core.{Core, Th, busy, idle, a1, a2, a3, a4, a5, a6, a7, a8, a9, a10, a11, a12, d1, d2, d3, d4, d5, d6, d7, s3, s6}
 use Rattle.model.specs.Conf.{Mode, atOnce, fenced, sameHead}
 use Rattle.model.specs.Changes.{setHeld}
@@ -158,6 +158,7 @@ module _ (m : Core) (t : ℕ) (p : Plain m) (free-in : (n : ℕ) → m .free n �
   stepPlain (a11 v n x) e = pA11 n (eqb (m .tail) x)
   stepPlain (a12 v n x) e = pA12 v n (eqb (m .tail) x) (m .next x)
   stepPlain d1 e = p
+  stepPlain elsewhere e = p
   stepPlain (d2 h i) e = pD2 h i (m .next h)
   stepPlain (d3 h i) e = pD3 h i (m .conf .mode)
   stepPlain (d3f h i) e = left m t p

@@ -1,6 +1,6 @@
 -- From the invariant: every node number that a thread, Head, Tail, a hold or a mark names is below N.
 use mathlib.Core.Path.{_≡_, refl, sym, subst, ap, _∙_}
-use mathlib.Core.Bool.{true, false}
+use mathlib.Core.Bool.{Bool, true, false}
 use mathlib.Core.List.{List, []}
 use mathlib.Core.Logic.{_≢_}
 use mathlib.Core.Option.{some}
@@ -8,7 +8,7 @@ use Prim.Native.Nat.{ℕ, suc, _≤_, _<_}
 use native.Mathlib.Omega.{arith}
 use native.Mathlib.Decide.{decLt, decLe}
 use Rattle.model.specs.Basics.{has}
-use Rattle.model.specs.Core.{a10f, d3f, d6f}
+use Rattle.model.specs.Core.{elsewhere, a10f, d3f, d6f}
 use Rattle.model.specs.Core.{Core, Th, busy, idle, a1, a2, a3, a4, a5, a6, a7, a8, a9, a10, a11, a12, d1, d2, d3, d4, d5, d6, d7, s3, s6}
 use Rattle.model.specs.Bench.{Book}
 use Rattle.model.specs.Places.{ownsE, ownsD}
@@ -20,7 +20,7 @@ use Rattle.model.proofs.Layer2.Invariant.{FactsOf}
 use Rattle.model.proofs.Layer3.All.{All}
 use Rattle.model.proofs.Always.Plain.{Plain}
 
-module _ (hs : Hist) (m : Core) (b : Book) (q₀ : List ℕ) (now : ℕ) (a : All hs m b q₀ now) where
+module _ (ls : ℕ → Bool) (hs : Hist) (m : Core) (b : Book) (q₀ : List ℕ) (now : ℕ) (a : All ls hs m b q₀ now) where
   -- a node that is somewhere is one of the N
   pub below : (n : ℕ) → a .g .own n ≢ off → n < m .conf .nodes
   below n ne = by (decLt n (m .conf .nodes))
@@ -86,6 +86,7 @@ module _ (hs : Hist) (m : Core) (b : Book) (q₀ : List ℕ) (now : ℕ) (a : Al
       let xs = l .is in
       (own-e t n (rw e), ref-below t (l .pos) x (rw e) (l .is) (l .lo) hi, λ f. let z : _≡_ {A = ℕ} 0 1 = cc in omega arith)
   th-in t d1 e = tt
+  th-in t elsewhere e = tt
   th-in t (d2 h i) e = headed t h i (rw e) (rw e at (a .inv .threads .refs t))
   th-in t (d3 h i) e = headed t h i (rw e) (rw e at (a .inv .threads .refs t))
   th-in t (d3f h i) e = headed t h i (rw e) (rw e at (a .inv .threads .refs t))

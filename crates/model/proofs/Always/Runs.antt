@@ -1,5 +1,6 @@
 -- The invariant with the four plain facts, through every run; and that every number is in its range.
 use mathlib.Core.Path.{_≡_, refl, subst, _∙_}
+use mathlib.Core.Bool.{false}
 use mathlib.Core.List.{List, [], _∷_}
 use Rattle.model.specs.Lines.{act, back}
 use Rattle.model.specs.Steps.{enq, deq, move}
@@ -41,7 +42,7 @@ conf-starts g = refl
 -- all that is kept through a run
 pub record Kept (b : Bench) : Type 0 where
   pub timed : Timed (b .mach)
-  pub all : All (histOf (b .mach)) (b .mach .core) (b .book) (b .first) (b .now)
+  pub all : All (λ n. false) (histOf (b .mach)) (b .mach .core) (b .book) (b .first) (b .now)
   pub plain : Plain (b .mach .core)
 
 pub openKept : (g : Image) → Fit g → Tidy g → Kept (opening g)
@@ -57,10 +58,10 @@ turnKept b e k t = record {
     by : (e : Event) → Takes (b .mach) e → Plain (event (b .mach) e .core)
     by (ev (act (enq u v))) t = k .plain
     by (ev (act (deq u))) t = k .plain
-    by (ev (act (move u))) t = stepPlain (b .mach .core) u (k .plain) (free-below _ _ _ _ _ (k .all)) (own-e _ _ _ _ _ (k .all) u)
+    by (ev (act (move u))) t = stepPlain (b .mach .core) u (k .plain) (free-below _ _ _ _ _ _ (k .all)) (own-e _ _ _ _ _ _ (k .all) u)
         (k .all .inv .alive .range u) (b .mach .core .thr u) refl
     by (ev (back l)) t = k .plain
-    by crash t = startPlain (persisted (b .mach)) (fit _ _ _ _ _ (k .all) (persisted (b .mach)) (stays-put (b .mach) _ _ _ (k .all) (k .timed)))
+    by crash t = startPlain (persisted (b .mach)) (fit _ _ _ _ _ _ (k .all) (persisted (b .mach)) (stays-put (b .mach) _ _ _ (k .all) (k .timed)))
 
 pub benchKept : (b : Bench) (l : List Event) → Kept b → TakesAll (b .mach) l → Kept (bench b l)
 unfolding bench
@@ -68,7 +69,7 @@ benchKept b [] k t = k
 benchKept b (e ∷ l) k t = benchKept (turn b e) l (turnKept b e k (t .0)) (t .1)
 
 pub keptRange : (b : Bench) → Kept b → InRange (b .mach .core)
-keptRange b k = ranged _ _ _ _ _ (k .all) (k .plain)
+keptRange b k = ranged _ _ _ _ _ _ (k .all) (k .plain)
 
 pub always-in-range : AlwaysInRange
 always-in-range g f t l k = subst (λ m. InRange (m .core)) (bench-run l (opening g))

@@ -10,7 +10,7 @@ use native.Mathlib.Nat.{add-zero, add-suc}
 use native.Mathlib.Decide.{decLt}
 use Rattle.model.specs.Core.{Core}
 use Rattle.model.specs.Places.{PlaceKind, inQueue, isWaiting, inDeq, isHeld, inEnq, isFree, walk, At}
-use Rattle.model.proofs.Layer1.Ghost.{Gh, Inv, Place, posOf, queue, waiting, deqd, kept, enqd, spare, off, Marks, Spot}
+use Rattle.model.proofs.Layer1.Ghost.{Gh, Inv, Place, posOf, queue, waiting, deqd, kept, enqd, spare, off, lent, lentW, Marks, Spot}
 
 abbrev kindOf : Place → PlaceKind
 kindOf (queue q) = inQueue
@@ -20,6 +20,8 @@ kindOf (kept t q) = isHeld
 kindOf (enqd t) = inEnq
 kindOf spare = isFree
 kindOf off = isFree
+kindOf lent = isFree
+kindOf lentW = isWaiting
 
 module _ (m : Core) (g : Gh) (i : Inv m g) where
   -- the links lead through the log from Head's place on
@@ -57,17 +59,19 @@ module _ (m : Core) (g : Gh) (i : Inv m g) where
           at (yes h) = let l = i .link .links (g .hp + k) lv h in let l′ = e′ in rw (add-suc (g .hp) k) (h, cc)
           at (no h) = let l = i .link .last (g .hp + k) lv (omega (arith, w .0)) in let l′ = e′ in let z : _≡_ {A = ℕ} 0 1 = cc in absurd (omega arith)
 
-  somewhere : (n : ℕ) (p : Place) → g .own n ≡ p → p ≢ off → At m n (kindOf p)
-  somewhere n (queue q) e ne =
+  somewhere : (n : ℕ) (p : Place) → g .own n ≡ p → p ≢ off → p ≢ lent → At m n (kindOf p)
+  somewhere n (queue q) e ne nl =
       let s : Spot (g .who) (g .hp) (g .len) n (queue q) = rw e at (i .place .spot n) in
       let h : g .hp + (q - g .hp) ≡ q = omega (arith, s .1) in
       (q - g .hp, rw (walks (q - g .hp) (omega (arith, s .1, s .2)), h) (ap some (s .0)))
-  somewhere n (waiting q) e ne = (rw e at (i .place .marks n)) .1
-  somewhere n (deqd t q) e ne = (t, rw e at (i .place .holder n))
-  somewhere n (kept t q) e ne = (t, rw e at (i .place .holder n))
-  somewhere n (enqd t) e ne = (t, rw e at (i .place .holder n))
-  somewhere n spare e ne = (rw e at (i .place .marks n)) .0
-  somewhere n off e ne = absurd (ne refl)
+  somewhere n (waiting q) e ne nl = (rw e at (i .place .marks n)) .1
+  somewhere n (deqd t q) e ne nl = (t, rw e at (i .place .holder n))
+  somewhere n (kept t q) e ne nl = (t, rw e at (i .place .holder n))
+  somewhere n (enqd t) e ne nl = (t, rw e at (i .place .holder n))
+  somewhere n spare e ne nl = (rw e at (i .place .marks n)) .0
+  somewhere n off e ne nl = absurd (ne refl)
+  somewhere n lent e ne nl = absurd (nl refl)
+  somewhere n lentW e ne nl = (rw e at (i .place .marks n)) .1
 
   free-is : (f : Bool) (w : List ℕ) (p : Place) → f ≡ true → Marks f w p → kindOf p ≡ isFree
   free-is f w (queue q) e k = let z = k .0 in cc
@@ -77,6 +81,8 @@ module _ (m : Core) (g : Gh) (i : Inv m g) where
   free-is f w (enqd t) e k = let z = k .0 in cc
   free-is f w spare e k = refl
   free-is f w off e k = refl
+  free-is f w lent e k = refl
+  free-is f w lentW e k = let z = k .0 in cc
 
   waiting-is : (f : Bool) (w : List ℕ) (p : Place) → w ≢ [] → Marks f w p → kindOf p ≡ isWaiting
   waiting-is f w (queue q) ne k = absurd (ne (k .1))
@@ -86,6 +92,8 @@ module _ (m : Core) (g : Gh) (i : Inv m g) where
   waiting-is f w (enqd t) ne k = absurd (ne (k .1))
   waiting-is f w spare ne k = absurd (ne (k .1))
   waiting-is f w off ne k = absurd (ne (k .1))
+  waiting-is f w lent ne k = absurd (ne (k .1))
+  waiting-is f w lentW ne k = refl
 
   only : (n : ℕ) (k : PlaceKind) → At m n k → kindOf (g .own n) ≡ k
   only n inQueue (k, w) = let h = walks-in k n w in ap kindOf (ap (g .own) (sym (h .1)) ∙ i .place .queued (g .hp + k) (omega arith) (h .0))
@@ -96,5 +104,5 @@ module _ (m : Core) (g : Gh) (i : Inv m g) where
   only n isFree w = free-is (m .free n) (m .wait n) (g .own n) w (i .place .marks n)
 
   -- exactly one of the six
-  pub exactly-one : (n : ℕ) → g .own n ≢ off → (k : PlaceKind) × At m n k × ((k′ : PlaceKind) → At m n k′ → k ≡ k′)
-  exactly-one n ne = (kindOf (g .own n), somewhere n (g .own n) refl ne, only n)
+  pub exactly-one : (n : ℕ) → g .own n ≢ off → g .own n ≢ lent → (k : PlaceKind) × At m n k × ((k′ : PlaceKind) → At m n k′ → k ≡ k′)
+  exactly-one n ne nl = (kindOf (g .own n), somewhere n (g .own n) refl ne nl, only n)

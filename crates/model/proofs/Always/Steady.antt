@@ -10,7 +10,7 @@ use lib.Dec.{eqb, leb}
 use Rattle.model.specs.Basics.{upd}
 use Rattle.model.specs.Lines.{ofHead, ofNode, Touch, flushes, act, back}
 use Rattle.model.specs.Conf.{Engine, shared, split, Mode, atOnce, fenced, sameHead, lineIx, lineCount, threadIx, headLines}
-use Rattle.model.specs.Core.{Core, Th, content, idle, a1, a2, a3, a4, a5, a6, a7, a8, a9, a10, a11, a12, d1, d2, d3, d4, d5, d6, d7, s3, s6}
+use Rattle.model.specs.Core.{elsewhere, Core, Th, content, idle, a1, a2, a3, a4, a5, a6, a7, a8, a9, a10, a11, a12, d1, d2, d3, d4, d5, d6, d7, s3, s6}
 use Rattle.model.specs.Core.{a10f, d3f, d6f}
 use Rattle.model.specs.Changes.{setHeld}
 use Rattle.model.specs.Steps.{Act, enq, deq, move, does, step, stepA1, stepA6, stepA7, stepA8, stepA10, stepA11, stepA12, stepD2, stepD3, stepD4}
@@ -37,7 +37,7 @@ mark-up : (E : Engine) (i : ℕ) (f : ℕ → ℕ) (t a k : ℕ) → E ≡ split
 mark-up shared i f t a k s h = let z : _≡_ {A = ℕ} 0 1 = cc in absurd (omega arith)
 mark-up split i f t a k s h = upd-ind f t a (λ k x. f k ≤ x) k h (λ ne. omega arith)
 
-module _ (hs : Hist) (m : Core) (b : Book) (q₀ : List ℕ) (now : ℕ) (a : All hs m b q₀ now) (t k : ℕ) where
+module _ (ls : ℕ → Bool) (hs : Hist) (m : Core) (b : Book) (q₀ : List ℕ) (now : ℕ) (a : All ls hs m b q₀ now) (t k : ℕ) where
   abbrev Up : Core → Type 0
   Up c = lineIx (m .conf .engine) (m .hidx) (m .marks) k ≤ lineIx (m .conf .engine) (c .hidx) (c .marks) k
 
@@ -135,6 +135,7 @@ module _ (hs : Hist) (m : Core) (b : Book) (q₀ : List ℕ) (now : ℕ) (a : Al
   uStep (a11 v n x) e = uA11 n (eqb (m .tail) x)
   uStep (a12 v n x) e = uA12 v n (eqb (m .tail) x) (m .next x)
   uStep d1 e = omega arith
+  uStep elsewhere e = omega arith
   uStep (d2 h i) e = uD2 h i (m .next h)
   uStep (d3 h i) e = uD3 h i (m .conf .mode)
   uStep (d3f h i) e = omega arith
@@ -146,11 +147,11 @@ module _ (hs : Hist) (m : Core) (b : Book) (q₀ : List ℕ) (now : ℕ) (a : Al
   uStep (s6 h x v) e = uS6 h x v e
   uStep (d7 h v) e = uD7 h (m .held t)
 
-pub heads-up : (hs : Hist) (m : Core) (b : Book) (q₀ : List ℕ) (now : ℕ) → All hs m b q₀ now → (x : Act) (k : ℕ)
+pub heads-up : (ls : ℕ → Bool) (hs : Hist) (m : Core) (b : Book) (q₀ : List ℕ) (now : ℕ) → All ls hs m b q₀ now → (x : Act) (k : ℕ)
     → lineIx (m .conf .engine) (m .hidx) (m .marks) k ≤ lineIx (m .conf .engine) (does m x .core .hidx) (does m x .core .marks) k
-heads-up hs m b q₀ now a (enq t v) k = omega arith
-heads-up hs m b q₀ now a (deq t) k = omega arith
-heads-up hs m b q₀ now a (move t) k = uStep hs m b q₀ now a t k (m .thr t) refl
+heads-up ls hs m b q₀ now a (enq t v) k = omega arith
+heads-up ls hs m b q₀ now a (deq t) k = omega arith
+heads-up ls hs m b q₀ now a (move t) k = uStep ls hs m b q₀ now a t k (m .thr t) refl
 
 -- ---- so none falls in the course of time
 
@@ -205,7 +206,7 @@ onRising m c w i r e up k h = at
 turnRising : (b : Bench) (e : Event) → Kept b → Rising (b .mach) → Rising (event (b .mach) e)
 turnRising b (ev (act x)) k r = onRising (b .mach) (does (b .mach .core) x .core) (does (b .mach .core) x .touch) (k .timed) r (conf-event (b .mach) (ev (act x)))
     (λ j. subst (λ c. content (b .mach .core) (ofHead j) .index ≤ lineIx (c .engine) (does (b .mach .core) x .core .hidx) (does (b .mach .core) x .core .marks) j)
-    (sym (conf-event (b .mach) (ev (act x)))) (heads-up _ _ _ _ _ (k .all) x j))
+    (sym (conf-event (b .mach) (ev (act x)))) (heads-up _ _ _ _ _ _ (k .all) x j))
 turnRising b (ev (back l)) k r = onRising (b .mach) (b .mach .core) (flushes l) (k .timed) r refl (λ j. omega arith)
 turnRising b crash k r = startRising (persisted (b .mach))
 

@@ -18,7 +18,7 @@ use Rattle.model.specs.Bench.{Book}
 use Rattle.model.specs.Demand3.{Ending, Fit}
 use Rattle.model.proofs.Times.{Hist}
 use Rattle.model.proofs.Basics.{yes-of, T-of, both-of, dec-true}
-use Rattle.model.proofs.Layer1.Ghost.{Place, queue, waiting, deqd, kept, enqd, spare, off}
+use Rattle.model.proofs.Layer1.Ghost.{lentW, lent, Place, queue, waiting, deqd, kept, enqd, spare, off}
 use Rattle.model.proofs.Layer2.Contents.{Known, Gone, idx-mono}
 use Rattle.model.proofs.Layer2.Heads.{headH}
 use Rattle.model.proofs.Layer3.Effects.{Lin, What, put, get, saw, nay, hasL, Falling, NoTwo, Okay, Fits}
@@ -41,7 +41,7 @@ or-right : (a b : Bool) → b ≡ true → orb a b ≡ true
 or-right true b e = refl
 or-right false b e = e
 
-module _ (hs : Hist) (m : Core) (b : Book) (q₀ : List ℕ) (now : ℕ) (a : All hs m b q₀ now) (e : Image) (en : Ending (hs .is) (m .conf) e) where
+module _ (ls : ℕ → Bool) (hs : Hist) (m : Core) (b : Book) (q₀ : List ℕ) (now : ℕ) (a : All ls hs m b q₀ now) (e : Image) (en : Ending (hs .is) (m .conf) e) where
   pub place-of : (k : ℕ) × (a .p .pp ≤ k) × (k ≤ a .g .hp) × (headOf e ≡ a .g .idx k)
   unfolding headOf
   place-of = let r = headH _ _ _ (a .g .len) _ _ _ (a .inv .log .rising) (a .inv .log .hp-in) (a .pinv .head) (e .heads) (λ k h. en .lines (ofHead k) h) in
@@ -109,6 +109,8 @@ module _ (hs : Hist) (m : Core) (b : Book) (q₀ : List ℕ) (now : ℕ) (a : Al
       by (enqd t) w z = absurd (omega arith)
       by spare w z = absurd (omega arith)
       by off w z = absurd (omega arith)
+      by lent w z = absurd (omega arith)
+      by lentW w z = absurd (omega arith)
 
   abbrev tag2 : Place → ℕ
   tag2 (queue q) = suc q
@@ -118,6 +120,8 @@ module _ (hs : Hist) (m : Core) (b : Book) (q₀ : List ℕ) (now : ℕ) (a : Al
   tag2 (enqd t) = 0
   tag2 spare = 0
   tag2 off = 0
+  tag2 lent = 0
+  tag2 lentW = 0
 
   tagged : (q : ℕ) → q < a .g .len → a .p .pp ≤ q → tag2 (a .g .own (a .g .who q)) ≡ suc q
   tagged q h l = by (held-at q h l)

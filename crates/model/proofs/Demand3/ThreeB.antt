@@ -31,7 +31,7 @@ no-rec h c f = by (c .linked) refl (ltb h (c .index)) refl
     by true e false w = rw (e, w) refl
     by true e true w = let z : h < c .index = ltb→lt h (c .index) (subst T (sym w) tt) in absurd (omega (arith, f e))
 
-module _ (m : M) (b : Book) (q₀ : List ℕ) (now : ℕ) (a : All (histOf m) (m .core) b q₀ now) (i : Timed m) where
+module _ (m : M) (b : Book) (q₀ : List ℕ) (now : ℕ) (a : All (λ n. false) (histOf m) (m .core) b q₀ now) (i : Timed m) where
   -- what is persisted is an ending
   pub stays-put : Ending (Has m) (m .core .conf) (persisted m)
   stays-put = record { conf = refl; lines = λ l h. at l h }
@@ -44,7 +44,7 @@ module _ (m : M) (b : Book) (q₀ : List ℕ) (now : ℕ) (a : All (histOf m) (m
   clean n h =
       let qt : Quiet (a .g .idx (a .p .pp)) (persisted m .at n) off = rw (a .table n .0 h) at (a .pinv .nodes .quiet n
       (persisted m .at n) (first-has m (m .core) i (ofNode n))) in
-      let hd = place-of (histOf m) (m .core) b q₀ now a (persisted m) stays-put in
+      let hd = place-of (λ n. false) (histOf m) (m .core) b q₀ now a (persisted m) stays-put in
       no-rec (headOf (persisted m)) (persisted m .at n)
       (λ l. omega (
         arith,
@@ -58,29 +58,29 @@ module _ (m : M) (b : Book) (q₀ : List ℕ) (now : ℕ) (a : All (histOf m) (m
   acts : (x : Act) → Grown (does (m .core) x .touch) (content (does (m .core) x .core)) (histOf m) (histOf (event m (ev (act x))))
   acts x = onGrown m (does (m .core) x .core) i (does (m .core) x .touch) (frame (m .core) x)
 
-  pub turnAll : (e : Event) → Takes m e → All (histOf (event m e)) (event m e .core) (note b now e (answer m e))
+  pub turnAll : (e : Event) → Takes m e → All (λ n. false) (histOf (event m e)) (event m e .core) (note b now e (answer m e))
       (firstAfter (record { mach = m; book = b; first = q₀; now = now }) e) (suc now)
-  turnAll (ev (act (enq t v))) k = beginEnq (histOf m) _ (m .core) b q₀ now a t (acts (enq t v)) v (k .0) (k .1)
-  turnAll (ev (act (deq t))) k = beginDeq (histOf m) _ (m .core) b q₀ now a t (acts (deq t)) (k .0) (k .1)
-  turnAll (ev (act (move t))) k = stepAll (histOf m) _ (m .core) b q₀ now a t (acts (move t))
-  turnAll (ev (back l)) k = backAll (histOf m) _ (m .core) b q₀ now a l k (onGrown m (m .core) i (flushes l) (λ k ne. refl))
-  turnAll crash k = startAll (persisted m) (fit (histOf m) (m .core) b q₀ now a (persisted m) stays-put) clean (suc now)
+  turnAll (ev (act (enq t v))) k = beginEnq (λ n. false) (histOf m) _ (m .core) b q₀ now a t (acts (enq t v)) v (k .0) (k .1)
+  turnAll (ev (act (deq t))) k = beginDeq (λ n. false) (histOf m) _ (m .core) b q₀ now a t (acts (deq t)) (k .0) (k .1)
+  turnAll (ev (act (move t))) k = stepAll (λ n. false) (histOf m) _ (m .core) b q₀ now a t (acts (move t))
+  turnAll (ev (back l)) k = backAll (λ n. false) (histOf m) _ (m .core) b q₀ now a l k (onGrown m (m .core) i (flushes l) (λ k ne. refl))
+  turnAll crash k = startAll (persisted m) (fit (λ n. false) (histOf m) (m .core) b q₀ now a (persisted m) stays-put) clean (suc now)
 
   pub turnTimed : (e : Event) → Timed (event m e)
   turnTimed (ev (act x)) = onTimed m (does (m .core) x .core) i (does (m .core) x .touch)
   turnTimed (ev (back l)) = onTimed m (m .core) i (flushes l)
   turnTimed crash = startTimed (persisted m)
 
-pub runAll : (b : Bench) (l : List Event) → All (histOf (b .mach)) (b .mach .core) (b .book) (b .first) (b .now) → Timed (b .mach) → TakesAll (b .mach) l
-    → All (histOf (bench b l .mach)) (bench b l .mach .core) (bench b l .book) (bench b l .first) (bench b l .now)
+pub runAll : (b : Bench) (l : List Event) → All (λ n. false) (histOf (b .mach)) (b .mach .core) (b .book) (b .first) (b .now) → Timed (b .mach) → TakesAll (b .mach) l
+    → All (λ n. false) (histOf (bench b l .mach)) (bench b l .mach .core) (bench b l .book) (bench b l .first) (bench b l .now)
 unfolding bench
 runAll b [] a i k = a
 runAll b (e ∷ l) a i k = runAll (turn b e) l (turnAll (b .mach) (b .book) (b .first) (b .now) a i e (k .0)) (turnTimed (b .mach) (b .book) (b .first) (b .now) a i e) (k .1)
 
-pub openAll : (g : Image) → Fit g → Tidy g → All (histOf (starts g)) (starts g .core) newBook (itemsOf g) 0
+pub openAll : (g : Image) → Fit g → Tidy g → All (λ n. false) (histOf (starts g)) (starts g .core) newBook (itemsOf g) 0
 openAll g f t = startAll g f (λ n h. no-rec (headOf g) (g .at n) (λ z. let w = t n h in let y : _≡_ {A = ℕ} 0 1 = cc in absurd (omega arith))) 0
 
 pub demand3b : Demand3b
 demand3b g f t l k e en =
     let a = runAll (opening g) l (openAll g f t) (startTimed g) k in
-    (fit _ _ _ _ _ a e en, lawful _ _ _ _ _ a e en)
+    (fit _ _ _ _ _ _ a e en, lawful _ _ _ _ _ _ a e en)

@@ -13,7 +13,7 @@ use Rattle.model.specs.Changes.{setTh, setHeld}
 use Rattle.model.specs.Steps.{retireHeld, others}
 use Rattle.model.specs.Places.{ownsE, ownsD}
 use Rattle.model.proofs.Basics.{upd-ind, upd-other, upd-at, upd-same, facet}
-use Rattle.model.proofs.Layer1.Ghost.{poss, Gh, Inv, PlaceI, LinkI, LiveI, Place, posOf, queue, waiting, deqd, kept, enqd, spare, off, ixs}
+use Rattle.model.proofs.Layer1.Ghost.{lentW, lent, poss, Gh, Inv, PlaceI, LinkI, LiveI, Place, posOf, queue, waiting, deqd, kept, enqd, spare, off, ixs}
 use Rattle.model.proofs.Layer1.Ghost.{Refs, Mine, Live, Spot, Holder, Awaits}
 use Rattle.model.proofs.Layer1.Places.{upd-inv, holder-map, still, before, tag}
 use Rattle.model.proofs.Layer1.Hands.{ownG, same-pos, awaits-off, marks-off, spot-off, queued-off, has-others}
@@ -218,3 +218,5 @@ module _ (m : Core) (g : Gh) (i : Inv m g) (t : ℕ) (s : Th) (e : m .thr t ≡ 
       aw n (enqd t) a w = tt
       aw n spare a w = tt
       aw n off a w = tt
+      aw n lent a w = tt
+      aw n lentW a w = tt

@@ -6,16 +6,16 @@ use mathlib.Core.Logic.{_≢_}
 use mathlib.Core.Option.{Option, none, some}
 use Prim.Native.Nat.{ℕ, suc, pred, _≤_, _<_}
 use Rattle.model.specs.Basics.{has}
-use Rattle.model.specs.Core.{a10f, d3f, d6f}
+use Rattle.model.specs.Core.{elsewhere, a10f, d3f, d6f}
 use Rattle.model.specs.Core.{Th, Core, Node, busy, idle, a1, a2, a3, a4, a5, a6, a7, a8, a9, a10, a11, a12, d1, d2, d3, d4, d5, d6, d7, s3, s6}
 use Rattle.model.specs.Places.{ownsE, ownsD}
 
--- where a node is; q is its place in the log
+-- where a node is; q is its place in the log. lent: it is with another queue over the same table; lentW: it waits, retired there
 pub data Place : Type 0 where
   queue waiting : (q : ℕ) → Place
   deqd kept : (t q : ℕ) → Place
   enqd : (t : ℕ) → Place
-  spare off : Place
+  spare off lent lentW : Place
 
 abbrev pub posOf : Place → Option ℕ
 posOf (queue q) = some q
@@ -25,6 +25,8 @@ posOf (kept t q) = some q
 posOf (enqd t) = none
 posOf spare = none
 posOf off = none
+posOf lent = none
+posOf lentW = none
 
 -- the log: who and idx at each place below len. hp is Head's place, tp Tail's.
 -- base: no reference of the thread's operation is older
@@ -82,6 +84,7 @@ Refs who idx b hp tp l (a10f v n x) = Lnk who b l x n
 Refs who idx b hp tp l (a11 v n x) = Lnk who b l x n
 Refs who idx b hp tp l (a12 v n x) = (y : ℕ) × Lnk who b l x y
 Refs who idx b hp tp l d1 = Unit {0}
+Refs who idx b hp tp l elsewhere = Unit {0}
 Refs who idx b hp tp l (d2 h i) = Hd who idx b hp h i
 Refs who idx b hp tp l (d3 h i) = Hd who idx b hp h i
 Refs who idx b hp tp l (d3f h i) = Hd who idx b hp h i
@@ -110,6 +113,7 @@ Mine ix next (a10f v n x) = Unit {0}
 Mine ix next (a11 v n x) = Unit {0}
 Mine ix next (a12 v n x) = next n ≡ none
 Mine ix next d1 = Unit {0}
+Mine ix next elsewhere = Unit {0}
 Mine ix next (d2 h i) = Unit {0}
 Mine ix next (d3 h i) = Unit {0}
 Mine ix next (d3f h i) = Unit {0}
@@ -131,6 +135,8 @@ Marks f w (kept t q) = (f ≡ false) × (w ≡ [])
 Marks f w (enqd t) = (f ≡ false) × (w ≡ [])
 Marks f w spare = (f ≡ true) × (w ≡ [])
 Marks f w off = (f ≡ false) × (w ≡ [])
+Marks f w lent = (f ≡ false) × (w ≡ [])
+Marks f w lentW = (f ≡ false) × (w ≢ [])
 
 abbrev pub Spot : (who : ℕ → ℕ) (hp l n : ℕ) → Place → Type 0
 Spot who hp l n (queue q) = (who q ≡ n) × (hp ≤ q) × (q < l)
@@ -140,6 +146,8 @@ Spot who hp l n (kept t q) = (who q ≡ n) × (q < hp) × (q < l)
 Spot who hp l n (enqd t) = Unit {0}
 Spot who hp l n spare = Unit {0}
 Spot who hp l n off = Unit {0}
+Spot who hp l n lent = Unit {0}
+Spot who hp l n lentW = Unit {0}
 
 -- who has it
 abbrev pub Holder : (held oe od : ℕ → Option ℕ) (n : ℕ) → Place → Type 0
@@ -150,6 +158,8 @@ Holder held oe od n (kept t q) = held t ≡ some n
 Holder held oe od n (enqd t) = oe t ≡ some n
 Holder held oe od n spare = Unit {0}
 Holder held oe od n off = Unit {0}
+Holder held oe od n lent = Unit {0}
+Holder held oe od n lentW = Unit {0}
 
 abbrev pub Awaits : (bz : ℕ → Bool) (base : ℕ → ℕ) → List ℕ → Place → Type 0
 Awaits bz base w (queue q) = Unit {0}
@@ -159,6 +169,8 @@ Awaits bz base w (kept t q) = Unit {0}
 Awaits bz base w (enqd t) = Unit {0}
 Awaits bz base w spare = Unit {0}
 Awaits bz base w off = Unit {0}
+Awaits bz base w lent = Unit {0}
+Awaits bz base w lentW = Unit {0}
 
 -- the place q of the log is the last at which its node stands
 abbrev pub Live : (who : ℕ → ℕ) (pos : ℕ → Option ℕ) (q : ℕ) → Type 0

@@ -14,7 +14,7 @@ use Rattle.model.specs.Changes.{setTh, setFree, setLast}
 use Rattle.model.specs.Steps.{others}
 use Rattle.model.specs.Places.{ownsE, ownsD}
 use Rattle.model.proofs.Basics.{upd-ind, upd-other, upd-at, upd-same, facet}
-use Rattle.model.proofs.Layer1.Ghost.{poss, WaitI, Gh, Inv, LinkI, LiveI, Place, posOf, queue, waiting, deqd, kept, enqd, spare, off, ixs}
+use Rattle.model.proofs.Layer1.Ghost.{lentW, lent, poss, WaitI, Gh, Inv, LinkI, LiveI, Place, posOf, queue, waiting, deqd, kept, enqd, spare, off, ixs}
 use Rattle.model.proofs.Layer1.Ghost.{Refs, Mine, Marks, Spot, Holder, Awaits}
 use Rattle.model.proofs.Layer1.Places.{holder-map, still, before, tag}
 
@@ -30,6 +30,8 @@ marks-free f w (kept t q) e k = let z = k .0 in let z : _≡_ {A = ℕ} 0 1 = cc
 marks-free f w (enqd t) e k = let z = k .0 in let z : _≡_ {A = ℕ} 0 1 = cc in absurd (omega arith)
 marks-free f w spare e k = refl
 marks-free f w off e k = let z = k .0 in let z : _≡_ {A = ℕ} 0 1 = cc in absurd (omega arith)
+marks-free f w lent e k = let z = k .0 in let z : _≡_ {A = ℕ} 0 1 = cc in absurd (omega arith)
+marks-free f w lentW e k = let z = k .0 in let z : _≡_ {A = ℕ} 0 1 = cc in absurd (omega arith)
 
 -- a change of hands at n, from p₀ to p, that leaves the log alone, seen from the other nodes
 module _ (m : Core) (g : Gh) (i : Inv m g) (n : ℕ) (p₀ p : Place) (o : g .own n ≡ p₀) (po : posOf p ≡ posOf p₀) where

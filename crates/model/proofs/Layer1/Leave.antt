@@ -12,7 +12,7 @@ use Rattle.model.specs.Core.{Core, busy, idle}
 use Rattle.model.specs.Steps.{leave, freed, remove}
 use Rattle.model.specs.Places.{ownsE, ownsD}
 use Rattle.model.proofs.Basics.{upd-ind, facet}
-use Rattle.model.proofs.Layer1.Ghost.{poss, Gh, Inv, PlaceI, Place, posOf, queue, waiting, deqd, kept, enqd, spare, off, ixs, Refs, Mine, Live}
+use Rattle.model.proofs.Layer1.Ghost.{lentW, lent, poss, Gh, Inv, PlaceI, Place, posOf, queue, waiting, deqd, kept, enqd, spare, off, ixs, Refs, Mine, Live}
 use Rattle.model.proofs.Layer1.Ghost.{Marks, Spot, Holder, Awaits}
 use Rattle.model.proofs.Layer1.Places.{tag}
 
@@ -25,6 +25,9 @@ release (kept t q) w = kept t q
 release (enqd t) w = enqd t
 release spare w = spare
 release off w = off
+release lent w = lent
+release lentW [] = spare
+release lentW (u ∷ w) = lentW
 
 abbrev pub leaveG : Gh → (ℕ → List ℕ) → Gh
 leaveG g w = record { len = g .len; hp = g .hp; tp = g .tp; who = g .who; idx = g .idx; own = λ n. release (g .own n) (w n); base = g .base }
@@ -47,6 +50,11 @@ rel-marks t f w w′ (kept u q) k e = plain t f w w′ (k .0) (k .1) e
 rel-marks t f w w′ (enqd u) k e = plain t f w w′ (k .0) (k .1) e
 rel-marks t f w w′ spare k e = (rw (k .0) refl, sym e ∙ ap (remove t) (k .1) ∙ remove-nil t)
 rel-marks t f w w′ off k e = plain t f w w′ (k .0) (k .1) e
+rel-marks t f w w′ lent k e = plain t f w w′ (k .0) (k .1) e
+rel-marks t f [] [] lentW k e = absurd (k .1 refl)
+rel-marks t f (u ∷ w) [] lentW k e = (rw (k .0) refl, refl)
+rel-marks t f [] (u′ ∷ w′) lentW k e = absurd (k .1 refl)
+rel-marks t f (u ∷ w) (u′ ∷ w′) lentW k e = (rw (k .0) refl, λ z. cons≢nil z)
 
 has-remove : (u t : ℕ) (l : List ℕ) → u ≢ t → has u l → has u (remove t l)
 unfolding remove
@@ -69,6 +77,9 @@ rel-spot who hp l n (kept t q) w s = s
 rel-spot who hp l n (enqd t) w s = s
 rel-spot who hp l n spare w s = s
 rel-spot who hp l n off w s = s
+rel-spot who hp l n lent w s = s
+rel-spot who hp l n lentW [] s = tt
+rel-spot who hp l n lentW (u ∷ w) s = s
 
 rel-holder : (held oe od : ℕ → Option ℕ) (n : ℕ) (p : Place) (w : List ℕ) → Holder held oe od n p → Holder held oe od n (release p w)
 rel-holder held oe od n (queue q) w s = s
@@ -79,6 +90,9 @@ rel-holder held oe od n (kept t q) w s = s
 rel-holder held oe od n (enqd t) w s = s
 rel-holder held oe od n spare w s = s
 rel-holder held oe od n off w s = s
+rel-holder held oe od n lent w s = s
+rel-holder held oe od n lentW [] s = tt
+rel-holder held oe od n lentW (u ∷ w) s = s
 
 -- what is not free after was so before
 pub rel-inv : (p : Place) (w : List ℕ) {x : Place} → spare ≢ x → release p w ≡ x → p ≡ x
@@ -90,6 +104,9 @@ rel-inv (kept t q) w ne e = e
 rel-inv (enqd t) w ne e = e
 rel-inv spare w ne e = e
 rel-inv off w ne e = e
+rel-inv lent w ne e = e
+rel-inv lentW [] ne e = absurd (ne e)
+rel-inv lentW (u ∷ w) ne e = e
 
 pub rel-pos : (p : Place) (w : List ℕ) (q : ℕ) → posOf (release p w) ≡ some q → posOf p ≡ some q
 rel-pos (queue r) w q e = e
@@ -100,6 +117,9 @@ rel-pos (kept t r) w q e = e
 rel-pos (enqd t) w q e = e
 rel-pos spare w q e = e
 rel-pos off w q e = e
+rel-pos lent w q e = e
+rel-pos lentW [] q e = e
+rel-pos lentW (u ∷ w) q e = e
 
 rel-live : (p : Place) (w : List ℕ) (q : ℕ) → posOf p ≡ some q → (p ≡ waiting q → w ≢ []) → posOf (release p w) ≡ some q
 rel-live (queue r) w q e f = e
@@ -110,6 +130,9 @@ rel-live (kept t r) w q e f = e
 rel-live (enqd t) w q e f = e
 rel-live spare w q e f = e
 rel-live off w q e f = e
+rel-live lent w q e f = e
+rel-live lentW [] q e f = e
+rel-live lentW (u ∷ w) q e f = e
 
 rel-awaits : (bz bz′ : ℕ → Bool) (base : ℕ → ℕ) (w w′ : List ℕ) (p : Place) → ((u : ℕ) → bz′ u ≡ true → (bz u ≡ true) × (has u w → has u w′))
     → Awaits bz base w p → Awaits bz′ base w′ (release p w′)
@@ -121,6 +144,9 @@ rel-awaits bz bz′ base w w′ (kept t q) f a = tt
 rel-awaits bz bz′ base w w′ (enqd t) f a = tt
 rel-awaits bz bz′ base w w′ spare f a = tt
 rel-awaits bz bz′ base w w′ off f a = tt
+rel-awaits bz bz′ base w w′ lent f a = tt
+rel-awaits bz bz′ base w [] lentW f a = tt
+rel-awaits bz bz′ base w (x ∷ w′) lentW f a = tt
 
 module _ (m : Core) (g : Gh) (i : Inv m g) (t : ℕ) (oe : ownsE (m .thr t) ≡ none) (od : ownsD (m .thr t) ≡ none) where
   abbrev w′ : ℕ → List ℕ

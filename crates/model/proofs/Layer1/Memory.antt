@@ -5,7 +5,7 @@ use mathlib.Core.Option.{Option, none, some}
 use Prim.Native.Nat.{ℕ, suc, _≤_, _<_}
 use native.Mathlib.Omega.{arith}
 use Rattle.model.specs.Basics.{upd}
-use Rattle.model.specs.Core.{a10f, d3f, d6f}
+use Rattle.model.specs.Core.{elsewhere, a10f, d3f, d6f}
 use Rattle.model.specs.Core.{Th, Core, Node, idle, a1, a2, a3, a4, a5, a6, a7, a8, a9, a10, a11, a12, d1, d2, d3, d4, d5, d6, d7, s3, s6}
 use Rattle.model.specs.Changes.{setTail, store, setNext}
 use Rattle.model.specs.Places.{ownsE}
@@ -53,6 +53,7 @@ module _ (who idx who′ idx′ : ℕ → ℕ) (hp tp l hp′ tp′ l′ : ℕ)
   refs-map (a11 v n x) r = lnk-map r
   refs-map (a12 v n x) r = (r .0, lnk-map (r .1))
   refs-map d1 r = tt
+  refs-map elsewhere r = tt
   refs-map (d2 h i) r = hd-map r
   refs-map (d3 h i) r = hd-map r
   refs-map (d3f h i) r = hd-map r
@@ -82,6 +83,7 @@ mine-map (a10f v n x) f h k = tt
 mine-map (a11 v n x) f h k = tt
 mine-map (a12 v n x) f h k = f n refl k
 mine-map d1 f h k = tt
+mine-map elsewhere f h k = tt
 mine-map (d2 h′ i) f h k = tt
 mine-map (d3 h′ i) f h k = tt
 mine-map (d3f h′ i) f h k = tt

@@ -7,7 +7,7 @@ use native.Mathlib.Omega.{arith}
 use native.Mathlib.Decide.{ℕ-discrete}
 use Rattle.model.specs.Basics.{upd}
 use Rattle.model.proofs.Basics.{upd-other, upd-at}
-use Rattle.model.proofs.Layer1.Ghost.{poss, Place, queue, waiting, deqd, kept, enqd, spare, off, Holder, Spot, posOf, Live}
+use Rattle.model.proofs.Layer1.Ghost.{lentW, lent, poss, Place, queue, waiting, deqd, kept, enqd, spare, off, Holder, Spot, posOf, Live}
 
 -- what a changed table holds was put there or was there
 pub upd-inv {ℓ} : {A : Type ℓ} (f : ℕ → A) (n : ℕ) (a : A) (k : ℕ) {x : A} → upd f n a k ≡ x → ((k ≡ n) × (a ≡ x)) ⊎ ((k ≢ n) × (f k ≡ x))
@@ -29,6 +29,8 @@ holder-map (kept t q) fd fk fe h = fk t q refl h
 holder-map (enqd t) fd fk fe h = fe t refl h
 holder-map spare fd fk fe h = tt
 holder-map off fd fk fe h = tt
+holder-map lent fd fk fe h = tt
+holder-map lentW fd fk fe h = tt
 
 module _ (who who′ : ℕ → ℕ) (hp hp′ l l′ k : ℕ) (wk : (p : ℕ) → p < l → who′ p ≡ who p) (hps : hp ≤ hp′) (ls : l ≤ l′) where
   pub spot-map : (p : Place) → ((q : ℕ) → p ≡ queue q → who q ≡ k → hp ≤ q → q < l → hp′ ≤ q) → Spot who hp l k p → Spot who′ hp′ l′ k p
@@ -39,6 +41,8 @@ module _ (who who′ : ℕ → ℕ) (hp hp′ l l′ k : ℕ) (wk : (p : ℕ) �
   spot-map (enqd t) f s = tt
   spot-map spare f s = tt
   spot-map off f s = tt
+  spot-map lent f s = tt
+  spot-map lentW f s = tt
 
 -- a node with a place in the log stands there
 pub spot-pos : (who : ℕ → ℕ) (hp l n : ℕ) (p : Place) (q : ℕ) → Spot who hp l n p → posOf p ≡ some q → (who q ≡ n) × (q < l)
@@ -49,6 +53,8 @@ spot-pos who hp l n (kept t r) q s e = let f : r ≡ q = cc in rw (← f) (s .0,
 spot-pos who hp l n (enqd t) q s e = let z : _≡_ {A = ℕ} 0 1 = cc in absurd (omega arith)
 spot-pos who hp l n spare q s e = let z : _≡_ {A = ℕ} 0 1 = cc in absurd (omega arith)
 spot-pos who hp l n off q s e = let z : _≡_ {A = ℕ} 0 1 = cc in absurd (omega arith)
+spot-pos who hp l n lent q s e = let z : _≡_ {A = ℕ} 0 1 = cc in absurd (omega arith)
+spot-pos who hp l n lentW q s e = let z : _≡_ {A = ℕ} 0 1 = cc in absurd (omega arith)
 
 abbrev pub tag : Place → ℕ
 tag (queue q) = 0
@@ -58,6 +64,8 @@ tag (kept t q) = 3
 tag (enqd t) = 4
 tag spare = 5
 tag off = 6
+tag lent = 7
+tag lentW = 8
 
 -- a place other than the one that changes is as it was
 pub still : (own : ℕ → Place) (n : ℕ) (p : Place) {p₀ x : Place} (k : ℕ) → own n ≡ p₀ → p₀ ≢ x → own k ≡ x → upd own n p k ≡ x
@@ -75,6 +83,13 @@ before own n p {x} k ne h = by (upd-inv own n p k h)
 pub live-in : (who : ℕ → ℕ) (own : ℕ → Place) (hp l q : ℕ) → ((n : ℕ) → Spot who hp l n (own n)) → Live who (poss own) q → q < l
 live-in who own hp l q s h = spot-pos who hp l (who q) (own (who q)) q (s (who q)) h .1
 
--- a node of the table changes hands: what is beyond the table stays beyond
-pub off-same : (own : ℕ → Place) (n : ℕ) (p : Place) {p₀ : Place} → own n ≡ p₀ → p₀ ≢ off → p ≢ off → (k : ℕ) → (own k ≡ off) ↔ (upd own n p k ≡ off)
-off-same own n p e ne np k = (λ h. still own n p k e ne h, λ h. before own n p k np h .1)
+-- what is beyond the table, or with another queue, is so before and after
+abbrev pub Outside : Place → Place → Type 0
+Outside o o′ = ((o ≡ off) ↔ (o′ ≡ off)) × ((o ≡ lent) ↔ (o′ ≡ lent))
+
+-- a node changes hands here
+pub off-same : (own : ℕ → Place) (n : ℕ) (p : Place) {p₀ : Place} → own n ≡ p₀ → p₀ ≢ off → p₀ ≢ lent → p ≢ off → p ≢ lent → (k : ℕ) → Outside (own k) (upd own n p k)
+off-same own n p e n₀ l₀ n₁ l₁ k = (
+  (λ h. still own n p k e n₀ h, λ h. before own n p k n₁ h .1),
+  (λ h. still own n p k e l₀ h, λ h. before own n p k l₁ h .1),
+)

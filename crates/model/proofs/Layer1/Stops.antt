@@ -5,7 +5,7 @@ use mathlib.Core.Option.{Option, none, some}
 use Prim.Native.Nat.{ℕ, _≤_, _<_}
 use native.Mathlib.Omega.{arith}
 use Rattle.model.specs.Conf.{Engine, shared, split, sameHead}
-use Rattle.model.specs.Core.{a10f, d3f, d6f}
+use Rattle.model.specs.Core.{elsewhere, a10f, d3f, d6f}
 use Rattle.model.specs.Core.{Core, Th, busy, idle, a1, a2, a3, a4, a5, a6, a7, a8, a9, a10, a11, a12, d1, d2, d3, d4, d5, d6, d7, s3, s6}
 use Rattle.model.specs.Changes.{setHeld, setTh}
 use Rattle.model.specs.Steps.{leave}
@@ -80,6 +80,7 @@ idle-of (a10f v n x) f = cc
 idle-of (a11 v n x) f = cc
 idle-of (a12 v n x) f = cc
 idle-of d1 f = cc
+idle-of elsewhere f = cc
 idle-of (d2 h i) f = cc
 idle-of (d3 h i) f = cc
 idle-of (d3f h i) f = cc

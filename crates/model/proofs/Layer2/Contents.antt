@@ -8,7 +8,7 @@ use native.Mathlib.Decide.{ℕ-discrete}
 use Rattle.model.specs.Basics.{upd}
 use Rattle.model.specs.Core.{Node}
 use Rattle.model.proofs.Basics.{upd-other, upd-at}
-use Rattle.model.proofs.Layer1.Ghost.{Place, queue, waiting, deqd, kept, enqd, spare, off, poss, Live}
+use Rattle.model.proofs.Layer1.Ghost.{lentW, lent, Place, queue, waiting, deqd, kept, enqd, spare, off, poss, Live}
 
 -- item: what was enqueued at each place of the log; pp: the place of the persisted head; safe: the line was persisted behind A9
 pub record Pg : Type 0 where
@@ -33,6 +33,8 @@ Quiet top c (kept t q) = c .linked ≡ true → c .index ≤ top
 Quiet top c (enqd t) = c .linked ≡ true → c .index ≤ top
 Quiet top c spare = c .linked ≡ true → c .index ≤ top
 Quiet top c off = c .linked ≡ true → c .index ≤ top
+Quiet top c lent = c .linked ≡ true → c .index ≤ top
+Quiet top c lentW = c .linked ≡ true → c .index ≤ top
 
 -- a place p of the log whose node is now at a place: it is the node's last, or the persisted head is past it
 abbrev pub Gone : ℕ → ℕ → Place → Type 0
@@ -43,6 +45,8 @@ Gone pp p (kept t q) = p < pp
 Gone pp p (enqd t) = p < pp
 Gone pp p spare = p < pp
 Gone pp p off = p < pp
+Gone pp p lent = p < pp
+Gone pp p lentW = p < pp
 
 pub record NodeP (len pp : ℕ) (who idx item : ℕ → ℕ) (own : ℕ → Place) (node : ℕ → Node) (nhist : ℕ → Node → Type 0) (safe : ℕ → Bool) : Type 0 where
   pub cached : (n : ℕ) → nhist n (node n)
@@ -69,6 +73,8 @@ quiet-up top top′ c (kept t q) h k = λ l. omega (arith, k l)
 quiet-up top top′ c (enqd t) h k = λ l. omega (arith, k l)
 quiet-up top top′ c spare h k = λ l. omega (arith, k l)
 quiet-up top top′ c off h k = λ l. omega (arith, k l)
+quiet-up top top′ c lent h k = λ l. omega (arith, k l)
+quiet-up top top′ c lentW h k = λ l. omega (arith, k l)
 
 orUp : {A : Type 0} {p pp pp′ : ℕ} → pp ≤ pp′ → A ⊎ (p < pp) → A ⊎ (p < pp′)
 orUp h (inl a) = inl a
@@ -86,6 +92,8 @@ gone-up pp pp′ p (kept t q) h k = omega arith
 gone-up pp pp′ p (enqd t) h k = omega arith
 gone-up pp pp′ p spare h k = omega arith
 gone-up pp pp′ p off h k = omega arith
+gone-up pp pp′ p lent h k = omega arith
+gone-up pp pp′ p lentW h k = omega arith
 
 module _ (len pp pp′ : ℕ) (who idx item : ℕ → ℕ) (own : ℕ → Place) (node : ℕ → Node) (nhist : ℕ → Node → Type 0) (safe : ℕ → Bool)
     (i : NodeP len pp who idx item own node nhist safe) (tops : idx pp ≤ idx pp′) (pps : pp ≤ pp′) where

@@ -7,7 +7,7 @@ use Prim.Native.Nat.{ℕ, suc, _≤_, _<_}
 use native.Mathlib.Omega.{arith}
 use Rattle.model.specs.Lines.{Line, ofHead, ofNode, nowhere}
 use Rattle.model.specs.Conf.{Engine, split, lineIx, lineOf, threadIx, headLines}
-use Rattle.model.specs.Core.{a10f, d3f, d6f}
+use Rattle.model.specs.Core.{elsewhere, a10f, d3f, d6f}
 use Rattle.model.specs.Core.{Th, Core, Node, content, idle, a1, a2, a3, a4, a5, a6, a7, a8, a9, a10, a11, a12, d1, d2, d3, d4, d5, d6, d7, s3, s6}
 use Rattle.model.specs.Changes.{setTh}
 use Rattle.model.specs.Places.{ownsE, ownsD}
@@ -47,6 +47,7 @@ Facts sn node who idx own b len item pp safe low dk E t (a10f v n x) = (node n .
 Facts sn node who idx own b len item pp safe low dk E t (a11 v n x) = SafeAt who b len safe n
 Facts sn node who idx own b len item pp safe low dk E t (a12 v n x) = (node n .linked ≡ false) × (node n .item ≡ v)
 Facts sn node who idx own b len item pp safe low dk E t d1 = Unit {0}
+Facts sn node who idx own b len item pp safe low dk E t elsewhere = Unit {0}
 Facts sn node who idx own b len item pp safe low dk E t (d2 h i) = dk ≤ i
 Facts sn node who idx own b len item pp safe low dk E t (d3 h i) = i ≤ low
 Facts sn node who idx own b len item pp safe low dk E t (d3f h i) = (i ≤ low) × ((c : Node) → sn (ofHead (lineOf E t)) c → i ≤ c .index)
@@ -111,6 +112,7 @@ module _ (sn sn′ : Line → Node → Type 0) (node node′ : ℕ → Node) (wh
   }
   facts-map (a12 v n x) fn fl nk fo k = (ap (λ z. z .linked) (fn n refl) ∙ k .0, ap (λ z. z .item) (fn n refl) ∙ k .1)
   facts-map d1 fn fl nk fo k = tt
+  facts-map elsewhere fn fl nk fo k = tt
   facts-map (d2 h i) fn fl nk fo k = omega arith
   facts-map (d3 h i) fn fl nk fo k = omega arith
   facts-map (d3f h i) fn fl nk fo k = (omega (arith, k .0), above i (k .0) (k .1))

@@ -16,7 +16,7 @@ use Rattle.model.specs.Places.{ownsE}
 use Rattle.model.proofs.Basics.{upd-ind, upd-other, upd-same}
 use Rattle.model.proofs.Lines.{no-line}
 use Rattle.model.proofs.Times.{Hist, Grown}
-use Rattle.model.proofs.Layer1.Ghost.{Gh, Inv, Place, posOf, queue, waiting, deqd, kept, enqd, spare, off, poss, Live, Lnk, ixs}
+use Rattle.model.proofs.Layer1.Ghost.{lentW, lent, Gh, Inv, Place, posOf, queue, waiting, deqd, kept, enqd, spare, off, poss, Live, Lnk, ixs}
 use Rattle.model.proofs.Layer1.Places.{tag}
 use Rattle.model.proofs.Layer1.Memory.{not-live}
 use Rattle.model.proofs.Layer1.Leave.{leaveG, release, rel-inv, rel-pos}
@@ -139,6 +139,8 @@ module _ (hs : Hist) (m : Core) (g : Gh) (p : Pg) (i : Inv m g) (j : PInv hs m g
       qt (enqd u) o = past (let k : Gone (p .pp) (suc (l .pos)) (enqd u) = rw o at gn in k)
       qt spare o = past (let k : Gone (p .pp) (suc (l .pos)) spare = rw o at gn in k)
       qt off o = past (let k : Gone (p .pp) (suc (l .pos)) off = rw o at gn in k)
+      qt lent o = past (let k : Gone (p .pp) (suc (l .pos)) lent = rw o at gn in k)
+      qt lentW o = past (let k : Gone (p .pp) (suc (l .pos)) lentW = rw o at gn in k)
 
       sf : (r : ℕ) (o : Place) → posOf o ≡ some (suc (l .pos)) → Gone (p .pp) r o → (r ≤ p .pp) ⊎ ((c .linked ≡ true) × (c .index ≡ g .idx r))
       sf r (queue q) lo (inl z) = inr (cl, let qs : q ≡ suc (l .pos) = cc in ci ∙ ix ∙ ap (g .idx) (sym qs ∙ sym z))
@@ -150,6 +152,8 @@ module _ (hs : Hist) (m : Core) (g : Gh) (p : Pg) (i : Inv m g) (j : PInv hs m g
       sf r (enqd u) lo z = inl (omega arith)
       sf r spare lo z = inl (omega arith)
       sf r off lo z = inl (omega arith)
+      sf r lent lo z = inl (omega arith)
+      sf r lentW lo z = inl (omega arith)
 
   -- a head line is persisted: nothing older than f is left of it
   module _ (hs′ : Hist) (w : Grown nowhere (content m) hs hs′) (k f : ℕ) (kh : k < headLines (m .conf))
@@ -216,6 +220,9 @@ module _ (hs : Hist) (m : Core) (g : Gh) (p : Pg) (i : Inv m g) (j : PInv hs m g
       rq c (enqd t) w k = k
       rq c spare w k = k
       rq c off w k = k
+      rq c lent w k = k
+      rq c lentW [] k = k
+      rq c lentW (u ∷ w) k = k
 
       rg : (r : ℕ) (o : Place) (w : List ℕ) → Gone (p .pp) r o → Gone (p .pp) r (release o w)
       rg r (queue q) w k = k
@@ -226,6 +233,9 @@ module _ (hs : Hist) (m : Core) (g : Gh) (p : Pg) (i : Inv m g) (j : PInv hs m g
       rg r (enqd t) w k = k
       rg r spare w k = k
       rg r off w k = k
+      rg r lent w k = k
+      rg r lentW [] k = k
+      rg r lentW (u ∷ w) k = k
 
   -- A10: the line is persisted, so that its present content alone is left; and the place is safe
   pub A10P : (hs′ : Hist) (t v n x : ℕ) → Grown nowhere (content m) hs hs′ → ((c : Node) → hs′ .is (ofNode n) c → c ≡ m .node n)

@@ -8,13 +8,13 @@ use Prim.Native.Nat.{ℕ, zero, suc, _≤_, _<_}
 use native.Mathlib.Omega.{arith}
 use Rattle.model.specs.Basics.{upd}
 use Rattle.model.specs.Lines.{Line, nowhere, flushes, fences}
-use Rattle.model.specs.Core.{Th, Core, Node, content, Ans, item, busy, idle}
+use Rattle.model.specs.Core.{Th, Core, Node, content, Ans, item, acts, idle}
 use Rattle.model.specs.Steps.{Out, remove, leave}
 use Rattle.model.specs.Bench.{Book, noteMove, closes}
 use Rattle.model.specs.Places.{ownsE, ownsD}
 use Rattle.model.proofs.Times.{Hist, Grown}
-use Rattle.model.proofs.Layer1.Ghost.{Gh, Inv, Place, deqd, off}
-use Rattle.model.proofs.Layer1.Places.{tag}
+use Rattle.model.proofs.Layer1.Ghost.{lent, Gh, Inv, Place, deqd, off}
+use Rattle.model.proofs.Layer1.Places.{tag, Outside}
 use Rattle.model.proofs.Layer1.Leave.{left, rel-inv, release}
 use Rattle.model.proofs.Layer2.Contents.{Pg}
 use Rattle.model.proofs.Layer2.Invariant.{PInv, fewerP}
@@ -24,7 +24,8 @@ use Rattle.model.proofs.Layer3.Invariant.{Mark, CurOf, LinI, CurI}
 use Rattle.model.proofs.Layer3.Changes.{quietL, tickL, refuseL, answerL, moveC, leaveC}
 use Rattle.model.proofs.Queue.Serve.{seg}
 
-pub record All (hs : Hist) (m : Core) (b : Book) (q₀ : List ℕ) (now : ℕ) : Type 0 where
+-- ls: the nodes that are with another queue over the same table
+pub record All (ls : ℕ → Bool) (hs : Hist) (m : Core) (b : Book) (q₀ : List ℕ) (now : ℕ) : Type 0 where
   pub g : Gh
   pub p : Pg
   pub first : ℕ
@@ -35,6 +36,7 @@ pub record All (hs : Hist) (m : Core) (b : Book) (q₀ : List ℕ) (now : ℕ) :
   pub curs : CurI (g .hp) (g .len) (g .who) (g .own) (g .base) (b .count) (b .op) (b .cur) lin (m .thr)
   pub roots : q₀ ≡ seg (p .item) (λ k. true) 0 first
   pub table : (n : ℕ) → (m .conf .nodes ≤ n) ↔ (g .own n ≡ off)
+  pub lents : (n : ℕ) → (g .own n ≡ lent) ↔ (ls n ≡ true)
 
 -- the log never gets shorter
 pub sound-len : (first : ℕ) (l : List Lin) (hp len : ℕ) → Sound first l hp len → first ≤ len
@@ -65,12 +67,12 @@ pub at-fence : (t : ℕ) (l : Line) (con : Line → Node) (hs hs′ : Hist) → 
 at-fence t l con hs hs′ w = record { here = w .here; made = w .made .0; later = w .later }
 
 -- what is to be shown of a step of thread t
-abbrev pub AfterStep : Hist → Hist → Book → List ℕ → ℕ → ℕ → Out → Type 0
-AfterStep hs hs′ b q₀ now t o = Grown (o .touch) (content (o .core)) hs hs′ → All hs′ (o .core) (noteMove b now t (o .ans)) q₀ (suc now)
+abbrev pub AfterStep : (ℕ → Bool) → Hist → Hist → Book → List ℕ → ℕ → ℕ → Out → Type 0
+AfterStep ls hs hs′ b q₀ now t o = Grown (o .touch) (content (o .core)) hs hs′ → All ls hs′ (o .core) (noteMove b now t (o .ans)) q₀ (suc now)
 
-module _ (hs : Hist) (m : Core) (b : Book) (q₀ : List ℕ) (now : ℕ) (a : All hs m b q₀ now) (t : ℕ) where
+module _ (ls : ℕ → Bool) (hs : Hist) (m : Core) (b : Book) (q₀ : List ℕ) (now : ℕ) (a : All ls hs m b q₀ now) (t : ℕ) where
   -- what the operation of thread t has done so far
-  pub cu : (s : Th) → m .thr t ≡ s → busy s ≡ true
+  pub cu : (s : Th) → m .thr t ≡ s → acts s ≡ true
       → CurOf (b .op (b .cur t) .call) (a .lin) (a .g .hp) (a .g .who) (a .g .own) (a .g .base t) (a .g .len) t (b .cur t) s
   cu s e bs = subst (λ s. CurOf (b .op (b .cur t) .call) (a .lin) (a .g .hp) (a .g .who) (a .g .own) (a .g .base t) (a .g .len) t (b .cur t) s) e
       (a .curs .state t (rw e bs))
@@ -80,16 +82,16 @@ module _ (hs : Hist) (m : Core) (b : Book) (q₀ : List ℕ) (now : ℕ) (a : Al
   quiet hs′ w = fewerP hs hs′ m (a .g) (a .p) (a .inv) w (a .pinv)
 
   -- a thread moves on: nothing takes effect
-  module _ (s : Th) (bt : busy (m .thr t) ≡ true) where
+  module _ (s : Th) (bt : acts (m .thr t) ≡ true) where
     pub moved : (hs′ : Hist) (m′ : Core) (own′ : ℕ → Place) (tp′ : ℕ) (pp′ : ℕ) (safe′ : ℕ → Bool)
         → Inv m′ (record { len = a .g .len; hp = a .g .hp; tp = tp′; who = a .g .who; idx = a .g .idx; own = own′; base = a .g .base })
         → PInv hs′ m′ (record { len = a .g .len; hp = a .g .hp; tp = tp′; who = a .g .who; idx = a .g .idx; own = own′; base = a .g .base })
         (record { item = a .p .item; pp = pp′; safe = safe′ })
-        → m′ .conf ≡ m .conf → ((n : ℕ) → (a .g .own n ≡ off) ↔ (own′ n ≡ off)) → m′ .thr ≡ upd (m .thr) t s → a .p .pp ≤ pp′
+        → m′ .conf ≡ m .conf → ((n : ℕ) → Outside (a .g .own n) (own′ n)) → m′ .thr ≡ upd (m .thr) t s → a .p .pp ≤ pp′
         → ((q : ℕ) → a .p .safe q ≡ true → safe′ q ≡ true)
         → ((u h q : ℕ) → u ≢ t → ownsD (m .thr u) ≡ some h → own′ h ≡ deqd u q → a .g .own h ≡ deqd u q)
         → CurOf (b .op (b .cur t) .call) (a .lin) (a .g .hp) (a .g .who) own′ (a .g .base t) (a .g .len) t (b .cur t) s
-        → All hs′ m′ b q₀ (suc now)
+        → All ls hs′ m′ b q₀ (suc now)
     moved hs′ m′ own′ tp′ pp′ safe′ i j cf tb th pps sks ob k = record {
       g = _;
       p = _;
@@ -102,33 +104,40 @@ module _ (hs : Hist) (m : Core) (b : Book) (q₀ : List ℕ) (now : ℕ) (a : Al
           (moveC _ _ _ _ _ _ _ _ _ _ (a .curs) t s (a .g .hp) (a .g .len) (a .g .who) own′ (a .lin) bt (λ e h. h) (λ u ne f. f) (λ q h. refl)
           (omega arith) (omega arith) ob k);
       roots = a .roots;
-      table = λ n. (λ h. tb n .0 (a .table n .0 (subst (λ c. c .nodes ≤ n) cf h)), λ o. subst (λ c. c .nodes ≤ n) (sym cf) (a .table n .1 (tb n .1 o)));
+      table = λ n. (λ h. tb n .0 .0 (a .table n .0 (subst (λ c. c .nodes ≤ n) cf h)), λ o. subst (λ c. c .nodes ≤ n) (sym cf) (a .table n .1 (tb n .0 .1 o)));
+      lents = λ n. (λ o. a .lents n .0 (tb n .1 .1 o), λ h. tb n .1 .0 (a .lents n .1 h));
     }
 
     -- and no hands change
     pub went : (hs′ : Hist) (m′ : Core) → Inv m′ (a .g) → PInv hs′ m′ (a .g) (a .p) → m′ .conf ≡ m .conf → m′ .thr ≡ upd (m .thr) t s
-        → CurOf (b .op (b .cur t) .call) (a .lin) (a .g .hp) (a .g .who) (a .g .own) (a .g .base t) (a .g .len) t (b .cur t) s → All hs′ m′ b q₀ (suc now)
-    went hs′ m′ i j cf th k = moved hs′ m′ (a .g .own) (a .g .tp) (a .p .pp) (a .p .safe) i j cf (λ n. (λ z. z, λ z. z)) th (omega arith) (λ q z. z)
+        → CurOf (b .op (b .cur t) .call) (a .lin) (a .g .hp) (a .g .who) (a .g .own) (a .g .base t) (a .g .len) t (b .cur t) s → All ls hs′ m′ b q₀ (suc now)
+    went hs′ m′ i j cf th k = moved hs′ m′ (a .g .own) (a .g .tp) (a .p .pp) (a .p .safe) i j cf (λ n. ((λ z. z, λ z. z), (λ z. z, λ z. z))) th (omega arith) (λ q z. z)
         (λ u h q ne o z. z) k
 
   -- a thread answers: its effect is there
-  module _ (bt : busy (m .thr t) ≡ true) (hs₁ : Hist) (m₁ : Core) (own₁ : ℕ → Place) (tp₁ pp₁ : ℕ) (safe₁ : ℕ → Bool)
+  module _ (bt : acts (m .thr t) ≡ true) (hs₁ : Hist) (m₁ : Core) (own₁ : ℕ → Place) (tp₁ pp₁ : ℕ) (safe₁ : ℕ → Bool)
       (i : Inv m₁ (record { len = a .g .len; hp = a .g .hp; tp = tp₁; who = a .g .who; idx = a .g .idx; own = own₁; base = a .g .base }))
       (j : PInv hs₁ m₁ (record { len = a .g .len; hp = a .g .hp; tp = tp₁; who = a .g .who; idx = a .g .idx; own = own₁; base = a .g .base })
       (record { item = a .p .item; pp = pp₁; safe = safe₁ }))
       (oe : ownsE (m₁ .thr t) ≡ none) (od : ownsD (m₁ .thr t) ≡ none) (th : upd (m₁ .thr) t idle ≡ upd (m .thr) t idle)
-      (cf : m₁ .conf ≡ m .conf) (tb : (n : ℕ) → (a .g .own n ≡ off) ↔ (own₁ n ≡ off))
+      (cf : m₁ .conf ≡ m .conf) (tb : (n : ℕ) → Outside (a .g .own n) (own₁ n))
       (pps : a .p .pp ≤ pp₁) (sks : (q : ℕ) → a .p .safe q ≡ true → safe₁ q ≡ true)
       (ob : (u h q : ℕ) → u ≢ t → ownsD (m .thr u) ≡ some h → own₁ h ≡ deqd u q → a .g .own h ≡ deqd u q) where
     still-table : (n : ℕ) → (m₁ .conf .nodes ≤ n) ↔ (release (own₁ n) (remove t (m₁ .wait n)) ≡ off)
     still-table n = (
-      λ h. ap (λ o. release o (remove t (m₁ .wait n))) (tb n .0 (a .table n .0 (subst (λ c. c .nodes ≤ n) cf h))),
-      λ o. subst (λ c. c .nodes ≤ n) (sym cf) (a .table n .1 (tb n .1 (rel-inv (own₁ n) (remove t (m₁ .wait n)) (λ f. omega (arith, ap tag f)) o))),
+      λ h. ap (λ o. release o (remove t (m₁ .wait n))) (tb n .0 .0 (a .table n .0 (subst (λ c. c .nodes ≤ n) cf h))),
+      λ o. subst (λ c. c .nodes ≤ n) (sym cf) (a .table n .1 (tb n .0 .1 (rel-inv (own₁ n) (remove t (m₁ .wait n)) (λ f. omega (arith, ap tag f)) o))),
+    )
+
+    still-lents : (n : ℕ) → (release (own₁ n) (remove t (m₁ .wait n)) ≡ lent) ↔ (ls n ≡ true)
+    still-lents n = (
+      λ o. a .lents n .0 (tb n .1 .1 (rel-inv (own₁ n) (remove t (m₁ .wait n)) (λ f. omega (arith, ap tag f)) o)),
+      λ h. ap (λ o. release o (remove t (m₁ .wait n))) (tb n .1 .0 (a .lents n .1 h)),
     )
 
     pub answered : (w : What) (x : Ans) → Mark (a .lin) (b .cur t) w
         → Fits (record { call = b .op (b .cur t) .call; began = b .op (b .cur t) .began; said = x; ended = now }) (a .g .len) pp₁ (a .p .item) safe₁ w
-        → All hs₁ (leave m₁ t) (closes b now t x) q₀ (suc now)
+        → All ls hs₁ (leave m₁ t) (closes b now t x) q₀ (suc now)
     answered w x mk f = record {
       g = _;
       p = _;
@@ -143,11 +152,12 @@ module _ (hs : Hist) (m : Core) (b : Book) (q₀ : List ℕ) (now : ℕ) (a : Al
           (λ u h q ne o z. ob u h q ne o (rel-inv (own₁ h) (remove t (m₁ .wait h)) (λ f. omega (arith, ap tag f)) z)));
       roots = a .roots;
       table = still-table;
+      lents = still-lents;
     }
 
     pub refused : (x : Ans) → Fresh (b .cur t) (a .lin)
         → Fits (record { call = b .op (b .cur t) .call; began = b .op (b .cur t) .began; said = x; ended = now }) (a .g .len) pp₁ (a .p .item) safe₁ nay
-        → All hs₁ (leave m₁ t) (closes b now t x) q₀ (suc now)
+        → All ls hs₁ (leave m₁ t) (closes b now t x) q₀ (suc now)
     refused x fr f = record {
       g = _;
       p = _;
@@ -164,6 +174,7 @@ module _ (hs : Hist) (m : Core) (b : Book) (q₀ : List ℕ) (now : ℕ) (a : Al
           (λ u h q ne o z. ob u h q ne o (rel-inv (own₁ h) (remove t (m₁ .wait h)) (λ f. omega (arith, ap tag f)) z)));
       roots = a .roots;
       table = still-table;
+      lents = still-lents;
     }
       where
         other : (u : ℕ) → b .cur u ≢ b .cur t → Fresh (b .cur u) (a .lin) → (e : Lin) → (e ≡ record { by = b .cur t; at = now; what = nay })

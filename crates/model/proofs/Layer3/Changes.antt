@@ -8,7 +8,7 @@ use Prim.Native.Nat.{ℕ, suc, _≤_, _<_}
 use native.Mathlib.Omega.{arith}
 use native.Mathlib.Decide.{ℕ-discrete}
 use Rattle.model.specs.Basics.{upd}
-use Rattle.model.specs.Core.{Th, Ans, nothing, busy, idle}
+use Rattle.model.specs.Core.{Th, Ans, nothing, acts, idle}
 use Rattle.model.specs.Lawful.{Op, Call}
 use Rattle.model.specs.Places.{ownsD}
 use Rattle.model.proofs.Basics.{upd-ind, upd-other, upd-at, upd-same}
@@ -175,7 +175,7 @@ module _ (first len hp pp : ℕ) (it : ℕ → ℕ) (safe : ℕ → Bool) (count
 module _ (hp len : ℕ) (who : ℕ → ℕ) (own : ℕ → Place) (base : ℕ → ℕ) (count : ℕ) (op : ℕ → Op) (cur : ℕ → ℕ) (lin : List Lin) (thr : ℕ → Th)
     (i : CurI hp len who own base count op cur lin thr) where
   -- a thread moves on; the log may grow, hands may change, an effect of this thread may be added
-  pub moveC : (t : ℕ) (s : Th) (hp′ len′ : ℕ) (who′ : ℕ → ℕ) (own′ : ℕ → Place) (lin′ : List Lin) → busy (thr t) ≡ true
+  pub moveC : (t : ℕ) (s : Th) (hp′ len′ : ℕ) (who′ : ℕ → ℕ) (own′ : ℕ → Place) (lin′ : List Lin) → acts (thr t) ≡ true
       → ((e : Lin) → hasL e lin → hasL e lin′) → ((u : ℕ) → cur u ≢ cur t → Fresh (cur u) lin → Fresh (cur u) lin′)
       → ((p : ℕ) → p < len → who′ p ≡ who p) → hp ≤ hp′ → len ≤ len′
       → ((u h q : ℕ) → u ≢ t → ownsD (thr u) ≡ some h → own′ h ≡ deqd u q → own h ≡ deqd u q)
@@ -187,10 +187,10 @@ module _ (hp len : ℕ) (who : ℕ → ℕ) (own : ℕ → Place) (base : ℕ �
     state = λ u b. st u b (ℕ-discrete u t);
   }
     where
-      was : (u : ℕ) → busy (upd thr t s u) ≡ true → busy (thr u) ≡ true
-      was u = upd-ind thr t s (λ u s. busy s ≡ true → busy (thr u) ≡ true) u (λ z. bt) (λ ne z. z)
+      was : (u : ℕ) → acts (upd thr t s u) ≡ true → acts (thr u) ≡ true
+      was u = upd-ind thr t s (λ u s. acts s ≡ true → acts (thr u) ≡ true) u (λ z. bt) (λ ne z. z)
 
-      st : (u : ℕ) → busy (upd thr t s u) ≡ true → Dec (u ≡ t) → CurOf (op (cur u) .call) lin′ hp′ who′ own′ (base u) len′ u (cur u) (upd thr t s u)
+      st : (u : ℕ) → acts (upd thr t s u) ≡ true → Dec (u ≡ t) → CurOf (op (cur u) .call) lin′ hp′ who′ own′ (base u) len′ u (cur u) (upd thr t s u)
       st u b (yes e) = subst (λ u. CurOf (op (cur u) .call) lin′ hp′ who′ own′ (base u) len′ u (cur u) (upd thr t s u)) (sym e)
           (subst (λ z. CurOf (op (cur t) .call) lin′ hp′ who′ own′ (base t) len′ t (cur t) z) (sym (upd-same thr t s)) k)
       st u b (no ne) = subst (λ z. CurOf (op (cur u) .call) lin′ hp′ who′ own′ (base u) len′ u (cur u) z) (sym (upd-other thr t s ne))
@@ -198,7 +198,7 @@ module _ (hp len : ℕ) (who : ℕ → ℕ) (own : ℕ → Place) (base : ℕ �
           (fr u (λ z. ne (i .apart u t (was u b) bt z))) wk hps ls (thr u) (λ h q o e. ob u h q ne o e) (i .state u (was u b)))
 
   -- a thread answers
-  pub leaveC : (t : ℕ) (x : Op) (own′ : ℕ → Place) (lin′ : List Lin) → busy (thr t) ≡ true
+  pub leaveC : (t : ℕ) (x : Op) (own′ : ℕ → Place) (lin′ : List Lin) → acts (thr t) ≡ true
       → ((e : Lin) → hasL e lin → hasL e lin′) → ((u : ℕ) → cur u ≢ cur t → Fresh (cur u) lin → Fresh (cur u) lin′)
       → ((u h q : ℕ) → u ≢ t → ownsD (thr u) ≡ some h → own′ h ≡ deqd u q → own h ≡ deqd u q)
       → CurI hp len who own′ base count (upd op (cur t) x) cur lin′ (upd thr t idle)
@@ -213,18 +213,18 @@ module _ (hp len : ℕ) (who : ℕ → ℕ) (own : ℕ → Place) (base : ℕ �
         (λ h q o e. ob u h q (was u b .0) o e) (i .state u (was u b .1))));
   }
     where
-      was : (u : ℕ) → busy (upd thr t idle u) ≡ true → (u ≢ t) × (busy (thr u) ≡ true)
-      was u = upd-ind thr t idle (λ u s. busy s ≡ true → (u ≢ t) × (busy (thr u) ≡ true)) u (λ z. let z′ : _≡_ {A = ℕ} 0 1 = cc in
+      was : (u : ℕ) → acts (upd thr t idle u) ≡ true → (u ≢ t) × (acts (thr u) ≡ true)
+      was u = upd-ind thr t idle (λ u s. acts s ≡ true → (u ≢ t) × (acts (thr u) ≡ true)) u (λ z. let z′ : _≡_ {A = ℕ} 0 1 = cc in
           absurd (omega arith)) (λ ne z. (ne, z))
 
-      diff : (u : ℕ) → busy (upd thr t idle u) ≡ true → cur u ≢ cur t
+      diff : (u : ℕ) → acts (upd thr t idle u) ≡ true → cur u ≢ cur t
       diff u b z = was u b .0 (i .apart u t (was u b .1) bt z)
 
-      same : (u : ℕ) → busy (upd thr t idle u) ≡ true → upd op (cur t) x (cur u) ≡ op (cur u)
+      same : (u : ℕ) → acts (upd thr t idle u) ≡ true → upd op (cur t) x (cur u) ≡ op (cur u)
       same u b = upd-other op (cur t) x (diff u b)
 
   -- a thread begins
-  pub beginC : (t : ℕ) (s : Th) (x : Op) (b₀ : ℕ) → busy (thr t) ≡ false → busy s ≡ true → x .said ≡ nothing → CurOf (x .call) lin hp who own b₀ len t count s
+  pub beginC : (t : ℕ) (s : Th) (x : Op) (b₀ : ℕ) → acts (thr t) ≡ false → acts s ≡ true → x .said ≡ nothing → CurOf (x .call) lin hp who own b₀ len t count s
       → CurI hp len who own (upd base t b₀) (suc count) (upd op count x) (upd cur t count) lin (upd thr t s)
   beginC t s x b₀ nb bs xn k = record {
     lt = λ u b. ltt u b (ℕ-discrete u t);
@@ -233,27 +233,27 @@ module _ (hp len : ℕ) (who : ℕ → ℕ) (own : ℕ → Place) (base : ℕ �
     state = λ u b. st u b (ℕ-discrete u t);
   }
     where
-      was : (u : ℕ) → u ≢ t → busy (upd thr t s u) ≡ true → busy (thr u) ≡ true
+      was : (u : ℕ) → u ≢ t → acts (upd thr t s u) ≡ true → acts (thr u) ≡ true
       was u ne b = rw (upd-other thr t s ne) at b
 
-      old : (u : ℕ) → u ≢ t → busy (upd thr t s u) ≡ true → upd op count x (cur u) ≡ op (cur u)
+      old : (u : ℕ) → u ≢ t → acts (upd thr t s u) ≡ true → upd op count x (cur u) ≡ op (cur u)
       old u ne b = upd-other op count x (λ z. omega (arith, i .lt u (was u ne b)))
 
-      ltt : (u : ℕ) → busy (upd thr t s u) ≡ true → Dec (u ≡ t) → upd cur t count u < suc count
+      ltt : (u : ℕ) → acts (upd thr t s u) ≡ true → Dec (u ≡ t) → upd cur t count u < suc count
       ltt u b (yes e) = rw (upd-at cur t count e) (omega arith)
       ltt u b (no ne) = rw (upd-other cur t count ne) (omega (arith, i .lt u (was u ne b)))
 
-      pd : (u : ℕ) → busy (upd thr t s u) ≡ true → Dec (u ≡ t) → upd op count x (upd cur t count u) .said ≡ nothing
+      pd : (u : ℕ) → acts (upd thr t s u) ≡ true → Dec (u ≡ t) → upd op count x (upd cur t count u) .said ≡ nothing
       pd u b (yes e) = ap (λ y. upd op count x y .said) (upd-at cur t count e) ∙ ap (λ y. y .said) (upd-same op count x) ∙ xn
       pd u b (no ne) = ap (λ y. upd op count x y .said) (upd-other cur t count ne) ∙ ap (λ y. y .said) (old u ne b) ∙ i .pending u (was u ne b)
 
-      apt : (u v : ℕ) → busy (upd thr t s u) ≡ true → busy (upd thr t s v) ≡ true → upd cur t count u ≡ upd cur t count v → Dec (u ≡ t) → Dec (v ≡ t) → u ≡ v
+      apt : (u v : ℕ) → acts (upd thr t s u) ≡ true → acts (upd thr t s v) ≡ true → upd cur t count u ≡ upd cur t count v → Dec (u ≡ t) → Dec (v ≡ t) → u ≡ v
       apt u v b c e (yes f) (yes h) = f ∙ sym h
       apt u v b c e (yes f) (no h) = let z = sym (upd-at cur t count f) ∙ e ∙ upd-other cur t count h in absurd (omega (arith, i .lt v (was v h c)))
       apt u v b c e (no f) (yes h) = let z = sym (upd-other cur t count f) ∙ e ∙ upd-at cur t count h in absurd (omega (arith, i .lt u (was u f b)))
       apt u v b c e (no f) (no h) = i .apart u v (was u f b) (was v h c) (sym (upd-other cur t count f) ∙ e ∙ upd-other cur t count h)
 
-      st : (u : ℕ) → busy (upd thr t s u) ≡ true → Dec (u ≡ t) → CurOf (upd op count x (upd cur t count u) .call) lin hp who own
+      st : (u : ℕ) → acts (upd thr t s u) ≡ true → Dec (u ≡ t) → CurOf (upd op count x (upd cur t count u) .call) lin hp who own
           (upd base t b₀ u) len u (upd cur t count u) (upd thr t s u)
       st u b (yes e) = subst (λ u. CurOf (upd op count x (upd cur t count u) .call) lin hp who own (upd base t b₀ u) len u (upd cur t count u)
           (upd thr t s u)) (sym e)

@@ -10,7 +10,7 @@ use native.Mathlib.Decide.{decLt}
 use lib.Dec.{eqb}
 use Rattle.model.specs.Basics.{upd}
 use Rattle.model.specs.Conf.{Mode, atOnce, fenced, sameHead, Engine, shared, split, lineIx, lineOf, lineCount, threadIx, headLines}
-use Rattle.model.specs.Core.{d3f, d6f, Node, content, Th, Core, empty, item, busy, idle, d1, d2, d3, d4, d5, d6, d7, s3, s6}
+use Rattle.model.specs.Core.{acts, d3f, d6f, Node, content, Th, Core, empty, item, busy, idle, d1, d2, d3, d4, d5, d6, d7, s3, s6}
 use Rattle.model.specs.Lines.{nowhere, ofHead}
 use Rattle.model.specs.Changes.{setHeld, setTh}
 use Rattle.model.specs.Steps.{leave, stepD3, stepD6, reply, emptyTo, itemTo, Out, step, stepD2, stepD4, retireHeld}
@@ -20,7 +20,7 @@ use Rattle.model.specs.Places.{ownsE, ownsD}
 use Rattle.model.proofs.Basics.{upd-same, upd-upd, true→eq}
 use Rattle.model.proofs.Times.{Hist, Grown}
 use Rattle.model.proofs.Layer1.Ghost.{off, Inv, waiting, kept, deqd, Hd, Spot, ixs}
-use Rattle.model.proofs.Layer1.Places.{before, tag, off-same}
+use Rattle.model.proofs.Layer1.Places.{Outside, before, tag, off-same}
 use Rattle.model.proofs.Layer1.Goto.{goto}
 use Rattle.model.proofs.Layer1.Local.{D2, D4no, D5, S3, S6, toEmpty, same-place, pos-last, D1}
 use Rattle.model.proofs.Layer1.D4.{D4yes, more, own-h}
@@ -57,17 +57,17 @@ low-split : (E : Engine) (i t a k : ℕ) (f : ℕ → ℕ) → E ≡ split → k
 low-split shared i t a k f e h = let z : _≡_ {A = ℕ} 0 1 = cc in absurd (omega arith)
 low-split split i t a k f e h = rw (upd-same f t a) h
 
-module _ (hs hs′ : Hist) (m : Core) (b : Book) (q₀ : List ℕ) (now : ℕ) (a : All hs m b q₀ now) (t : ℕ) where
+module _ (ls : ℕ → Bool) (hs hs′ : Hist) (m : Core) (b : Book) (q₀ : List ℕ) (now : ℕ) (a : All ls hs m b q₀ now) (t : ℕ) where
   abbrev After : Out → Type 0
-  After = AfterStep hs hs′ b q₀ now t
+  After = AfterStep ls hs hs′ b q₀ now t
 
   pv : Grown nowhere (content m) hs hs′ → PInv hs′ m (a .g) (a .p)
-  pv w = quiet hs m b q₀ now a t hs′ w
+  pv w = quiet ls hs m b q₀ now a t hs′ w
 
   pub sD1 : m .thr t ≡ d1 → After (step m t d1)
-  sD1 e w = went hs m b q₀ now a t (d2 (m .hnode) (m .hidx)) (rw e) _ _ (D1 m (a .g) (a .inv) t e) (gotoP hs′ m (a .g) (a .p) (pv w) t (d2 (m .hnode) (m .hidx))
+  sD1 e w = went ls hs m b q₀ now a t (d2 (m .hnode) (m .hidx)) (rw e) _ _ (D1 m (a .g) (a .inv) t e) (gotoP hs′ m (a .g) (a .p) (pv w) t (d2 (m .hnode) (m .hidx))
       (rw (a .inv .log .head-ix) (thread-low (m .conf .engine) (m .conf .threads) t (a .g .idx (a .g .hp)) (m .hidx) (m .marks) (a .inv .alive .range t (rw e))
-      (low-cur _ _ _ (a .g .len) _ _ _ (a .inv .log .rising) (a .inv .log .hp-in) (a .pinv .head))))) refl refl (cu hs m b q₀ now a t d1 e refl)
+      (low-cur _ _ _ (a .g .len) _ _ _ (a .inv .log .rising) (a .inv .log .hp-in) (a .pinv .head))))) refl refl (cu ls hs m b q₀ now a t d1 e refl)
 
   -- D2 finds nothing behind the head it read, which is Head
   module _ (h k : ℕ) (e : m .thr t ≡ d2 h k) (f : m .next h ≡ none) where
@@ -86,7 +86,7 @@ module _ (hs hs′ : Hist) (m : Core) (b : Book) (q₀ : List ℕ) (now : ℕ) (
     sD2to : (s : Th) → Grown nowhere (content m) hs hs′ → Inv (setTh m t s) (a .g) → FactsOf hs′ m (a .g) (a .p) t s
         → ((p : ℕ) × (a .g .base t ≤ p) × (p < a .g .len) × (a .g .who p ≡ h) × Mark sawIt (b .cur t) (saw p)
         → CurOf (b .op (b .cur t) .call) sawIt (a .g .hp) (a .g .who) (a .g .own) (a .g .base t) (a .g .len) t (b .cur t) s)
-        → All hs′ (setTh m t s) b q₀ (suc now)
+        → All ls hs′ (setTh m t s) b q₀ (suc now)
     sD2to s w iv fs cs = record {
       g = a .g;
       p = a .p;
@@ -110,20 +110,21 @@ module _ (hs hs′ : Hist) (m : Core) (b : Book) (q₀ : List ℕ) (now : ℕ) (
           ));
       roots = a .roots;
       table = a .table;
+      lents = a .lents;
     }
       where
         c : (b .op (b .cur t) .call ≡ taking) × Fresh (b .cur t) (a .lin)
-        c = cu hs m b q₀ now a t (d2 h k) e refl
+        c = cu ls hs m b q₀ now a t (d2 h k) e refl
 
-    sD2none : Grown nowhere (content m) hs hs′ → (E : Engine) → m .conf .engine ≡ E → All hs′ (setTh m t (emptyTo E h k)) b q₀ (suc now)
+    sD2none : Grown nowhere (content m) hs hs′ → (E : Engine) → m .conf .engine ≡ E → All ls hs′ (setTh m t (emptyTo E h k)) b q₀ (suc now)
     sD2none w shared en = sD2to (d3 h k) w (toEmpty m (a .g) (a .inv) t shared h k e)
         (low-shared (m .conf .engine) (m .hidx) t k (m .marks) en (omega (arith, a .inv .log .head-ix, r₂ .ix, ap (a .g .idx) at-head))) (λ z. z)
     sD2none w split en = sD2to (s3 h k) w (toEmpty m (a .g) (a .inv) t split h k e) (en, rw e at (a .pinv .facts t)) (λ z. z)
 
   pub sD2 : (h k : ℕ) → m .thr t ≡ d2 h k → (o : Option ℕ) → m .next h ≡ o → After (stepD2 m t h k o)
   sD2 h k e none f w = sD2none h k e f w (m .conf .engine) refl
-  sD2 h k e (some x) f w = went hs m b q₀ now a t (d4 h k x) (rw e) _ _ (D2 m (a .g) (a .inv) t h k e (some x) f)
-      (gotoP hs′ m (a .g) (a .p) (pv w) t (d4 h k x) (rw e at (a .pinv .facts t))) refl refl (cu hs m b q₀ now a t (d2 h k) e refl)
+  sD2 h k e (some x) f w = went ls hs m b q₀ now a t (d4 h k x) (rw e) _ _ (D2 m (a .g) (a .inv) t h k e (some x) f)
+      (gotoP hs′ m (a .g) (a .p) (pv w) t (d4 h k x) (rw e at (a .pinv .facts t))) refl refl (cu ls hs m b q₀ now a t (d2 h k) e refl)
 
   -- of the thread's head line nothing older than f is left: a place whose index is no newer is persisted
   module _ (bt : busy (m .thr t) ≡ true) (w : Grown nowhere (content m) hs hs′) (f : ℕ)
@@ -150,7 +151,7 @@ module _ (hs hs′ : Hist) (m : Core) (b : Book) (q₀ : List ℕ) (now : ℕ) (
         by (no z) = omega arith
 
   -- the thread answers Empty: what it found last is persisted
-  module _ (h k : ℕ) (bt : busy (m .thr t) ≡ true) (oe : ownsE (m .thr t) ≡ none) (od : ownsD (m .thr t) ≡ none) (w : Grown nowhere (content m) hs hs′)
+  module _ (h k : ℕ) (bt : busy (m .thr t) ≡ true) (ac : acts (m .thr t) ≡ true) (oe : ownsE (m .thr t) ≡ none) (od : ownsD (m .thr t) ≡ none) (w : Grown nowhere (content m) hs hs′)
       (low : (c : Node) → hs′ .is (ofHead (lineOf (m .conf .engine) t)) c → k ≤ c .index) (r : Hd (a .g .who) (a .g .idx) (a .g .base t) (a .g .hp) h k)
       (c : (p : ℕ) × (a .g .base t ≤ p) × (p < a .g .len) × (a .g .who p ≡ h) × Mark (a .lin) (b .cur t) (saw p)) where
     fpE : (k ≤ a .g .idx 0) ⊎ ((q : ℕ) × (q ≤ a .g .hp) × (k ≡ a .g .idx q))
@@ -162,9 +163,9 @@ module _ (hs hs′ : Hist) (m : Core) (b : Book) (q₀ : List ℕ) (now : ℕ) (
     one : c .0 ≡ r .pos
     one = same-place m (a .g) (a .inv) t bt (c .0) (r .pos) (c .1) (c .2) (r .lo) (omega (arith, r .hi, a .inv .log .hp-in)) (c .3 ∙ sym (r .is))
 
-    empties : All hs′ (leave m t) (closes b now t empty) q₀ (suc now)
-    empties = answered hs m b q₀ now a t bt hs′ m (a .g .own) (a .g .tp) (ppD bt w k fpE low) (a .p .safe) (a .inv) (pvD bt w k fpE low) oe od refl refl
-        (λ k. (λ z. z, λ z. z)) (kpD bt w k fpE low .up) (λ q z. z) (λ u h q ne o z. z) (saw (c .0)) empty (c .4) (
+    empties : All ls hs′ (leave m t) (closes b now t empty) q₀ (suc now)
+    empties = answered ls hs m b q₀ now a t ac hs′ m (a .g .own) (a .g .tp) (ppD bt w k fpE low) (a .p .safe) (a .inv) (pvD bt w k fpE low) oe od refl refl
+        (λ k. ((λ z. z, λ z. z), (λ z. z, λ z. z))) (kpD bt w k fpE low .up) (λ q z. z) (λ u h q ne o z. z) (saw (c .0)) empty (c .4) (
           f .0,
           ap (λ y. b .op y .call) (sym (c .4 .its)) ∙ f .1,
           inr (refl, reached bt w k fpE low (c .0) (c .2) (omega (arith, r .ix, ap (a .g .idx) one))),
@@ -173,19 +174,19 @@ module _ (hs hs′ : Hist) (m : Core) (b : Book) (q₀ : List ℕ) (now : ℕ) (
   pub sD3 : (h k : ℕ) → m .thr t ≡ d3 h k → (c : Mode) → After (stepD3 m t h k c)
   sD3 h k e atOnce w =
       let fc : FactsOf hs m (a .g) (a .p) t (d3 h k) = rw e at (a .pinv .facts t) in
-      empties h k (rw e) (rw e) (rw e) (at-once _ (content m) hs hs′ w) (λ c z. omega (arith, fc, ap (λ y. y .index) (w .made .1 c z)))
-      (rw e at (a .inv .threads .refs t)) (cu hs m b q₀ now a t (d3 h k) e refl)
+      empties h k (rw e) (rw e) (rw e) (rw e) (at-once _ (content m) hs hs′ w) (λ c z. omega (arith, fc, ap (λ y. y .index) (w .made .1 c z)))
+      (rw e at (a .inv .threads .refs t)) (cu ls hs m b q₀ now a t (d3 h k) e refl)
   sD3 h k e fenced w =
       let fc : FactsOf hs m (a .g) (a .p) t (d3 h k) = rw e at (a .pinv .facts t) in
-      went hs m b q₀ now a t (d3f h k) (rw e) _ _ (goto m (a .g) (a .inv) t (d3f h k) (rw e) (rw e) (rw e) (rw e at (a .inv .threads .refs t)) tt)
+      went ls hs m b q₀ now a t (d3f h k) (rw e) _ _ (goto m (a .g) (a .inv) t (d3f h k) (rw e) (rw e) (rw e) (rw e at (a .inv .threads .refs t)) tt)
       (issuedP hs m (a .g) (a .p) (a .inv) (a .pinv) hs′ t (d3f h k) w (fc, λ c z. omega (arith, fc, ap (λ y. y .index) (w .later .1 _ c z)))) refl refl
-      (cu hs m b q₀ now a t (d3 h k) e refl)
+      (cu ls hs m b q₀ now a t (d3 h k) e refl)
 
   pub sD3f : (h k : ℕ) → m .thr t ≡ d3f h k → After (step m t (d3f h k))
   sD3f h k e w =
       let fc : FactsOf hs m (a .g) (a .p) t (d3f h k) = rw e at (a .pinv .facts t) in
-      empties h k (rw e) (rw e) (rw e) (at-fence t _ (content m) hs hs′ w) (λ c z. fc .1 c (w .made .1 c z))
-      (rw e at (a .inv .threads .refs t)) (cu hs m b q₀ now a t (d3f h k) e refl)
+      empties h k (rw e) (rw e) (rw e) (rw e) (at-fence t _ (content m) hs hs′ w) (λ c z. fc .1 c (w .made .1 c z))
+      (rw e at (a .inv .threads .refs t)) (cu ls hs m b q₀ now a t (d3f h k) e refl)
 
   pub sD4 : (h k x : ℕ) → m .thr t ≡ d4 h k x → (c : Bool) → sameHead (m .conf .engine) (eqb (m .hnode) h) (eqb (m .hidx) k) ≡ c → After (stepD4 m t h x c)
   sD4 h k x e true f w = record {
@@ -207,20 +208,23 @@ module _ (hs hs′ : Hist) (m : Core) (b : Book) (q₀ : List ℕ) (now : ℕ) (
         record { entry = _; there = inl refl; its = refl; kind = ap (λ y. get (suc y)) z });
     roots = a .roots;
     table = λ y. let s = off-same (a .g .own) h (deqd t (a .g .hp)) (own-h m (a .g) (a .inv) t h k x e eh) (λ w. omega (arith, ap tag w))
-        (λ w. omega (arith, ap tag w)) y in
-        (λ l. s .0 (a .table y .0 l), λ o. a .table y .1 (s .1 o));
+        (λ w. omega (arith, ap tag w)) (λ w. omega (arith, ap tag w)) (λ w. omega (arith, ap tag w)) y in
+        (λ l. s .0 .0 (a .table y .0 l), λ o. a .table y .1 (s .0 .1 o));
+    lents = λ y. let s = off-same (a .g .own) h (deqd t (a .g .hp)) (own-h m (a .g) (a .inv) t h k x e eh) (λ w. omega (arith, ap tag w))
+        (λ w. omega (arith, ap tag w)) (λ w. omega (arith, ap tag w)) (λ w. omega (arith, ap tag w)) y in
+        (λ o. a .lents y .0 (s .1 .1 o), λ h. s .1 .0 (a .lents y .1 h));
   }
     where
       c : (b .op (b .cur t) .call ≡ taking) × Fresh (b .cur t) (a .lin)
-      c = cu hs m b q₀ now a t (d4 h k x) e refl
+      c = cu ls hs m b q₀ now a t (d4 h k x) e refl
 
       eh : m .hnode ≡ h
       eh = true→eq (m .hnode) h (same-number (m .conf .engine) (eqb (m .hnode) h) (eqb (m .hidx) k) f)
 
       mo : suc (a .g .hp) < a .g .len
       mo = more m (a .g) (a .inv) t h k x e eh
-  sD4 h k x e false f w = went hs m b q₀ now a t d1 (rw e) _ _ (D4no m (a .g) (a .inv) t h k x e) (gotoP hs′ m (a .g) (a .p) (pv w) t d1 tt) refl refl
-      (cu hs m b q₀ now a t (d4 h k x) e refl)
+  sD4 h k x e false f w = went ls hs m b q₀ now a t d1 (rw e) _ _ (D4no m (a .g) (a .inv) t h k x e) (gotoP hs′ m (a .g) (a .p) (pv w) t d1 tt) refl refl
+      (cu ls hs m b q₀ now a t (d4 h k x) e refl)
 
   pub sD5 : (h x : ℕ) → m .thr t ≡ d5 h x → After (step m t (d5 h x))
   sD5 h x e w = by (m .conf .engine) refl
@@ -243,22 +247,22 @@ module _ (hs hs′ : Hist) (m : Core) (b : Book) (q₀ : List ℕ) (now : ℕ) (
       low q o = let s : Spot (a .g .who) (a .g .hp) (a .g .len) h (deqd t q) = rw o at (a .inv .place .spot h) in
           omega (arith, a .inv .log .head-ix, idx-mono (a .g .idx) (a .g .len) (a .inv .log .rising) (suc q) (a .g .hp) (s .1) (a .inv .log .hp-in))
 
-      by : (E : Engine) → m .conf .engine ≡ E → All hs′ (setTh m t (itemTo E h x v)) b q₀ (suc now)
-      by shared en = went hs m b q₀ now a t (d6 h v) (rw e) hs′ (setTh m t (d6 h v)) (D5 m (a .g) (a .inv) t shared h x v e)
+      by : (E : Engine) → m .conf .engine ≡ E → All ls hs′ (setTh m t (itemTo E h x v)) b q₀ (suc now)
+      by shared en = went ls hs m b q₀ now a t (d6 h v) (rw e) hs′ (setTh m t (d6 h v)) (D5 m (a .g) (a .inv) t shared h x v e)
           (gotoP hs′ m (a .g) (a .p) (pv w) t (d6 h v)
           (λ q o. (got q o, low-shared (m .conf .engine) (m .hidx) t (a .g .idx (suc q)) (m .marks) en (low q o)))) refl refl
-          (cu hs m b q₀ now a t (d5 h x) e refl)
-      by split en = went hs m b q₀ now a t (s6 h x v) (rw e) hs′ (setTh m t (s6 h x v)) (D5 m (a .g) (a .inv) t split h x v e)
+          (cu ls hs m b q₀ now a t (d5 h x) e refl)
+      by split en = went ls hs m b q₀ now a t (s6 h x v) (rw e) hs′ (setTh m t (s6 h x v)) (D5 m (a .g) (a .inv) t split h x v e)
           (gotoP hs′ m (a .g) (a .p) (pv w) t (s6 h x v) (en, λ q o. let r = fc q o in (r .0, r .2, r .3, got q o))) refl refl
-          (cu hs m b q₀ now a t (d5 h x) e refl)
+          (cu ls hs m b q₀ now a t (d5 h x) e refl)
 
   -- the two stores of an engine with an index line for each thread
   pub sS3 : (h k : ℕ) → m .thr t ≡ s3 h k → After (step m t (s3 h k))
-  sS3 h k e w = went hs m b q₀ now a t (d3 h k) (rw e) _ _ (S3 m (a .g) (a .inv) t h k (m .node h .index) e)
+  sS3 h k e w = went ls hs m b q₀ now a t (d3 h k) (rw e) _ _ (S3 m (a .g) (a .inv) t h k (m .node h .index) e)
       (markP hs m (a .g) (a .p) (a .inv) (a .pinv) t (m .node h .index) (r .pos) (d3 h k) (fc .0) (a .inv .alive .range t (rw e)) (r .hi) ix
       (omega (arith, fc .1, ix, r .ix)) hs′ w
       (low-split (m .conf .engine) (m .hidx) t (m .node h .index) k (m .marks) (fc .0) (omega (arith, ix, r .ix)))) refl refl
-      (cu hs m b q₀ now a t (s3 h k) e refl)
+      (cu ls hs m b q₀ now a t (s3 h k) e refl)
     where
       fc : (m .conf .engine ≡ split) × (markOf m t ≤ k)
       fc = rw e at (a .pinv .facts t)
@@ -271,14 +275,14 @@ module _ (hs hs′ : Hist) (m : Core) (b : Book) (q₀ : List ℕ) (now : ℕ) (
           (a .inv .alive .live t (rw e) (r .pos) (r .lo) (omega (arith, r .hi, a .inv .log .hp-in)))
 
   pub sS6 : (h x v : ℕ) → m .thr t ≡ s6 h x v → After (step m t (s6 h x v))
-  sS6 h x v e w = went hs m b q₀ now a t (d6 h v) (rw e) _ _ (S6 m (a .g) (a .inv) t h x v (m .node x .index) e)
+  sS6 h x v e w = went ls hs m b q₀ now a t (d6 h v) (rw e) _ _ (S6 m (a .g) (a .inv) t h x v (m .node x .index) e)
       (markP hs m (a .g) (a .p) (a .inv) (a .pinv) t (m .node x .index) (suc (d .0)) (d6 h v) (fc .0) (a .inv .alive .range t (rw e)) (sp .1) ix
       (omega (arith, r .2, ix)) hs′ w
       (λ q o. (
         fc .1 q o .3,
         low-split (m .conf .engine) (m .hidx) t (m .node x .index) (a .g .idx (suc q)) (m .marks) (fc .0)
             (omega (arith, ix, ap (λ y. a .g .idx (suc y)) (one q o))),
-      ))) refl refl (cu hs m b q₀ now a t (s6 h x v) e refl)
+      ))) refl refl (cu ls hs m b q₀ now a t (s6 h x v) e refl)
     where
       fc : FactsOf hs m (a .g) (a .p) t (s6 h x v)
       fc = rw e at (a .pinv .facts t)
@@ -299,7 +303,7 @@ module _ (hs hs′ : Hist) (m : Core) (b : Book) (q₀ : List ℕ) (now : ℕ) (
       one q o = let w = sym o ∙ d .1 in cc
 
   -- the place taken is persisted
-  module _ (h v : ℕ) (bt : busy (m .thr t) ≡ true) (oe : ownsE (m .thr t) ≡ none) (od : ownsD (m .thr t) ≡ some h) (w : Grown nowhere (content m) hs hs′)
+  module _ (h v : ℕ) (bt : busy (m .thr t) ≡ true) (ac : acts (m .thr t) ≡ true) (oe : ownsE (m .thr t) ≡ none) (od : ownsD (m .thr t) ≡ some h) (w : Grown nowhere (content m) hs hs′)
       (fc : (q : ℕ) → a .g .own h ≡ deqd t q → Got (a .g .who) (a .p .item) (a .g .len) v q
       × ((c : Node) → hs′ .is (ofHead (lineOf (m .conf .engine) t)) c → a .g .idx (suc q) ≤ c .index))
       (k : (q : ℕ) → a .g .own h ≡ deqd t q → Mark (a .lin) (b .cur t) (get (suc q))) where
@@ -318,36 +322,36 @@ module _ (hs hs′ : Hist) (m : Core) (b : Book) (q₀ : List ℕ) (now : ℕ) (
     same-q : (q : ℕ) → a .g .own h ≡ deqd t q → q ≡ d .0
     same-q q o = let w = sym o ∙ d .1 in cc
 
-    takes : All hs′ (setTh m t (d7 h v)) b q₀ (suc now)
-    takes = moved hs m b q₀ now a t (d7 h v) bt hs′ (setTh m t (d7 h v)) (a .g .own) (a .g .tp) (ppD bt w _ fpT lowT) (a .p .safe)
+    takes : All ls hs′ (setTh m t (d7 h v)) b q₀ (suc now)
+    takes = moved ls hs m b q₀ now a t (d7 h v) ac hs′ (setTh m t (d7 h v)) (a .g .own) (a .g .tp) (ppD bt w _ fpT lowT) (a .p .safe)
         (goto m (a .g) (a .inv) t (d7 h v) (sym bt) (sym oe) (sym od) tt tt)
         (gotoP hs′ m (a .g) _ (pvD bt w _ fpT lowT) t (d7 h v)
         (λ q o. let r = fc q o in
         (r .0, (let z = reached bt w _ fpT lowT (suc q) (r .0 .inside) (omega (arith, ap (λ y. a .g .idx (suc y)) (same-q q o))) in omega arith))))
-        refl (λ k. (λ z. z, λ z. z)) refl (kpD bt w _ fpT lowT .up) (λ q z. z) (λ u h q ne o z. z) k
+        refl (λ k. ((λ z. z, λ z. z), (λ z. z, λ z. z))) refl (kpD bt w _ fpT lowT .up) (λ q z. z) (λ u h q ne o z. z) k
 
   pub sD6 : (h v : ℕ) → m .thr t ≡ d6 h v → (c : Mode) → After (stepD6 m t h v c)
   sD6 h v e atOnce w =
       let fc : FactsOf hs m (a .g) (a .p) t (d6 h v) = rw e at (a .pinv .facts t) in
-      takes h v (rw e) (rw e) (rw e) (at-once _ (content m) hs hs′ w)
-      (λ q o. let r = fc q o in (r .0, λ c z. omega (arith, r .1, ap (λ y. y .index) (w .made .1 c z)))) (cu hs m b q₀ now a t (d6 h v) e refl)
+      takes h v (rw e) (rw e) (rw e) (rw e) (at-once _ (content m) hs hs′ w)
+      (λ q o. let r = fc q o in (r .0, λ c z. omega (arith, r .1, ap (λ y. y .index) (w .made .1 c z)))) (cu ls hs m b q₀ now a t (d6 h v) e refl)
   sD6 h v e fenced w =
       let fc : FactsOf hs m (a .g) (a .p) t (d6 h v) = rw e at (a .pinv .facts t) in
-      went hs m b q₀ now a t (d6f h v) (rw e) _ _ (goto m (a .g) (a .inv) t (d6f h v) (rw e) (rw e) (rw e) tt tt)
+      went ls hs m b q₀ now a t (d6f h v) (rw e) _ _ (goto m (a .g) (a .inv) t (d6f h v) (rw e) (rw e) (rw e) tt tt)
       (issuedP hs m (a .g) (a .p) (a .inv) (a .pinv) hs′ t (d6f h v) w
       (λ q o. let r = fc q o in (r .0, r .1, λ c z. omega (arith, r .1, ap (λ y. y .index) (w .later .1 _ c z))))) refl refl
-      (cu hs m b q₀ now a t (d6 h v) e refl)
+      (cu ls hs m b q₀ now a t (d6 h v) e refl)
 
   pub sD6f : (h v : ℕ) → m .thr t ≡ d6f h v → After (step m t (d6f h v))
   sD6f h v e w =
       let fc : FactsOf hs m (a .g) (a .p) t (d6f h v) = rw e at (a .pinv .facts t) in
-      takes h v (rw e) (rw e) (rw e) (at-fence t _ (content m) hs hs′ w) (λ q o. let r = fc q o in (r .0, λ c z. r .2 c (w .made .1 c z)))
-      (cu hs m b q₀ now a t (d6f h v) e refl)
+      takes h v (rw e) (rw e) (rw e) (rw e) (at-fence t _ (content m) hs hs′ w) (λ q o. let r = fc q o in (r .0, λ c z. r .2 c (w .made .1 c z)))
+      (cu ls hs m b q₀ now a t (d6f h v) e refl)
 
   -- what a dequeue that answers knows
   module _ (h v q : ℕ) (e : m .thr t ≡ d7 h v) (o : a .g .own h ≡ deqd t q) where
     pub mk : Mark (a .lin) (b .cur t) (get (suc q))
-    mk = cu hs m b q₀ now a t (d7 h v) e refl q o
+    mk = cu ls hs m b q₀ now a t (d7 h v) e refl q o
 
     fit : Fits (record { call = b .op (b .cur t) .call; began = b .op (b .cur t) .began; said = item v; ended = now }) (a .g .len) (a .p .pp)
         (a .p .item) (a .p .safe) (get (suc q))
@@ -361,11 +365,11 @@ module _ (hs hs′ : Hist) (m : Core) (b : Book) (q₀ : List ℕ) (now : ℕ) (
   pub sD7 : (h v : ℕ) → m .thr t ≡ d7 h v → (o : Option ℕ) → m .held t ≡ o → After (reply (setHeld (retireHeld m t o) t h) t (item v))
   sD7 h v e none f w =
       let d = dq₂ m (a .g) (a .inv) t h v e f in
-      subst (λ z. All hs′ z (closes b now t (item v)) q₀ (suc now)) (leave-again (setHeld m t h) t d1)
-      (answered hs m b q₀ now a t (rw e) hs′ (setTh (setHeld m t h) t d1) (upd (a .g .own) h (kept t (d .0))) (a .g .tp) (a .p .pp) (a .p .safe)
+      subst (λ z. All ls hs′ z (closes b now t (item v)) q₀ (suc now)) (leave-again (setHeld m t h) t d1)
+      (answered ls hs m b q₀ now a t (rw e) hs′ (setTh (setHeld m t h) t d1) (upd (a .g .own) h (kept t (d .0))) (a .g .tp) (a .p .pp) (a .p .safe)
       (holding m (a .g) (a .inv) t h v e f) (holdingP hs′ m (a .g) (a .p) (a .inv) (pv w) t h v (d .0) e (d .1))
       (ap ownsE (upd-same (m .thr) t d1)) (ap ownsD (upd-same (m .thr) t d1)) (upd-upd (m .thr) t d1 idle) refl
-      (off-same (a .g .own) h (kept t (d .0)) (d .1) (λ w. omega (arith, ap tag w)) (λ w. omega (arith, ap tag w))) (omega arith) (λ q z. z)
+      (off-same (a .g .own) h (kept t (d .0)) (d .1) (λ w. omega (arith, ap tag w)) (λ w. omega (arith, ap tag w)) (λ w. omega (arith, ap tag w)) (λ w. omega (arith, ap tag w))) (omega arith) (λ q z. z)
       (λ u h′ q ne o z. before (a .g .own) h (kept t (d .0)) h′ (λ y. omega (arith, ap tag y)) z .1)
       (get (suc (d .0))) (item v) (mk h v (d .0) e (d .1)) (fit h v (d .0) e (d .1)))
   sD7 h v e (some n) f w =
@@ -376,12 +380,12 @@ module _ (hs hs′ : Hist) (m : Core) (b : Book) (q₀ : List ℕ) (now : ℕ) (
       let j₁ = retiredP hs′ m (a .g) (a .p) (a .inv) (pv w) t n (k .0) m₁ (k .1) in
       let d = dq₂ m₁ g₁ i₁ t h v e (upd-same (m .held) t none) in
       let d₀ = before (a .g .own) n (waiting (k .0)) h (λ y. omega (arith, ap tag y)) (d .1) .1 in
-      let hands : (y : ℕ) → (a .g .own y ≡ off) ↔ (upd (upd (a .g .own) n (waiting (k .0))) h (kept t (d .0)) y ≡ off) = λ y.
-      let s₁ = off-same (a .g .own) n (waiting (k .0)) (k .1) (λ w. omega (arith, ap tag w)) (λ w. omega (arith, ap tag w)) y in
-      let s₂ = off-same (upd (a .g .own) n (waiting (k .0))) h (kept t (d .0)) (d .1) (λ w. omega (arith, ap tag w)) (λ w. omega (arith, ap tag w)) y in
-      (λ z. s₂ .0 (s₁ .0 z), λ z. s₁ .1 (s₂ .1 z)) in
-      subst (λ z. All hs′ z (closes b now t (item v)) q₀ (suc now)) (leave-again (setHeld m₁ t h) t d1 ∙ hold-again (retireHeld m t (some n)) t h)
-      (answered hs m b q₀ now a t (rw e) hs′ (setTh (setHeld m₁ t h) t d1) (upd (upd (a .g .own) n (waiting (k .0))) h (kept t (d .0))) (a .g .tp)
+      let hands : (y : ℕ) → Outside (a .g .own y) (upd (upd (a .g .own) n (waiting (k .0))) h (kept t (d .0)) y) = λ y.
+      let s₁ = off-same (a .g .own) n (waiting (k .0)) (k .1) (λ w. omega (arith, ap tag w)) (λ w. omega (arith, ap tag w)) (λ w. omega (arith, ap tag w)) (λ w. omega (arith, ap tag w)) y in
+      let s₂ = off-same (upd (a .g .own) n (waiting (k .0))) h (kept t (d .0)) (d .1) (λ w. omega (arith, ap tag w)) (λ w. omega (arith, ap tag w)) (λ w. omega (arith, ap tag w)) (λ w. omega (arith, ap tag w)) y in
+      ((λ z. s₂ .0 .0 (s₁ .0 .0 z), λ z. s₁ .0 .1 (s₂ .0 .1 z)), (λ z. s₂ .1 .0 (s₁ .1 .0 z), λ z. s₁ .1 .1 (s₂ .1 .1 z))) in
+      subst (λ z. All ls hs′ z (closes b now t (item v)) q₀ (suc now)) (leave-again (setHeld m₁ t h) t d1 ∙ hold-again (retireHeld m t (some n)) t h)
+      (answered ls hs m b q₀ now a t (rw e) hs′ (setTh (setHeld m₁ t h) t d1) (upd (upd (a .g .own) n (waiting (k .0))) h (kept t (d .0))) (a .g .tp)
       (a .p .pp) (a .p .safe)
       (holding m₁ g₁ i₁ t h v e (upd-same (m .held) t none)) (holdingP hs′ m₁ g₁ (a .p) i₁ j₁ t h v (d .0) e (d .1))
       (ap ownsE (upd-same (m .thr) t d1)) (ap ownsD (upd-same (m .thr) t d1)) (upd-upd (m .thr) t d1 idle) refl hands (omega arith) (λ q z. z)

@@ -6,8 +6,8 @@ use mathlib.Core.Logic.{_≢_, inl, inr}
 use mathlib.Core.Option.{some}
 use Prim.Native.Nat.{ℕ, suc, _≤_, _<_}
 use native.Mathlib.Omega.{arith}
-use Rattle.model.specs.Core.{a10f, d3f, d6f}
-use Rattle.model.specs.Core.{Th, nothing, done, empty, item, busy, idle, a1, a2, a3, a4, a5, a6, a7, a8, a9, a10, a11, a12, d1, d2, d3, d4, d5}
+use Rattle.model.specs.Core.{elsewhere, a10f, d3f, d6f}
+use Rattle.model.specs.Core.{Th, nothing, done, empty, item, acts, idle, a1, a2, a3, a4, a5, a6, a7, a8, a9, a10, a11, a12, d1, d2, d3, d4, d5}
 use Rattle.model.specs.Core.{d6, d7, s3, s6}
 use Rattle.model.specs.Lawful.{Op, Call, putting, taking}
 use Rattle.model.specs.Places.{ownsD}
@@ -37,6 +37,7 @@ CurOf call lin hp who own b len t o (a10f v n x) = (p : ℕ) × (b ≤ p) × (p 
 CurOf call lin hp who own b len t o (a11 v n x) = (p : ℕ) × (b ≤ p) × (p < len) × (who p ≡ n) × Mark lin o (put p)
 CurOf call lin hp who own b len t o (a12 v n x) = (call ≡ putting v) × Fresh o lin
 CurOf call lin hp who own b len t o d1 = (call ≡ taking) × Fresh o lin
+CurOf call lin hp who own b len t o elsewhere = Unit {0}
 CurOf call lin hp who own b len t o (d2 h i) = (call ≡ taking) × Fresh o lin
 CurOf call lin hp who own b len t o (d3 h i) = (p : ℕ) × (b ≤ p) × (p < len) × (who p ≡ h) × Mark lin o (saw p)
 CurOf call lin hp who own b len t o (d3f h i) = (p : ℕ) × (b ≤ p) × (p < len) × (who p ≡ h) × Mark lin o (saw p)
@@ -75,6 +76,7 @@ module _ (call : Call) (lin lin′ : List Lin) (hp hp′ : ℕ) (who who′ : �
   cur-map (a11 v n x) f k = linkd put k
   cur-map (a12 v n x) f k = (k .0, fr (k .1))
   cur-map d1 f k = (k .0, fr (k .1))
+  cur-map elsewhere f k = tt
   cur-map (d2 h i) f k = (k .0, fr (k .1))
   cur-map (d3 h i) f k = linkd saw k
   cur-map (d3f h i) f k = linkd saw k
@@ -104,10 +106,10 @@ pub record LinI (first len hp pp : ℕ) (it : ℕ → ℕ) (safe : ℕ → Bool)
 
 pub record CurI (hp len : ℕ) (who : ℕ → ℕ) (own : ℕ → Place) (base : ℕ → ℕ) (count : ℕ) (op : ℕ → Op) (cur : ℕ → ℕ) (lin : List Lin)
     (thr : ℕ → Th) : Type 0 where
-  pub lt : (t : ℕ) → busy (thr t) ≡ true → cur t < count
-  pub pending : (t : ℕ) → busy (thr t) ≡ true → op (cur t) .said ≡ nothing
-  pub apart : (t u : ℕ) → busy (thr t) ≡ true → busy (thr u) ≡ true → cur t ≡ cur u → t ≡ u
-  pub state : (t : ℕ) → busy (thr t) ≡ true → CurOf (op (cur t) .call) lin hp who own (base t) len t (cur t) (thr t)
+  pub lt : (t : ℕ) → acts (thr t) ≡ true → cur t < count
+  pub pending : (t : ℕ) → acts (thr t) ≡ true → op (cur t) .said ≡ nothing
+  pub apart : (t u : ℕ) → acts (thr t) ≡ true → acts (thr u) ≡ true → cur t ≡ cur u → t ≡ u
+  pub state : (t : ℕ) → acts (thr t) ≡ true → CurOf (op (cur t) .call) lin hp who own (base t) len t (cur t) (thr t)
 
 -- ---- the list of effects
 

@@ -8,7 +8,7 @@ use lib.Dec.{eqb, leb}
 use Rattle.model.specs.Basics.{upd}
 use Rattle.model.specs.Lines.{Line, ofHead, ofNode, Touch, nowhere, stores}
 use Rattle.model.specs.Conf.{Mode, atOnce, fenced, Engine, shared, split, sameHead, headTouch}
-use Rattle.model.specs.Core.{a10f, d3f, d6f}
+use Rattle.model.specs.Core.{elsewhere, a10f, d3f, d6f}
 use Rattle.model.specs.Core.{Th, Core, Node, hd, lineHas, content, item, idle, a1, a2, a3, a4, a5, a6, a7, a8, a9, a10, a11, a12, d1, d2, d3}
 use Rattle.model.specs.Core.{d4, d5, d6, d7, s3, s6}
 use Rattle.model.specs.Changes.{setHeld}
@@ -114,6 +114,7 @@ module _ (m : Core) (t : ℕ) where
   fStep (a11 v n x) = fA11 n (eqb (m .tail) x)
   fStep (a12 v n x) = fA12 v n (eqb (m .tail) x) (m .next x)
   fStep d1 = (refl, λ l n. refl)
+  fStep elsewhere = (refl, λ l n. refl)
   fStep (d2 h i) = fD2 h i (m .next h)
   fStep (d3 h i) = fD3 h i (m .conf .mode)
   fStep (d3f h i) = (refl, λ l n. refl)

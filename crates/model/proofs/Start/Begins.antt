@@ -28,7 +28,7 @@ use Rattle.model.proofs.Queue.Sorted.{Up, q-in, q-all, q-up}
 use Rattle.model.proofs.Layer3.All.{All}
 use Rattle.model.proofs.Start.Lists.{find, has-getD, up-getD, find-is, find-no, find-at, last-at, link-next, link-last, up-ext, seg-list}
 use Rattle.model.proofs.Start.Lists.{lowest-some}
-use Rattle.model.proofs.Start.Parts.{not-rec, placeOf, idle-not, none-not, holders, waitss, not-kept, inside₀, heads₀}
+use Rattle.model.proofs.Start.Parts.{not-rec, placeOf, idle-not, none-not, holders, waitss, not-kept, not-lent, inside₀, heads₀}
 
 module _ (g : Image) (ft : Fit g) (ty : (n : ℕ) → g .conf .nodes ≤ n → recovered (headOf g) (g .at n) ≡ false) where
   low : (r : ℕ) × (lowest (g .conf .nodes) 0 (λ n. not (recovered (headOf g) (g .at n))) ≡ some r) × (not (recovered (headOf g) (g .at r)) ≡ true)
@@ -283,7 +283,7 @@ module _ (g : Image) (ft : Fit g) (ty : (n : ℕ) → g .conf .nodes ≤ n → r
       by (some p) e = let w = find-is n L p e in absurd (omega (arith, under (subst (λ y. has y L) (w .1) (has-getD L p (w .0)))))
 
   all₀ : (hs : Hist) → ((l : Line) (c : Node) → hs .is l c → (c ≡ imageHas g l) ⊎ (c ≡ content mk l)) → ((l : Line) → hs .is l (content mk l))
-      → (now : ℕ) → All hs mk newBook (itemsOf g) now
+      → (now : ℕ) → All (λ n. false) hs mk newBook (itemsOf g) now
   unfolding start′
   all₀ hs only here now = record {
     g = gh;
@@ -304,12 +304,13 @@ module _ (g : Image) (ft : Fit g) (ty : (n : ℕ) → g .conf .nodes ≤ n → r
     curs = record { lt = λ t b. idle-not b; pending = λ t b. idle-not b; apart = λ t u b c e. idle-not b; state = λ t b. idle-not b };
     roots = roots₀;
     table = λ n. (table₀ n, inside₀ (g .conf .nodes) n (find n L));
+    lents = λ n. (λ o. absurd (not-lent (g .conf .nodes) n (find n L) o), λ h. let z : _≡_ {A = ℕ} 0 1 = cc in absurd (omega arith));
   }
 
   pub begins : (hs : Hist) → ((l : Line) (c : Node) → hs .is l c → (c ≡ imageHas g l) ⊎ (c ≡ content (start g) l)) → ((l : Line) → hs .is l (content (start g) l))
-      → (now : ℕ) → All hs (start g) newBook (itemsOf g) now
+      → (now : ℕ) → All (λ n. false) hs (start g) newBook (itemsOf g) now
   begins hs = subst (λ m. ((l : Line) (c : Node) → hs .is l c → (c ≡ imageHas g l) ⊎ (c ≡ content m l)) → ((l : Line) → hs .is l (content m l))
-      → (now : ℕ) → All hs m newBook (itemsOf g) now) (sym is-start) (all₀ hs)
+      → (now : ℕ) → All (λ n. false) hs m newBook (itemsOf g) now) (sym is-start) (all₀ hs)
 
-  pub startAll : (now : ℕ) → All (histOf (starts g)) (start g) newBook (itemsOf g) now
+  pub startAll : (now : ℕ) → All (λ n. false) (histOf (starts g)) (start g) newBook (itemsOf g) now
   startAll = begins (histOf (starts g)) (startHas g) (startHere g)

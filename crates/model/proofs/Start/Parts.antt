@@ -13,7 +13,7 @@ use Rattle.model.specs.Conf.{lineIx, Engine, shared, split, lineCount}
 use Rattle.model.specs.Core.{hd, Node}
 use Rattle.model.specs.Recovery.{Image, headOf, largest, recovered}
 use Rattle.model.proofs.Basics.{yes-of, lt-true}
-use Rattle.model.proofs.Layer1.Ghost.{Place, queue, kept, spare, off, Holder, Awaits}
+use Rattle.model.proofs.Layer1.Ghost.{lent, Place, queue, kept, spare, off, Holder, Awaits}
 use Rattle.model.proofs.Layer2.Heads.{HeadP, largest-is, largest-le}
 
 -- a node that is not recovered: linked only with an index that the head has passed
@@ -61,6 +61,14 @@ module _ (N : ℕ) where
       by true e = let z : _≡_ {A = ℕ} 0 1 = cc in omega arith
       by false e = let z : _≡_ {A = ℕ} 0 1 = cc in omega arith
   not-kept n (some p) e = let z : _≡_ {A = ℕ} 0 1 = cc in omega arith
+
+  pub not-lent : (n : ℕ) (o : Option ℕ) → placeOf N n o ≡ lent → ⊥
+  not-lent n none e = by (ltb n N) e
+    where
+      by : (b : Bool) → sel b spare off ≡ lent → ⊥
+      by true e = let z : _≡_ {A = ℕ} 0 1 = cc in omega arith
+      by false e = let z : _≡_ {A = ℕ} 0 1 = cc in omega arith
+  not-lent n (some p) e = let z : _≡_ {A = ℕ} 0 1 = cc in omega arith
 
   pub inside₀ : (n : ℕ) (o : Option ℕ) → placeOf N n o ≡ off → N ≤ n
   inside₀ n (some p) e = let z : _≡_ {A = ℕ} 0 1 = cc in absurd (omega arith)
