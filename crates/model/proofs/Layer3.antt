@@ -6,3 +6,4 @@ pub mod All
 pub mod Enqueue
 pub mod Dequeue
 pub mod Event
+pub mod Foreign

@@ -47,7 +47,7 @@ head-rest hs hs′ con n w k c h = by (w .made (ofHead k) c h)
 
 module _ (hs : Hist) (m : Core) (g : Gh) (p : Pg) (i : Inv m g) (j : PInv hs m g p) where
   -- the facts of another thread, where a node's line is stored to
-  keptFacts : (hs′ : Hist) (n : ℕ) (a : Node) → Grown (stores (ofNode n)) (content (store m n a)) hs hs′ → (u : ℕ)
+  pub keptFacts : (hs′ : Hist) (n : ℕ) (a : Node) → Grown (stores (ofNode n)) (content (store m n a)) hs hs′ → (u : ℕ)
       → ((k : ℕ) → ownsE (m .thr u) ≡ some k → upd (m .node) n a k ≡ m .node k)
       → ((v k x : ℕ) → m .thr u ≡ a10 v k x → m .node k .linked ≡ true → upd (m .node) n a k .linked ≡ true)
       → ((v k x : ℕ) → m .thr u ≡ a10f v k x → m .node k .linked ≡ true → upd (m .node) n a k ≡ m .node k)
@@ -69,7 +69,7 @@ module _ (hs : Hist) (m : Core) (g : Gh) (p : Pg) (i : Inv m g) (j : PInv hs m g
       onN k c e (inr z) = let f = z .0 in let kn : k ≡ n = cc in inr (z .1 ∙ ap (upd (m .node) n a) (sym kn) ∙ e)
 
   -- a node past its A9 is live
-  linked-live : (u n x : ℕ) → busy (m .thr u) ≡ true → Lnk (g .who) (g .base u) (g .len) x n → (q : ℕ) × (g .who q ≡ n) × Live (g .who) (poss (g .own)) q
+  pub linked-live : (u n x : ℕ) → busy (m .thr u) ≡ true → Lnk (g .who) (g .base u) (g .len) x n → (q : ℕ) × (g .who q ≡ n) × Live (g .who) (poss (g .own)) q
   linked-live u n x b l = (suc (l .pos), l .then, i .alive .live u b (suc (l .pos)) (omega (arith, l .lo)) (l .hi))
 
   -- a store to a node that an enqueue owns
