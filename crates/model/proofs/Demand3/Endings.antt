@@ -139,23 +139,10 @@ module _ (ls : ℕ → Bool) (hs : Hist) (m : Core) (b : Book) (q₀ : List ℕ)
 
   -- ---- the ending is fit
 
-  pub fit : Fit e
-  fit = record {
-    lined = subst (λ c. 0 < headLines c) (sym (en .conf)) (omega (arith, a .pinv .head .anchor-in));
-    twins = λ n j h l rn rj z. let kn = known n (cf n h) rn in let kj = known j (omega (arith, cf n h)) rj in
-        let same : kn .at ≡ kj .at = one-place (kn .at) (kj .at) (kn .inside) (kj .inside) (kn .ix ∙ z ∙ sym (kj .ix)) in
-        let nj : n ≡ j = sym (kn .is) ∙ ap (a .g .who) same ∙ kj .is in omega arith;
-    spare = (
-      a .g .who (hd .0),
-      subst (λ c. a .g .who (hd .0) < c .nodes) (sym (en .conf)) (in-table (hd .0) k-in (hd .1)),
-      no
-          (dec-true (recovered (headOf e) (e .at (a .g .who (hd .0))))),
-    );
-  }
+  -- the node at the head's place is not recovered
+  head-out : recovered (headOf e) (e .at (a .g .who (hd .0))) ≡ false
+  head-out = no (dec-true (recovered (headOf e) (e .at (a .g .who (hd .0)))))
     where
-      cf : (n : ℕ) → n < e .conf .nodes → n < m .conf .nodes
-      cf n h = subst (λ c. n < c .nodes) (en .conf) h
-
       no : (recovered (headOf e) (e .at (a .g .who (hd .0))) ≡ true) ⊎ (recovered (headOf e) (e .at (a .g .who (hd .0))) ≡ false)
           → recovered (headOf e) (e .at (a .g .who (hd .0))) ≡ false
       no (inr z) = z
@@ -167,6 +154,41 @@ module _ (ls : ℕ → Bool) (hs : Hist) (m : Core) (b : Book) (q₀ : List ℕ)
           let t2 : tag2 (a .g .own (a .g .who (hd .0))) ≡ suc (kn .at) = ap (λ y. tag2 (a .g .own y)) (sym (kn .is)) ∙ tagged (kn .at) (kn .inside)
           (omega (arith, hd .1)) in
           absurd (omega arith)
+
+  pub fit : Fit e
+  fit = record {
+    lined = subst (λ c. 0 < headLines c) (sym (en .conf)) (omega (arith, a .pinv .head .anchor-in));
+    twins = λ n j h l rn rj z. let kn = known n (cf n h) rn in let kj = known j (omega (arith, cf n h)) rj in
+        let same : kn .at ≡ kj .at = one-place (kn .at) (kj .at) (kn .inside) (kj .inside) (kn .ix ∙ z ∙ sym (kj .ix)) in
+        let nj : n ≡ j = sym (kn .is) ∙ ap (a .g .who) same ∙ kj .is in omega arith;
+    spare = (
+      a .g .who (hd .0),
+      subst (λ c. a .g .who (hd .0) < c .nodes) (sym (en .conf)) (in-table (hd .0) k-in (hd .1)),
+      head-out,
+    );
+  }
+    where
+      cf : (n : ℕ) → n < e .conf .nodes → n < m .conf .nodes
+      cf n h = subst (λ c. n < c .nodes) (en .conf) h
+
+  -- a node here is left over: the one at the head's place
+  pub spare-here : (n : ℕ) × (n < m .conf .nodes) × (ls n ≡ false) × (recovered (headOf e) (e .at n) ≡ false)
+  spare-here = (a .g .who (hd .0), in-table (hd .0) k-in (hd .1), by (dec-true (ls (a .g .who (hd .0)))), head-out)
+    where
+      by : (ls (a .g .who (hd .0)) ≡ true) ⊎ (ls (a .g .who (hd .0)) ≡ false) → ls (a .g .who (hd .0)) ≡ false
+      by (inl z) = absurd (omega (arith, tagged (hd .0) k-in (hd .1), ap tag2 (a .lents (a .g .who (hd .0)) .1 z)))
+      by (inr z) = z
+
+  -- a node with another queue is not recovered here
+  pub lent-passed : (n : ℕ) → n < m .conf .nodes → ls n ≡ true → recovered (headOf e) (e .at n) ≡ false
+  lent-passed n h l = by (dec-true (recovered (headOf e) (e .at n)))
+    where
+      by : (recovered (headOf e) (e .at n) ≡ true) ⊎ (recovered (headOf e) (e .at n) ≡ false) → recovered (headOf e) (e .at n) ≡ false
+      by (inr z) = z
+      by (inl z) =
+          let kn = known n h z in
+          let t₁ = tagged (kn .at) (kn .inside) (omega (arith, hd .1, behind n h z)) in
+          absurd (omega (arith, t₁, ap (λ y. tag2 (a .g .own y)) (kn .is), ap tag2 (a .lents n .1 l)))
 
   -- ---- the places that are kept
 

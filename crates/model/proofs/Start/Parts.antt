@@ -24,10 +24,10 @@ not-rec h c e l = by (decLt h (c .index))
     by (yes z) = let w : recovered h c ≡ true = rw l (yes-of (ltb h (c .index)) (lt→ltb h (c .index) z)) in let y : _≡_ {A = ℕ} 0 1 = cc in absurd (omega arith)
     by (no z) = omega arith
 
--- where a node is after a start
-abbrev pub placeOf : ℕ → ℕ → Option ℕ → Place
-placeOf N n none = sel (ltb n N) spare off
-placeOf N n (some p) = queue p
+-- where a node is after a start; ls are those with another queue
+abbrev pub placeOf : ℕ → (ℕ → Bool) → ℕ → Option ℕ → Place
+placeOf N ls n none = sel (ltb n N) (sel (ls n) lent spare) off
+placeOf N ls n (some p) = queue p
 
 -- ---- a thread that has no operation, a thread that holds none
 
@@ -37,45 +37,53 @@ idle-not e = let z : _≡_ {A = ℕ} 0 1 = cc in absurd (omega arith)
 pub none-not : {A : Type 0} (n : ℕ) → _≡_ {A = Option ℕ} none (some n) → A
 none-not n e = let z : _≡_ {A = ℕ} 0 1 = cc in absurd (omega arith)
 
-module _ (N : ℕ) where
-  pub holders : (held oe od : ℕ → Option ℕ) (n : ℕ) (o : Option ℕ) → Holder held oe od n (placeOf N n o)
-  holders held oe od n none = by (ltb n N)
+module _ (N : ℕ) (ls : ℕ → Bool) where
+  pub holders : (held oe od : ℕ → Option ℕ) (n : ℕ) (o : Option ℕ) → Holder held oe od n (placeOf N ls n o)
+  holders held oe od n none = by (ltb n N) (ls n)
     where
-      by : (b : Bool) → Holder held oe od n (sel b spare off)
-      by true = tt
-      by false = tt
+      by : (b c : Bool) → Holder held oe od n (sel b (sel c lent spare) off)
+      by true true = tt
+      by true false = tt
+      by false c = tt
   holders held oe od n (some p) = tt
 
-  pub waitss : (bz : ℕ → Bool) (base : ℕ → ℕ) (w : List ℕ) (n : ℕ) (o : Option ℕ) → Awaits bz base w (placeOf N n o)
-  waitss bz base w n none = by (ltb n N)
+  pub waitss : (bz : ℕ → Bool) (base : ℕ → ℕ) (w : List ℕ) (n : ℕ) (o : Option ℕ) → Awaits bz base w (placeOf N ls n o)
+  waitss bz base w n none = by (ltb n N) (ls n)
     where
-      by : (b : Bool) → Awaits bz base w (sel b spare off)
-      by true = tt
-      by false = tt
+      by : (b c : Bool) → Awaits bz base w (sel b (sel c lent spare) off)
+      by true true = tt
+      by true false = tt
+      by false c = tt
   waitss bz base w n (some p) = tt
 
-  pub not-kept : (n : ℕ) (o : Option ℕ) {t r : ℕ} → placeOf N n o ≡ kept t r → ⊥
-  not-kept n none e = by (ltb n N) e
+  pub not-kept : (n : ℕ) (o : Option ℕ) {t r : ℕ} → placeOf N ls n o ≡ kept t r → ⊥
+  not-kept n none e = by (ltb n N) (ls n) e
     where
-      by : (b : Bool) {t r : ℕ} → sel b spare off ≡ kept t r → ⊥
-      by true e = let z : _≡_ {A = ℕ} 0 1 = cc in omega arith
-      by false e = let z : _≡_ {A = ℕ} 0 1 = cc in omega arith
+      by : (b c : Bool) {t r : ℕ} → sel b (sel c lent spare) off ≡ kept t r → ⊥
+      by true true e = let z : _≡_ {A = ℕ} 0 1 = cc in omega arith
+      by true false e = let z : _≡_ {A = ℕ} 0 1 = cc in omega arith
+      by false c e = let z : _≡_ {A = ℕ} 0 1 = cc in omega arith
   not-kept n (some p) e = let z : _≡_ {A = ℕ} 0 1 = cc in omega arith
 
-  pub not-lent : (n : ℕ) (o : Option ℕ) → placeOf N n o ≡ lent → ⊥
-  not-lent n none e = by (ltb n N) e
+  pub is-lent : (n : ℕ) (o : Option ℕ) → placeOf N ls n o ≡ lent → ls n ≡ true
+  is-lent n none e = by (ltb n N) (ls n) e
     where
-      by : (b : Bool) → sel b spare off ≡ lent → ⊥
-      by true e = let z : _≡_ {A = ℕ} 0 1 = cc in omega arith
-      by false e = let z : _≡_ {A = ℕ} 0 1 = cc in omega arith
-  not-lent n (some p) e = let z : _≡_ {A = ℕ} 0 1 = cc in omega arith
+      by : (b c : Bool) → sel b (sel c lent spare) off ≡ lent → c ≡ true
+      by true true e = refl
+      by true false e = let z : _≡_ {A = ℕ} 0 1 = cc in absurd (omega arith)
+      by false c e = let z : _≡_ {A = ℕ} 0 1 = cc in absurd (omega arith)
+  is-lent n (some p) e = let z : _≡_ {A = ℕ} 0 1 = cc in absurd (omega arith)
 
-  pub inside₀ : (n : ℕ) (o : Option ℕ) → placeOf N n o ≡ off → N ≤ n
+  pub inside₀ : (n : ℕ) (o : Option ℕ) → placeOf N ls n o ≡ off → N ≤ n
   inside₀ n (some p) e = let z : _≡_ {A = ℕ} 0 1 = cc in absurd (omega arith)
   inside₀ n none e = by (decLt n N)
     where
+      not-off : (c : Bool) → sel c lent spare ≡ off → ⊥
+      not-off true e = let z : _≡_ {A = ℕ} 0 1 = cc in omega arith
+      not-off false e = let z : _≡_ {A = ℕ} 0 1 = cc in omega arith
+
       by : Dec (n < N) → N ≤ n
-      by (yes h) = let e′ : spare ≡ off = rw (lt-true n N h) at e in let z : _≡_ {A = ℕ} 0 1 = cc in absurd (omega arith)
+      by (yes h) = let e′ : sel (ls n) lent spare ≡ off = rw (lt-true n N h) at e in absurd (not-off (ls n) e′)
       by (no h) = omega arith
 
 module _ (g : Image) (idx : ℕ → ℕ) (i₀ : idx 0 ≡ headOf g) where
