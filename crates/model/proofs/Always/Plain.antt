@@ -57,10 +57,10 @@ others-below (suc k) t thr u h = by (bothb (busy (thr k)) (not (eqb k t))) (othe
 -- ---- the steps
 
 module _ (m : Core) (t : ℕ) (p : Plain m) where
-  left : Plain (leave m t)
+  pub left : Plain (leave m t)
   left = record { last = p .last; links = p .links; waits = λ n u h. p .waits n u (remove-has u t (m .wait n) h); holds = p .holds }
 
-  linked : (x : ℕ) (o : Option ℕ) → ((n : ℕ) → o ≡ some n → n < m .conf .nodes) → PlainOf (m .conf .nodes) (m .conf .threads) (m .last)
+  pub linked : (x : ℕ) (o : Option ℕ) → ((n : ℕ) → o ≡ some n → n < m .conf .nodes) → PlainOf (m .conf .nodes) (m .conf .threads) (m .last)
       (upd (m .next) x o) (m .wait) (m .held)
   linked x o ok = record {
     last = p .last;
@@ -69,7 +69,7 @@ module _ (m : Core) (t : ℕ) (p : Plain m) where
     holds = p .holds;
   }
 
-  retired : (n : Option ℕ) → t < m .conf .threads → Plain (retireHeld m t n)
+  pub retired : (n : Option ℕ) → t < m .conf .threads → Plain (retireHeld m t n)
   retired none h = p
   retired (some n) h = record {
     last = p .last;

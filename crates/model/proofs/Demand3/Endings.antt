@@ -171,13 +171,19 @@ module _ (ls : ℕ → Bool) (hs : Hist) (m : Core) (b : Book) (q₀ : List ℕ)
       cf : (n : ℕ) → n < e .conf .nodes → n < m .conf .nodes
       cf n h = subst (λ c. n < c .nodes) (en .conf) h
 
-  -- a node here is left over: the one at the head's place
-  pub spare-here : (n : ℕ) × (n < m .conf .nodes) × (ls n ≡ false) × (recovered (headOf e) (e .at n) ≡ false)
-  spare-here = (a .g .who (hd .0), in-table (hd .0) k-in (hd .1), by (dec-true (ls (a .g .who (hd .0)))), head-out)
+  -- a node in use here is left over: the one at the head's place
+  pub spare-here : (n : ℕ) × (n < m .conf .nodes) × (ls n ≡ false) × (m .free n ≡ false) × (m .wait n ≡ []) × (recovered (headOf e) (e .at n) ≡ false)
+  spare-here = let n = a .g .who (hd .0) in let f = used (held-at (hd .0) k-in (hd .1)) in
+      (n, in-table (hd .0) k-in (hd .1), by (dec-true (ls n)), f .0, f .1, head-out)
     where
       by : (ls (a .g .who (hd .0)) ≡ true) ⊎ (ls (a .g .who (hd .0)) ≡ false) → ls (a .g .who (hd .0)) ≡ false
       by (inl z) = absurd (omega (arith, tagged (hd .0) k-in (hd .1), ap tag2 (a .lents (a .g .who (hd .0)) .1 z)))
       by (inr z) = z
+
+      used : (a .g .own (a .g .who (hd .0)) ≡ queue (hd .0)) ⊎ ((t : ℕ) × (a .g .own (a .g .who (hd .0)) ≡ deqd t (hd .0)))
+          → (m .free (a .g .who (hd .0)) ≡ false) × (m .wait (a .g .who (hd .0)) ≡ [])
+      used (inl z) = rw z at (a .inv .place .marks (a .g .who (hd .0)))
+      used (inr z) = rw (z .1) at (a .inv .place .marks (a .g .who (hd .0)))
 
   -- a node with another queue is not recovered here
   pub lent-passed : (n : ℕ) → n < m .conf .nodes → ls n ≡ true → recovered (headOf e) (e .at n) ≡ false
