@@ -7,3 +7,4 @@ pub mod Enqueue
 pub mod Dequeue
 pub mod Event
 pub mod Foreign
+pub mod Coupled
