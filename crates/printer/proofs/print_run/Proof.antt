@@ -1,6 +1,8 @@
 use Prim.Native.Nat.{_≤_}
+use mathlib.Core.Path.{_∙_}
 use Rattle.pages.proofs.PageLaws as pages
 use Rattle.filling.proofs.Numbers as numbers
+use Rattle.printer.proofs.Parting as parts
 use native.Mathlib.Omega.{arith}
 use borrow.Author.Needs.{needs}
 use Rattle.printer.proofs.print_run.Statement.{statement}
@@ -30,15 +32,30 @@ table-of-requires c κs = search needs
 
 print-lines-requires : tie.Need-print-lines-requires
 print-lines-requires c κs =
-    let z = c .before .before .before .before .before .before .before .before .before .before in
-    let o = c .before .before .before .open-schedule in
-    let l = numbers.opened-limits (z .args .s .now) (o .result) (o .ensures) (numbers.schedule-yes (z .args .s .now) (z .args .r) (z .pre .0) (z .pre .1)) in (
-      pages.page-small (z .args .s .now) (z .args .r) (z .pre .0) (z .pre .1),
-      rw (c .before .before .before .before .before .counts-of .ensures) (pages.page-ready (z .args .s .now) (z .args .r) (z .pre .0) (z .pre .1)),
-      l .0,
-      l .1,
-      rw (c .before .before .before .before .ending-count .ensures, c .before .before .before .before .before .counts-of .ensures) (numbers.count-limit (z .args .s .now) (z .args .r) (z .pre .0) (z .pre .1)),
-      z .pre .2,
+    let z = c .before .before .before .before .before .before .before .before .before .before .before in
+    let s = z .args .s .now in
+    let r = z .args .r in
+    let o = c .before .before .before .before .open-schedule in
+    let n = c .before .before .before .before .before .ending-count in
+    let k = c .before .before .before .before .before .before .counts-of in
+    let t = c .before .before .table-of in
+    let y = numbers.schedule-yes s r (z .pre .0) (z .pre .1) in
+    let l = numbers.opened-limits s (o .result) (o .ensures) y in
+    let d = numbers.opened-numbers s (o .result) (o .ensures) y in (
+      (
+        pages.page-small s r (z .pre .0) (z .pre .1),
+        rw (k .ensures) (pages.page-ready s r (z .pre .0) (z .pre .1)),
+        l .0,
+        l .1,
+        rw (n .ensures, k .ensures) (numbers.count-limit s r (z .pre .0) (z .pre .1)),
+        z .pre .2,
+        z .pre .3,
+      ),
+      (
+        parts.page-is s r (z .pre .0) (z .pre .1) (t .result) (k .result) (o .result .schedule .t) (o .result .schedule .count) (n .result) (t .ensures) (k .ensures) (d .0) (d .1)
+            (n .ensures ∙ rw (k .ensures) (pages.page-count s r (z .pre .0) (z .pre .1))),
+        z .pre .4,
+      ),
     )
 
 same-length : tie.Need-same-length
