@@ -6,6 +6,13 @@ fn main() {
     // The longest schedule has 25,170 bytes: what is longer than this is refused as its first part is.
     let mut s = [0u8; 32768];
     let got = io::read_full(STDIN_FILENO, &mut s);
+    if got < 32768 && !stream::at_end() {
+        io::write_all(
+            STDERR_FILENO,
+            b"endings: standard input could not be read to its end, no page is printed\n",
+        );
+        return;
+    }
     let mut b = io::large_buffer();
     let printed = printer::print_page(&s[..got], &mut b);
     if !printed.whole {

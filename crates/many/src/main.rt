@@ -33,7 +33,7 @@ fn print_next(s: &mut [u8], b: &mut [u8], refused: u64) -> Turn
     let next = next_item(s);
     if !next.there {
         if next.cut {
-            say(b"many: the input ends within a schedule\n");
+            say(b"many: the input ends within a schedule, or a read failed\n");
         }
         return Turn {
             more: false,

@@ -74,6 +74,12 @@ fn lesser(a: usize, b: usize) -> usize
     b
 }
 
+// Whether the input is at its end. A read that fails says that it is not, and so does one that finds a byte.
+pub fn at_end() -> bool {
+    let mut one = [0u8; 1];
+    libc::read(STDIN_FILENO, &mut one) == 0
+}
+
 fn ended(cut: bool) -> Next
     ensures { λ r. ⌜ r .kept ≤ 0 ⌝ }
 {
@@ -91,7 +97,7 @@ pub fn next_item(buffer: &mut [u8]) -> Next
     let mut head = [0u8; 4];
     let got = io::read_full(STDIN_FILENO, &mut head);
     if got < 4 {
-        return ended(got != 0);
+        return ended(got != 0 || !at_end());
     }
     let long = word(&head, 0) as usize;
     let room = buffer.len();
