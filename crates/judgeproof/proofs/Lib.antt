@@ -1,0 +1,4 @@
+pub mod Limit
+pub mod Orders
+pub mod Exactly
+pub mod Verdicts

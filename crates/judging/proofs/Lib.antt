@@ -1,0 +1,6 @@
+pub mod Taken
+pub mod Items
+pub mod Timely
+pub mod Shown
+pub mod Turns
+pub mod Unique

@@ -1,0 +1,4 @@
+pub mod History
+pub mod Search
+pub mod Place
+pub mod Judged
