@@ -4,3 +4,4 @@ pub mod Timely
 pub mod Shown
 pub mod Turns
 pub mod Unique
+pub mod Small

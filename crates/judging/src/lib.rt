@@ -1,5 +1,5 @@
 // A history from a real machine, judged: whether some order of its operations leads a plain queue from the start to what was recovered.
-// Public call: judge_history.
+// Public call: judge_history. What else is `pub` is for the crates above.
 mod asking;
 mod placing;
 mod queues;
@@ -66,6 +66,17 @@ fn verdict_of(number: u8) -> Verdict
         return Verdict::Undecided;
     }
     Verdict::Unlawful
+}
+
+// A verdict's number.
+pub fn number_of(v: Verdict) -> u8
+    ensures { λ r. ⌜ r ≡ verdictNumber v ⌝ }
+{
+    match v {
+        Verdict::Unlawful => 0,
+        Verdict::Lawful => 1,
+        Verdict::Undecided => 2,
+    }
 }
 
 // Says whether the history that the bytes are is lawful.

@@ -9,6 +9,7 @@ use Rattle.lists.specs.Find.{pick}
 use Rattle.answer.specs.Answers.{told, accepted}
 use Rattle.answer.specs.declared.Told.{Told}
 use Rattle.library.specs.Packed.{packed, replyOf, linesOf}
+use Rattle.library.specs.Judging.{verdictOf}
 
 number-by : (x : Bool) (n p v : ℕ) → eqb n 0 ≡ x → n < 256 → pick x (v * 256) (n + p * 256) % 256 ≡ n
 number-by true n p v e h = omega (arith, eqb-true n 0 e)
@@ -42,3 +43,13 @@ lines-back lines bytes h = omega arith
 
 pub bytes-back : (lines bytes : ℕ) → bytes < 4294967296 → linesOf lines bytes / 16777216 ≡ bytes
 bytes-back lines bytes h = omega arith
+
+-- what the judge said
+pub tries-back : (tries verdict count : ℕ) → tries < 16777216 → verdict < 256 → verdictOf tries verdict count % 16777216 ≡ tries
+tries-back tries verdict count h l = omega arith
+
+pub verdict-back : (tries verdict count : ℕ) → tries < 16777216 → verdict < 256 → verdictOf tries verdict count / 16777216 % 256 ≡ verdict
+verdict-back tries verdict count h l = omega arith
+
+pub count-back : (tries verdict count : ℕ) → tries < 16777216 → verdict < 256 → verdictOf tries verdict count / 4294967296 ≡ count
+count-back tries verdict count h l = omega arith

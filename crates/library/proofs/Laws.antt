@@ -1,13 +1,16 @@
 -- What the calls' definitions come to, by the answers that the code has looked at.
-use Prim.Native.Nat.{ℕ}
+use Prim.Native.Nat.{ℕ, suc, _+_, _<_}
 use mathlib.Core.Path.{_≡_, refl, sym, ap, _∙_}
 use mathlib.Core.Bool.{Bool, true, false, not}
-use mathlib.Core.List.{List}
-use lib.ListN.{length}
+use mathlib.Core.List.{List, [], _∷_}
+use native.Mathlib.Omega.{arith}
+use lib.ListN.{length, getD, set, take}
+use lib.Seq.{length-take-le, take-suc, take-append-seam}
 use lib.Dec.{eqb, ltb}
 use Rattle.lists.specs.Find.{pick}
 use Rattle.lists.specs.Tab.{over}
 use Rattle.lists.proofs.BoolLaws as bools
+use Rattle.lists.proofs.TabLaws.{over-append}
 use Rattle.answer.specs.Answers.{told, check, accepted}
 use Rattle.answer.specs.declared.Answer.{Answer}
 use Rattle.answer.specs.declared.Answer.the-variants.{Taken, Length, Threads, Room}
@@ -25,7 +28,11 @@ use Rattle.machine.specs.declared.Out.{Out}
 use Rattle.page.specs.Refusals.{andThen}
 use Rattle.record.specs.Layout.{readRecord, recordIn, recordAnswer, recordWritten}
 use Rattle.codec.proofs.Accepted as codec
+use Rattle.judging.specs.History.{countIn, historyAnswer}
+use Rattle.judging.specs.Place.{padded}
+use Rattle.judging.specs.Judged.{judgedIn}
 use Rattle.library.specs.Packed.{packed, replyOf}
+use Rattle.library.specs.Judging.{judgeAnswered, judgeWritten}
 use Rattle.library.specs.Calls.{startAnswered, startWritten, eventAnswered, eventWritten, saveAnswered, saveWritten, placesAnswered, placesWritten, placeBytes}
 
 -- ---- one after the other
@@ -184,3 +191,48 @@ module _ (s : List ℕ) where
   pub places-go : (b : List ℕ) → accepted (placesAnswered s (length b)) ≡ true → placesWritten s b ≡ over b 0 (placeBytes (countPlaces (recordIn s) .places))
   unfolding placesWritten
   places-go b h = rw h
+
+-- ---- a history
+
+module _ (s : List ℕ) where
+  abbrev room-left : ℕ → Answer
+  room-left room = check (ltb room (countIn s)) Room Taken
+
+  pub judge-refused : (room : ℕ) → accepted (historyAnswer s) ≡ false → judgeAnswered s room ≡ historyAnswer s
+  unfolding judgeAnswered
+  judge-refused room h = and-refused (historyAnswer s) (room-left room) h
+
+  pub judge-short : (room : ℕ) → accepted (historyAnswer s) ≡ true → ltb room (countIn s) ≡ true → judgeAnswered s room ≡ Room
+  unfolding judgeAnswered
+  judge-short room h l = and-taken (historyAnswer s) (room-left room) h ∙ rw l
+
+  pub judge-taken : (room : ℕ) → accepted (historyAnswer s) ≡ true → ltb room (countIn s) ≡ false → judgeAnswered s room ≡ Taken
+  unfolding judgeAnswered
+  judge-taken room h l = and-taken (historyAnswer s) (room-left room) h ∙ rw l
+
+  pub judge-stays : (b : List ℕ) → accepted (judgeAnswered s (length b)) ≡ false → judgeWritten s b ≡ b
+  unfolding judgeWritten
+  judge-stays b h = rw h
+
+  pub judge-goes : (b : List ℕ) → accepted (judgeAnswered s (length b)) ≡ true → judgeWritten s b ≡ over b 0 (judgedIn s .order)
+  unfolding judgeWritten
+  judge-goes b h = rw h
+
+-- a refusal's number, whatever value the definition names
+pub refused-with : (a w : Answer) (v r : ℕ) → r ≡ packed (told a) 0 → a ≡ w → accepted a ≡ false → r ≡ packed (told w) v
+refused-with a w v r p e h = p ∙ (packed-refused a v h ∙ ap (λ a. packed (told a) v) e)
+
+-- the numbers of an order, out of its sixteen places
+pub order-front : (o l : List ℕ) (c : ℕ) → c ≡ length o → l ≡ padded o → take c l ≡ o
+unfolding padded
+order-front o l c e f = rw (e, f) (take-append-seam o _)
+
+-- one number more
+pub order-next : (b order : List ℕ) (i : ℕ) → i < length order → i < length b
+    → set (over b 0 (take i order)) i (getD order i 0) ≡ over b 0 (take (i + 1) order)
+unfolding over
+order-next b order i h g =
+    let n : i ≡ 0 + length (take i order) = omega (arith, length-take-le i order (omega arith)) in
+    let w : i + 1 ≡ suc i = omega arith in
+    rw (w, take-suc order i 0 h)
+    (ap (λ (k : ℕ). over (over b 0 (take i order)) k (getD order i 0 ∷ [])) n ∙ over-append b 0 (take i order) (getD order i 0 ∷ []))

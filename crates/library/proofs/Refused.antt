@@ -28,6 +28,7 @@ use Rattle.filling.specs.Lines.{refusalAnswer, refusalBytes, refusalWritten}
 use Rattle.record.specs.Layout.{readRecord, recordIn, recordAnswer, recordWritten, recordBytes}
 use Rattle.library.specs.Packed.{packed, replyOf}
 use Rattle.library.specs.Calls.{eventGiven, startAnswered, startWritten, eventAnswered, saveAnswered, saveWritten, placesAnswered}
+use Rattle.library.specs.Judging.{judgeAnswered}
 use Rattle.library.proofs.Laws as laws
 use Rattle.library.proofs.schedules.uq_ending.Reads as ending
 use Rattle.library.proofs.texts.uq_page_lines.Reads as page-lines
@@ -36,6 +37,7 @@ use Rattle.library.proofs.records.uq_start.Reads as start
 use Rattle.library.proofs.records.uq_event.Reads as event
 use Rattle.library.proofs.records.uq_save.Reads as save
 use Rattle.library.proofs.records.uq_places.Reads as places
+use Rattle.library.proofs.histories.uq_judge.Reads as judge
 
 abbrev Refused : ℕ → Type 0
 Refused r = r % 256 ≡ 0 → ⊥
@@ -155,3 +157,9 @@ pub places-refused :
     places.Post κs (s, (b, tt)) r (s, (z, tt)) → Refused r → now z ≡ now b
 places-refused κs s b z r p n =
     p .1 ∙ laws.places-stay (now s) (now b) (not-taken (placesAnswered (now s) (length (now b))) 0 r (p .0) n)
+
+pub judge-refused :
+    (κs : Lfts 2) (s b z : RefT (List ℕ)) (r : ℕ) →
+    judge.Post κs (s, (b, tt)) r (s, (z, tt)) → Refused r → now z ≡ now b
+judge-refused κs s b z r p n =
+    p .1 ∙ laws.judge-stays (now s) (now b) (not-taken (judgeAnswered (now s) (length (now b))) _ r (p .0) n)

@@ -14,6 +14,7 @@ use Rattle.library.proofs.records.uq_start.Reads as start
 use Rattle.library.proofs.records.uq_event.Reads as event
 use Rattle.library.proofs.records.uq_save.Reads as save
 use Rattle.library.proofs.records.uq_places.Reads as places
+use Rattle.library.proofs.histories.uq_judge.Reads as judge
 
 pub check-image-one :
     (κs : Lfts 1) (s : RefT (List ℕ)) (r r′ : ℕ) →
@@ -65,3 +66,8 @@ pub places-one :
     (κs : Lfts 2) (s b z z′ : RefT (List ℕ)) (r r′ : ℕ) →
     places.Post κs (s, (b, tt)) r (s, (z, tt)) → places.Post κs (s, (b, tt)) r′ (s, (z′, tt)) → (r ≡ r′) × (now z ≡ now z′)
 places-one κs s b z z′ r r′ p q = (p .0 ∙ sym (q .0), p .1 ∙ sym (q .1))
+
+pub judge-one :
+    (κs : Lfts 2) (s b z z′ : RefT (List ℕ)) (r r′ : ℕ) →
+    judge.Post κs (s, (b, tt)) r (s, (z, tt)) → judge.Post κs (s, (b, tt)) r′ (s, (z′, tt)) → (r ≡ r′) × (now z ≡ now z′)
+judge-one κs s b z z′ r r′ p q = (p .0 ∙ sym (q .0), p .1 ∙ sym (q .1))

@@ -22,6 +22,10 @@ use Rattle.filling.proofs.Numbers as numbers
 use Rattle.filling.proofs.Wide as wide
 use Rattle.library.specs.Packed.{packed, linesOf}
 use Rattle.library.specs.Texts.{linesGiven, refusalGiven}
+use Rattle.judging.specs.Judged.{numberOf, judgedIn}
+use Rattle.judging.proofs.Small.{judged-small}
+use Rattle.judging.proofs.Turns.{number-le}
+use Rattle.library.specs.Judging.{judgeValue, judgeAnswered, judgeGiven}
 use Rattle.library.proofs.Apart as apart
 
 -- number 0 says that a call is taken
@@ -117,3 +121,24 @@ pub refusal-bytes :
     (n p room : ℕ) → n < 4294967296 → p < 4294967296 → accepted (refusalAnswer n p room) ≡ true
     → refusalGiven n p room / 4294967296 ≡ length (refusalBytes n p room)
 refusal-bytes n p room q r h = bytes-whole (refusalAnswer n p room) 1 _ h (omega (arith, refusal-few n p room q r))
+
+-- ---- a verdict: include/uq.h's uq_tries, uq_verdict and uq_order
+
+module _ (s : List ℕ) (room : ℕ) (h : accepted (judgeAnswered s room) ≡ true) where
+  tries-few : judgedIn s .tries < 16777216
+  tries-few = omega (arith, judged-small s .tries)
+
+  verdict-few : numberOf (judgedIn s .verdict) < 256
+  verdict-few = omega (arith, number-le (judgedIn s .verdict))
+
+  value : judgeGiven s room / 256 ≡ judgeValue (judgedIn s)
+  value = apart.value-back (told (judgeAnswered s room)) (judgeValue (judgedIn s)) h
+
+  pub given-tries : judgeGiven s room / 256 % 16777216 ≡ judgedIn s .tries
+  given-tries = ap (λ x. x % 16777216) value ∙ apart.tries-back (judgedIn s .tries) (numberOf (judgedIn s .verdict)) (length (judgedIn s .order)) tries-few verdict-few
+
+  pub given-verdict : judgeGiven s room / 256 / 16777216 % 256 ≡ numberOf (judgedIn s .verdict)
+  given-verdict = ap (λ x. x / 16777216 % 256) value ∙ apart.verdict-back (judgedIn s .tries) (numberOf (judgedIn s .verdict)) (length (judgedIn s .order)) tries-few verdict-few
+
+  pub given-order : judgeGiven s room / 256 / 4294967296 ≡ length (judgedIn s .order)
+  given-order = ap (λ x. x / 4294967296) value ∙ apart.count-back (judgedIn s .tries) (numberOf (judgedIn s .verdict)) (length (judgedIn s .order)) tries-few verdict-few

@@ -1,3 +1,4 @@
 pub mod Packed
 pub mod Calls
 pub mod Texts
+pub mod Judging
