@@ -158,7 +158,7 @@ static int mode_generate(int count, char **words)
             put_bytes(item, sizeof item);
             continue;
         }
-        u64 length = generate_input(seed, i, words[2], input);
+        u64 length = same_text(words[2], "histories") ? generate_history(seed, i, input) : generate_input(seed, i, words[2], input);
         put4(head, (u32)length);
         put_bytes(head, 4);
         put_bytes(input, length);
@@ -252,6 +252,11 @@ static int mode_places(int count, char **words)
     return mode_hold(count, words, places);
 }
 
+static int mode_histories(int count, char **words)
+{
+    return mode_hold(count, words, hold_history);
+}
+
 static int mode_trace(int count, char **words)
 {
     (void)count, (void)words;
@@ -310,7 +315,7 @@ static const struct {
     {"images", mode_images}, {"images-again", mode_images_again}, {"schedules", mode_schedules},
     {"contents", mode_contents}, {"contents-many", mode_contents_many}, {"generate", mode_generate},
     {"counts", mode_counts}, {"plain", mode_plain}, {"judge", mode_judge}, {"places", mode_places},
-    {"wrong", mode_wrong}, {"search", mode_search}, {"frame", mode_frame}, {"frames", mode_frames},
+    {"judged", mode_judged}, {"histories", mode_histories}, {"wrong", mode_wrong}, {"search", mode_search}, {"frame", mode_frame}, {"frames", mode_frames},
     {"cuts", mode_cuts}, {"values", mode_values}, {"sequence", mode_sequence}, {"sequences", mode_sequences},
 };
 

@@ -318,4 +318,9 @@ int mode_frames(int count, char **words);
 int mode_cuts(int count, char **words);
 int mode_values(int count, char **words);
 
+/* histories.c */
+int mode_judged(int count, char **words);
+Finding hold_history(const u8 *bytes, u64 length);
+u64 generate_history(u64 seed, u64 number, u8 *to);
+
 #endif
