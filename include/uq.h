@@ -9,8 +9,8 @@
    uq_ending and uq_page_lines touch up to 134 KB of stack, the others up to 23 KB (measured by bench/stack, docs/PERFORMANCE.md).
 
    Every call returns number + 256 * value. Number 0: taken. 1 to 18: refused, as document 01's table has it, and then the value is the
-   place and no lent byte is changed. uq_number, uq_value, uq_lines, uq_bytes, uq_reply and uq_item take a result
-   apart. */
+   place and no lent byte is changed. uq_number, uq_value, uq_lines, uq_bytes, uq_reply, uq_item, uq_verdict, uq_tries
+   and uq_order take a result apart. */
 #ifndef UQ_H
 #define UQ_H
 
@@ -45,8 +45,13 @@ enum {
     UQ_MAX_IMAGE = 586,      /* 10 + 9N */
     UQ_MAX_SCHEDULE = 25170, /* 8 + 10 + 9N, and 6 for each event */
     UQ_RECORD = 1412,
-    UQ_PLACES = 6
+    UQ_PLACES = 6,
+    UQ_MAX_HISTORY = 859, /* 3 + 4 for each item, and 22 for each operation */
+    UQ_MAX_ORDER = 16
 };
+
+/* What uq_judge says of a history. */
+enum { UQ_UNLAWFUL = 0, UQ_LAWFUL = 1, UQ_UNDECIDED = 2 };
 
 /* Numbers given back, as document 01's table has them. */
 enum {
@@ -127,6 +132,13 @@ uint64_t uq_save(const uint8_t *record, size_t length, uint8_t *buffer, size_t r
    A refusal has number 1, 18 or 17 and place 0, and writes nothing. */
 uint64_t uq_places(const uint8_t *record, size_t length, uint8_t *buffer, size_t room);
 
+/* The verdict on a history: how many operations n (at most 16), items at the start and recovered items (at most 63 each) there are, a byte each; the
+   items, 4 bytes each; then 22 bytes an operation: kind (UQ_ENQUEUE, UQ_DEQUEUE), begin time (8), answer time (8), answer (UQ_NO_REPLY to UQ_EMPTY), item (4).
+   The value where it is taken: uq_verdict, uq_tries, and uq_order, which is how many numbers the order has that shows it lawful.
+   They are written into the first uq_order bytes of `order`; the bytes after them stay.
+   A refusal has number 1 with place 0, 9 or 13 with the operation's number, or 17 where `room` is below n, and writes nothing. */
+uint64_t uq_judge(const uint8_t *history, size_t length, uint8_t *order, size_t room);
+
 /* The number: 0 where the call was taken. */
 static inline uint32_t uq_number(uint64_t result) { return (uint32_t)(result % 256); }
 
@@ -139,6 +151,11 @@ static inline uint32_t uq_reply(uint64_t result) { return (uint32_t)(result / 25
 /* Of a call that writes text: how many lines, and how many bytes they have. */
 static inline uint32_t uq_lines(uint64_t result) { return (uint32_t)(result / 256 % 16777216); }
 static inline uint64_t uq_bytes(uint64_t result) { return result / 4294967296u; }
+
+/* Of uq_judge: the verdict, how many operations were tried, and how many numbers the order has. */
+static inline uint32_t uq_verdict(uint64_t result) { return (uint32_t)(result / 256 / 16777216 % 256); }
+static inline uint32_t uq_tries(uint64_t result) { return (uint32_t)(result / 256 % 16777216); }
+static inline uint32_t uq_order(uint64_t result) { return (uint32_t)(result / 256 / 4294967296u); }
 
 /* Of an event whose reply is UQ_ITEM: the item. */
 static inline uint32_t uq_item(uint64_t result) { return (uint32_t)(result / 256 % 4294967296u); }
