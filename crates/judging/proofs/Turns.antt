@@ -8,13 +8,14 @@ use native.Mathlib.Omega.{arith}
 use lib.ListN.{length}
 use lib.Dec.{ltb}
 use borrow.Author.Tests.{lt-ltb, le-ltb}
-use Rattle.lists.specs.Find.{pick}
+use Rattle.lists.specs.Find.{pick, least}
 use Rattle.lists.proofs.BoolLaws.{no-way, false-true}
+use Rattle.lists.proofs.FindLaws as find
 use Rattle.answer.specs.Answers.{accepted}
 use Rattle.lawful.specs.Operation.{Operation}
 use Rattle.judging.specs.History.{countIn, firstIn, lastIn, operationsIn, historyAnswer}
 use Rattle.judging.specs.Search.{Verdict, lawful, unlawful, undecided, Judged, judged, taking, finished, orElse, consider, scan, searched, asked, enough, judgedOf}
-use Rattle.judging.specs.Place.{noBytes, padded, orderIn, queueIn, isFinished, isEligible, served, took, fresh, Whole, Clear, Ready}
+use Rattle.judging.specs.Place.{noBytes, padded, orderIn, queueIn, isFinished, isEligible, nextFrom, served, took, fresh, Whole, Clear, Ready}
 use Rattle.judging.specs.Judged.{numberOf, saidOf, saidNone, saidAt, searchedAt, askedAt, judgedIn}
 use Rattle.judging.specs.declared.Place.{Place}
 use Rattle.judging.proofs.Taken.{operation-count}
@@ -67,6 +68,15 @@ module _ (more : ℕ → Bool) (ops : List Operation) (last : List ℕ) where
   unfolding searched
   closed zero o q t e = rw (e, searched)
   closed (suc m) o q t e = rw (e, searched)
+
+least-from : (f : ℕ → Bool) (k i : ℕ) → i ≤ least f k i
+unfolding least
+least-from f zero i = omega arith
+least-from f (suc k) i = by (f i) (least-from f k (suc i))
+  where
+    by : (b : Bool) → suc i ≤ least f k (suc i) → i ≤ pick b i (least f k (suc i))
+    by true h = omega arith
+    by false h = omega (arith, h)
 
 -- ---- the same at a place
 
@@ -132,6 +142,32 @@ module _ (s : List ℕ) (m : ℕ) (x : Place) (r : Ready s m x) where
 
       pub misses : t < 1000000 → numberOf (Next .verdict) ≡ 0 → askedAt s m (n - i) x i t ≡ Rest (Next .tries)
       misses l e = tries l ∙ or-miss (Next .verdict) Next Rest e
+
+  -- candidates that are not eligible are passed over
+  passes : (n t : ℕ) → n ≡ countIn s → 0 < m → (k i : ℕ) → n - i ≡ k
+      → askedAt s m (n - i) x i t ≡ askedAt s m (n - least (isEligible s x) (n - i) i) x (least (isEligible s x) (n - i) i) t
+  passes n t en z zero i e = rw (find.least-end (isEligible s x) n i (omega arith))
+  passes n t en z (suc k) i e = by (isEligible s x i) refl (passes n t en z k (i + 1) (omega arith))
+    where
+      by : (b : Bool) → isEligible s x i ≡ b
+          → askedAt s m (n - (i + 1)) x (i + 1) t ≡ askedAt s m (n - least (isEligible s x) (n - (i + 1)) (i + 1)) x (least (isEligible s x) (n - (i + 1)) (i + 1)) t
+          → askedAt s m (n - i) x i t ≡ askedAt s m (n - least (isEligible s x) (n - i) i) x (least (isEligible s x) (n - i) i) t
+      by true h g = rw (find.least-hit (isEligible s x) n i (omega arith) h)
+      by false h g =
+          rw (find.least-next (isEligible s x) n i (omega arith) h)
+          (skips n i t en (omega arith) z h ∙ g)
+
+  pub passes-to : (n i t : ℕ) → n ≡ countIn s → 0 < m → askedAt s m (n - i) x i t ≡ askedAt s m (n - nextFrom s x i) x (nextFrom s x i) t
+  unfolding nextFrom
+  passes-to n i t en z = passes n t en z (n - i) i refl ∙ ap (λ (k : ℕ). askedAt s m (n - least (isEligible s x) (k - i) i) x (least (isEligible s x) (k - i) i) t) en
+
+  pub next-le : (i : ℕ) → i ≤ countIn s → (i ≤ nextFrom s x i) × (nextFrom s x i ≤ countIn s)
+  unfolding nextFrom
+  next-le i h = (least-from (isEligible s x) (countIn s - i) i, omega (arith, find.least-le (isEligible s x) (countIn s - i) i))
+
+  pub next-eligible : (i : ℕ) → i ≤ countIn s → nextFrom s x i < countIn s → isEligible s x (nextFrom s x i) ≡ true
+  unfolding nextFrom
+  next-eligible i h l = find.least-found (isEligible s x) (countIn s - i) i (omega (arith, l))
 
   pub goes-on : (n t : ℕ) → n ≡ countIn s → isFinished s x ≡ false → searchedAt s m x t ≡ askedAt s m (n - 0) x 0 t
   unfolding searchedAt askedAt

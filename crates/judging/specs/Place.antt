@@ -6,7 +6,7 @@ use mathlib.Core.Bool.{Bool, true, false, not}
 use mathlib.Core.List.{List, [], _∷_, _++_}
 use lib.ListN.{length, getD, set, take, drop, replicate}
 use lib.Dec.{eqb, ltb}
-use Rattle.lists.specs.Find.{pick, both, any}
+use Rattle.lists.specs.Find.{pick, both, least, any}
 use Rattle.image.specs.Bytes.{at4}
 use Rattle.lawful.specs.Demand3.{Bytes}
 use Rattle.judging.specs.History.{countIn, firstCount, lastCount, operationPlace, kindAt, beganAt, endedAt, answerAt, itemAt, firstIn, fits}
@@ -84,6 +84,10 @@ isEligible s x i =
     pick (eqb (getD (x .taken) i 0) 0)
     (pick (ltb (x .bar) (beganAt s i)) false (pick (eqb (kindAt s i) 1) true (gives s x (answerAt s i) (itemAt s i))))
     false
+
+-- the first eligible operation from i on
+unfoldable pub nextFrom : List ℕ → Place → ℕ → ℕ
+nextFrom s x i = least (isEligible s x) (countIn s - i) i
 
 -- ---- what a taking makes of it
 

@@ -3,7 +3,7 @@ ghost use mathlib.Core.Path.{_≡_};
 ghost use Prim.Native.Nat.{_+_, _≤_, _<_};
 ghost use lib.ListN.{length};
 ghost use Rattle.judging.specs.History.{countIn, firstCount};
-ghost use Rattle.judging.specs.Place.{Whole, due, barWith, barBelow, anyDue, isFinished, gives, isEligible};
+ghost use Rattle.judging.specs.Place.{Whole, due, barWith, barBelow, anyDue, isFinished, gives, isEligible, nextFrom};
 use crate::Place;
 use crate::queues::is_same;
 use crate::queues::is_there;
@@ -101,7 +101,7 @@ fn is_given(h: &[u8], x: Place, a: u8, v: u32) -> bool
 }
 
 // Whether operation i is eligible.
-pub fn is_eligible(h: &[u8], x: Place, i: usize) -> bool
+fn is_eligible(h: &[u8], x: Place, i: usize) -> bool
     requires { ⌜ Whole (now h) × (x .put ≤ 16) × (i < countIn (now h)) ⌝ }
     ensures { λ r. ⌜ r ≡ isEligible (now (h .entry)) x i ⌝ }
 {
@@ -119,4 +119,20 @@ pub fn is_eligible(h: &[u8], x: Place, i: usize) -> bool
     let a = answer_of(h, i);
     let v = item_of(h, i);
     is_given(h, x, a, v)
+}
+
+// The first eligible operation from i on; how many there are where none is.
+pub fn next_eligible(h: &[u8], x: Place, i: usize) -> usize
+    requires { ⌜ Whole (now h) × (x .put ≤ 16) × (i ≤ countIn (now h)) ⌝ }
+    ensures { λ r. ⌜ r ≡ nextFrom (now (h .entry)) x i ⌝ }
+{
+    let n = h[0] as usize;
+    let mut j = i;
+    while j < n {
+        if is_eligible(h, x, j) {
+            return j;
+        }
+        j += 1;
+    }
+    j
 }

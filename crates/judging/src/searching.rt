@@ -8,8 +8,8 @@ ghost use Rattle.judging.specs.Place.{Whole, Clear, Ready, isEligible, t
 ghost use Rattle.judging.specs.Judged.{saidOf, saidNone, saidAt, searchedAt, askedAt};
 use crate::Place;
 use crate::Said;
-use crate::asking::is_eligible;
 use crate::asking::is_finished;
+use crate::asking::next_eligible;
 use crate::placing::fresh_place;
 use crate::placing::no_bytes;
 use crate::placing::take;
@@ -50,20 +50,18 @@ fn choose(h: &[u8], n: usize, left: usize, x: Place, i: usize, tries: u32) -> Sa
     if left == 0 {
         return say(0, tries);
     }
-    if i == n {
+    let j = next_eligible(h, x, i);
+    if j == n {
         return say(0, tries);
     }
-    if is_eligible(h, x, i) {
-        if tries < 1000000 {
-            let r = carry_out(h, n, left, x, i, tries);
-            if r.verdict == 0 {
-                return choose(h, n, left, x, i + 1, r.tries);
-            }
-            return r;
+    if tries < 1000000 {
+        let r = carry_out(h, n, left, x, j, tries);
+        if r.verdict == 0 {
+            return choose(h, n, left, x, j + 1, r.tries);
         }
-        return say(2, tries);
+        return r;
     }
-    choose(h, n, left, x, i + 1, tries)
+    say(2, tries)
 }
 
 // Takes operation i and asks what is eligible next.

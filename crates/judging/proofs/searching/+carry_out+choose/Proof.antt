@@ -1,12 +1,13 @@
 use mathlib.Core.Path.{_≡_, refl, sym, ap, subst, _∙_}
 use native.Mathlib.Omega.{arith}
-use Rattle.judging.specs.Place.{Ready}
+use Rattle.judging.specs.History.{countIn}
+use Rattle.judging.specs.Place.{isEligible, Ready}
 use Rattle.judging.specs.Judged.{saidOf, searchedAt, askedAt}
 use Rattle.judging.specs.declared.Place.{Place}
 use Rattle.judging.specs.declared.Said.{Said}
 use Rattle.judging.proofs.Shown as shown
 use Rattle.judging.proofs.Turns as turns
-use Prim.Native.Nat.{_+_, _-_, _*_}
+use Prim.Native.Nat.{_+_, _-_, _*_, _≤_}
 use Prim.Native.Nat.{ℕ, _<_}
 use borrow.Fn.Kinds.{In}
 use borrow.Fn.PlainCycle.{Measures, is, falls, and}
@@ -16,8 +17,8 @@ use Rattle.judging.proofs.searching.+carry_out+choose.Lts-carry_out as 
 use Rattle.judging.proofs.searching.choose.Reads as choose
 use Rattle.judging.proofs.searching.choose.Kinds as choose-kinds
 use Rattle.judging.proofs.searching.+carry_out+choose.Lts-choose as choose-lts
-use Rattle.judging.proofs.asking.is_eligible.Reads as is-eligible-reads
 use Rattle.judging.proofs.asking.is_finished.Reads as is-finished-reads
+use Rattle.judging.proofs.asking.next_eligible.Reads as next-eligible-reads
 use Rattle.judging.proofs.placing.take.Reads as take-reads
 use Rattle.judging.proofs.searching.say.Reads as say-reads
 use Rattle.judging.proofs.searching.say_lawful.Reads as say-lawful-reads
@@ -154,8 +155,8 @@ carry-out-returns-2 t c = let a = c .before .before .before .before .before .arg
 choose-say-requires : (t : ℕ) → choose-lts.Need-say-requires (
   say-reads.Asked,
   say-reads.Learnt,
-  is-eligible-reads.Asked,
-  is-eligible-reads.Learnt,
+  next-eligible-reads.Asked,
+  next-eligible-reads.Learnt,
   carry-out-below t,
   carry-out.Post,
   choose-below t,
@@ -166,21 +167,33 @@ choose-say-requires t c κs = tt
 choose-returns : (t : ℕ) → choose-lts.Need-returns (
   say-reads.Asked,
   say-reads.Learnt,
-  is-eligible-reads.Asked,
-  is-eligible-reads.Learnt,
+  next-eligible-reads.Asked,
+  next-eligible-reads.Learnt,
   carry-out-below t,
   carry-out.Post,
   choose-below t,
   choose.Post,
 ) (choose-at t) choose.Post
 unfolding askedAt
-choose-returns t c = let a = c .before .before .before .args in let p = c .before .before .before .pre .1 in let s = a .h .now in let r = p .3 in let d = c .say .ensures in (d ∙ sym (turns.said-none (a .tries)) ∙ ap (λ (k : ℕ). saidOf (askedAt s k (a .n - a .i) (a .x) (a .i) (a .tries))) (sym (c .before .if1 .taken)), omega (arith, p .2, ap (λ (u : Said). u .tries) d))
+choose-returns t c = let a = c .before .before .before .args in let p = c .before .before .before .pre .1 in let s = a .h .now in let r = p .3 in let b : a .i ≤ countIn s = omega (arith, p .0, p .1) in let d = c .say .ensures in (d ∙ sym (turns.said-none (a .tries)) ∙ ap (λ (k : ℕ). saidOf (askedAt s k (a .n - a .i) (a .x) (a .i) (a .tries))) (sym (c .before .if1 .taken)), omega (arith, p .2, ap (λ (u : Said). u .tries) d))
+
+choose-next-eligible-requires : (t : ℕ) → choose-lts.Need-next-eligible-requires (
+  say-reads.Asked,
+  say-reads.Learnt,
+  next-eligible-reads.Asked,
+  next-eligible-reads.Learnt,
+  carry-out-below t,
+  carry-out.Post,
+  choose-below t,
+  choose.Post,
+) (choose-at t) choose.Post
+choose-next-eligible-requires t c κs = let a = c .before .before .args in let p = c .before .before .pre .1 in let s = a .h .now in let r = p .3 in let b : a .i ≤ countIn s = omega (arith, p .0, p .1) in (r .whole, omega (arith, r .put, r .left, r .whole .count), b)
 
 choose-say-requires-2 : (t : ℕ) → choose-lts.Need-say-requires-2 (
   say-reads.Asked,
   say-reads.Learnt,
-  is-eligible-reads.Asked,
-  is-eligible-reads.Learnt,
+  next-eligible-reads.Asked,
+  next-eligible-reads.Learnt,
   carry-out-below t,
   carry-out.Post,
   choose-below t,
@@ -191,92 +204,80 @@ choose-say-requires-2 t c κs = tt
 choose-returns-2 : (t : ℕ) → choose-lts.Need-returns-2 (
   say-reads.Asked,
   say-reads.Learnt,
-  is-eligible-reads.Asked,
-  is-eligible-reads.Learnt,
+  next-eligible-reads.Asked,
+  next-eligible-reads.Learnt,
   carry-out-below t,
   carry-out.Post,
   choose-below t,
   choose.Post,
 ) (choose-at t) choose.Post
-choose-returns-2 t c = let a = c .before .before .before .before .args in let p = c .before .before .before .before .pre .1 in let s = a .h .now in let r = p .3 in let d = c .say2 .ensures in (d ∙ turns.at-none s (a .left) (a .x) r (a .n) (a .i) (a .tries) (c .before .if2 .taken), omega (arith, p .2, ap (λ (u : Said). u .tries) d))
-
-choose-is-eligible-requires : (t : ℕ) → choose-lts.Need-is-eligible-requires (
-  say-reads.Asked,
-  say-reads.Learnt,
-  is-eligible-reads.Asked,
-  is-eligible-reads.Learnt,
-  carry-out-below t,
-  carry-out.Post,
-  choose-below t,
-  choose.Post,
-) (choose-at t) choose.Post
-choose-is-eligible-requires t c κs = let a = c .before .before .before .args in let p = c .before .before .before .pre .1 in let s = a .h .now in let r = p .3 in (r .whole, omega (arith, r .put, r .left, r .whole .count), omega (arith, p .0, p .1, c .if2 .left))
+choose-returns-2 t c = let a = c .before .before .before .before .before .args in let p = c .before .before .before .before .before .pre .1 in let s = a .h .now in let r = p .3 in let b : a .i ≤ countIn s = omega (arith, p .0, p .1) in let j = c .before .before .next-eligible .result in let e = c .before .before .next-eligible .ensures in let z : 0 < a .left = omega (arith, c .before .before .before .if1 .left) in let l = turns.next-le s (a .left) (a .x) r (a .i) b in let g = turns.passes-to s (a .left) (a .x) r (a .n) (a .i) (a .tries) (p .0) z ∙ ap (λ (k : ℕ). askedAt s (a .left) (a .n - k) (a .x) k (a .tries)) (sym e) in let d = c .say2 .ensures in (d ∙ turns.at-none s (a .left) (a .x) r (a .n) j (a .tries) (c .before .if2 .taken) ∙ sym (ap saidOf g), omega (arith, p .2, ap (λ (u : Said). u .tries) d))
 
 choose-carry-out-requires : (t : ℕ) → choose-lts.Need-carry-out-requires (
   say-reads.Asked,
   say-reads.Learnt,
-  is-eligible-reads.Asked,
-  is-eligible-reads.Learnt,
+  next-eligible-reads.Asked,
+  next-eligible-reads.Learnt,
   carry-out-below t,
   carry-out.Post,
   choose-below t,
   choose.Post,
 ) (choose-at t) choose.Post
-choose-carry-out-requires t c κs = let a = c .before .before .before .before .before .before .args in let p = c .before .before .before .before .before .before .pre .1 in let s = a .h .now in let r = p .3 in (omega (arith, c .before .before .before .before .before .before .pre .0), (p .0, omega (arith, p .1, c .before .before .before .if2 .left), c .if4 .taken, omega (arith, c .before .before .before .before .if1 .left), r, sym (c .before .before .is-eligible .ensures) ∙ c .before .if3 .taken))
+choose-carry-out-requires t c κs = let a = c .before .before .before .before .before .args in let p = c .before .before .before .before .before .pre .1 in let s = a .h .now in let r = p .3 in let b : a .i ≤ countIn s = omega (arith, p .0, p .1) in let j = c .before .before .next-eligible .result in let e = c .before .before .next-eligible .ensures in let z : 0 < a .left = omega (arith, c .before .before .before .if1 .left) in let l = turns.next-le s (a .left) (a .x) r (a .i) b in let g = turns.passes-to s (a .left) (a .x) r (a .n) (a .i) (a .tries) (p .0) z ∙ ap (λ (k : ℕ). askedAt s (a .left) (a .n - k) (a .x) k (a .tries)) (sym e) in let h : j < a .n = omega (arith, p .0, e, l .1, c .before .if2 .left) in let y = ap (isEligible s (a .x)) e ∙ turns.next-eligible s (a .left) (a .x) r (a .i) b (omega (arith, p .0, e, h)) in (omega (arith, c .before .before .before .before .before .pre .0, e, l .0), (p .0, h, c .if3 .taken, z, r, y))
 
 choose-add-choose : (t : ℕ) → choose-lts.Need-add-choose (
   say-reads.Asked,
   say-reads.Learnt,
-  is-eligible-reads.Asked,
-  is-eligible-reads.Learnt,
+  next-eligible-reads.Asked,
+  next-eligible-reads.Learnt,
   carry-out-below t,
   carry-out.Post,
   choose-below t,
   choose.Post,
 ) (choose-at t) choose.Post
-choose-add-choose t c = let a = c .before .before .before .before .before .before .before .before .before .args in let p = c .before .before .before .before .before .before .before .before .before .pre .1 in let s = a .h .now in let r = p .3 in omega (arith, p .0, p .1, r .whole .count)
+choose-add-choose t c = let a = c .before .before .before .before .before .before .before .before .args in let p = c .before .before .before .before .before .before .before .before .pre .1 in let s = a .h .now in let r = p .3 in let b : a .i ≤ countIn s = omega (arith, p .0, p .1) in let j = c .before .before .before .before .before .next-eligible .result in let e = c .before .before .before .before .before .next-eligible .ensures in let z : 0 < a .left = omega (arith, c .before .before .before .before .before .before .if1 .left) in let l = turns.next-le s (a .left) (a .x) r (a .i) b in let g = turns.passes-to s (a .left) (a .x) r (a .n) (a .i) (a .tries) (p .0) z ∙ ap (λ (k : ℕ). askedAt s (a .left) (a .n - k) (a .x) k (a .tries)) (sym e) in let h : j < a .n = omega (arith, p .0, e, l .1, c .before .before .before .before .if2 .left) in let y = ap (isEligible s (a .x)) e ∙ turns.next-eligible s (a .left) (a .x) r (a .i) b (omega (arith, p .0, e, h)) in omega (arith, p .0, h, r .whole .count)
 
 choose-choose-requires : (t : ℕ) → choose-lts.Need-choose-requires (
   say-reads.Asked,
   say-reads.Learnt,
-  is-eligible-reads.Asked,
-  is-eligible-reads.Learnt,
+  next-eligible-reads.Asked,
+  next-eligible-reads.Learnt,
   carry-out-below t,
   carry-out.Post,
   choose-below t,
   choose.Post,
 ) (choose-at t) choose.Post
-choose-choose-requires t c κs = let a = c .before .before .before .before .before .before .before .before .before .args in let p = c .before .before .before .before .before .before .before .before .before .pre .1 in let s = a .h .now in let r = p .3 in (omega (arith, c .before .before .before .before .before .before .before .before .before .pre .0, p .1, c .before .before .before .before .before .before .if2 .left), (p .0, omega (arith, p .1, c .before .before .before .before .before .before .if2 .left), c .before .before .carry-out .ensures .1, r))
+choose-choose-requires t c κs = let a = c .before .before .before .before .before .before .before .before .args in let p = c .before .before .before .before .before .before .before .before .pre .1 in let s = a .h .now in let r = p .3 in let b : a .i ≤ countIn s = omega (arith, p .0, p .1) in let j = c .before .before .before .before .before .next-eligible .result in let e = c .before .before .before .before .before .next-eligible .ensures in let z : 0 < a .left = omega (arith, c .before .before .before .before .before .before .if1 .left) in let l = turns.next-le s (a .left) (a .x) r (a .i) b in let g = turns.passes-to s (a .left) (a .x) r (a .n) (a .i) (a .tries) (p .0) z ∙ ap (λ (k : ℕ). askedAt s (a .left) (a .n - k) (a .x) k (a .tries)) (sym e) in let h : j < a .n = omega (arith, p .0, e, l .1, c .before .before .before .before .if2 .left) in let y = ap (isEligible s (a .x)) e ∙ turns.next-eligible s (a .left) (a .x) r (a .i) b (omega (arith, p .0, e, h)) in (omega (arith, c .before .before .before .before .before .before .before .before .pre .0, e, l .0, h), (p .0, omega (arith, h), omega (arith, c .before .before .carry-out .ensures .1, p .2), r))
 
 choose-returns-3 : (t : ℕ) → choose-lts.Need-returns-3 (
   say-reads.Asked,
   say-reads.Learnt,
-  is-eligible-reads.Asked,
-  is-eligible-reads.Learnt,
+  next-eligible-reads.Asked,
+  next-eligible-reads.Learnt,
   carry-out-below t,
   carry-out.Post,
   choose-below t,
   choose.Post,
 ) (choose-at t) choose.Post
-choose-returns-3 t c = let a = c .before .before .before .before .before .before .before .before .before .before .args in let p = c .before .before .before .before .before .before .before .before .before .before .pre .1 in let s = a .h .now in let r = p .3 in let d = c .before .before .before .carry-out .ensures .0 in let m = turns.misses s (a .left) (a .x) r (a .n) (a .i) (a .tries) (p .0) (omega (arith, p .1, c .before .before .before .before .before .before .before .if2 .left)) (omega (arith, c .before .before .before .before .before .before .before .before .if1 .left)) (sym (c .before .before .before .before .before .before .is-eligible .ensures) ∙ c .before .before .before .before .before .if3 .taken) (c .before .before .before .before .if4 .taken) (sym (ap (λ (u : Said). u .verdict) d) ∙ c .before .if5 .taken) in (c .choose .ensures .0 ∙ ap (λ (u : ℕ). saidOf (askedAt s (a .left) (a .n - (a .i + 1)) (a .x) (a .i + 1) u)) (ap (λ (u : Said). u .tries) d) ∙ sym (ap saidOf m), c .choose .ensures .1)
+choose-returns-3 t c = let a = c .before .before .before .before .before .before .before .before .before .args in let p = c .before .before .before .before .before .before .before .before .before .pre .1 in let s = a .h .now in let r = p .3 in let b : a .i ≤ countIn s = omega (arith, p .0, p .1) in let j = c .before .before .before .before .before .before .next-eligible .result in let e = c .before .before .before .before .before .before .next-eligible .ensures in let z : 0 < a .left = omega (arith, c .before .before .before .before .before .before .before .if1 .left) in let l = turns.next-le s (a .left) (a .x) r (a .i) b in let g = turns.passes-to s (a .left) (a .x) r (a .n) (a .i) (a .tries) (p .0) z ∙ ap (λ (k : ℕ). askedAt s (a .left) (a .n - k) (a .x) k (a .tries)) (sym e) in let h : j < a .n = omega (arith, p .0, e, l .1, c .before .before .before .before .before .if2 .left) in let y = ap (isEligible s (a .x)) e ∙ turns.next-eligible s (a .left) (a .x) r (a .i) b (omega (arith, p .0, e, h)) in let d = c .before .before .before .carry-out .ensures .0 in let m = g ∙ turns.misses s (a .left) (a .x) r (a .n) j (a .tries) (p .0) h z y (c .before .before .before .before .if3 .taken) (sym (ap (λ (u : Said). u .verdict) d) ∙ c .before .if4 .taken) in (c .choose .ensures .0 ∙ ap (λ (u : ℕ). saidOf (askedAt s (a .left) (a .n - (j + 1)) (a .x) (j + 1) u)) (ap (λ (u : Said). u .tries) d) ∙ sym (ap saidOf m), c .choose .ensures .1)
 
 choose-returns-4 : (t : ℕ) → choose-lts.Need-returns-4 (
   say-reads.Asked,
   say-reads.Learnt,
-  is-eligible-reads.Asked,
-  is-eligible-reads.Learnt,
+  next-eligible-reads.Asked,
+  next-eligible-reads.Learnt,
   carry-out-below t,
   carry-out.Post,
   choose-below t,
   choose.Post,
 ) (choose-at t) choose.Post
-choose-returns-4 t c = let a = c .before .before .before .before .before .before .before .before .before .args in let p = c .before .before .before .before .before .before .before .before .before .pre .1 in let s = a .h .now in let r = p .3 in let d = c .before .before .carry-out .ensures .0 in let m = turns.hits s (a .left) (a .x) r (a .n) (a .i) (a .tries) (p .0) (omega (arith, p .1, c .before .before .before .before .before .before .if2 .left)) (omega (arith, c .before .before .before .before .before .before .before .if1 .left)) (sym (c .before .before .before .before .before .is-eligible .ensures) ∙ c .before .before .before .before .if3 .taken) (c .before .before .before .if4 .taken) (λ q. c .if5 .left (ap (λ (u : Said). u .verdict) d ∙ q)) in (d ∙ sym (ap saidOf m), c .before .before .carry-out .ensures .1)
+choose-returns-4 t c = let a = c .before .before .before .before .before .before .before .before .args in let p = c .before .before .before .before .before .before .before .before .pre .1 in let s = a .h .now in let r = p .3 in let b : a .i ≤ countIn s = omega (arith, p .0, p .1) in let j = c .before .before .before .before .before .next-eligible .result in let e = c .before .before .before .before .before .next-eligible .ensures in let z : 0 < a .left = omega (arith, c .before .before .before .before .before .before .if1 .left) in let l = turns.next-le s (a .left) (a .x) r (a .i) b in let g = turns.passes-to s (a .left) (a .x) r (a .n) (a .i) (a .tries) (p .0) z ∙ ap (λ (k : ℕ). askedAt s (a .left) (a .n - k) (a .x) k (a .tries)) (sym e) in let h : j < a .n = omega (arith, p .0, e, l .1, c .before .before .before .before .if2 .left) in let y = ap (isEligible s (a .x)) e ∙ turns.next-eligible s (a .left) (a .x) r (a .i) b (omega (arith, p .0, e, h)) in let d = c .before .before .carry-out .ensures .0 in let m = g ∙ turns.hits s (a .left) (a .x) r (a .n) j (a .tries) (p .0) h z y (c .before .before .before .if3 .taken) (λ q. c .if4 .left (ap (λ (u : Said). u .verdict) d ∙ q)) in (d ∙ sym (ap saidOf m), c .before .before .carry-out .ensures .1)
 
 choose-say-requires-3 : (t : ℕ) → choose-lts.Need-say-requires-3 (
   say-reads.Asked,
   say-reads.Learnt,
-  is-eligible-reads.Asked,
-  is-eligible-reads.Learnt,
+  next-eligible-reads.Asked,
+  next-eligible-reads.Learnt,
   carry-out-below t,
   carry-out.Post,
   choose-below t,
@@ -287,50 +288,14 @@ choose-say-requires-3 t c κs = tt
 choose-returns-5 : (t : ℕ) → choose-lts.Need-returns-5 (
   say-reads.Asked,
   say-reads.Learnt,
-  is-eligible-reads.Asked,
-  is-eligible-reads.Learnt,
+  next-eligible-reads.Asked,
+  next-eligible-reads.Learnt,
   carry-out-below t,
   carry-out.Post,
   choose-below t,
   choose.Post,
 ) (choose-at t) choose.Post
-choose-returns-5 t c = let a = c .before .before .before .before .before .before .before .args in let p = c .before .before .before .before .before .before .before .pre .1 in let s = a .h .now in let r = p .3 in let d = c .say3 .ensures in let m = turns.stops s (a .left) (a .x) r (a .n) (a .i) (a .tries) (p .0) (omega (arith, p .1, c .before .before .before .before .if2 .left)) (omega (arith, c .before .before .before .before .before .if1 .left)) (sym (c .before .before .before .is-eligible .ensures) ∙ c .before .before .if3 .taken) (c .before .if4 .left) in (d ∙ sym (turns.said-undecided (a .tries)) ∙ sym (ap saidOf m), omega (arith, p .2, ap (λ (u : Said). u .tries) d))
-
-choose-add-choose-2 : (t : ℕ) → choose-lts.Need-add-choose-2 (
-  say-reads.Asked,
-  say-reads.Learnt,
-  is-eligible-reads.Asked,
-  is-eligible-reads.Learnt,
-  carry-out-below t,
-  carry-out.Post,
-  choose-below t,
-  choose.Post,
-) (choose-at t) choose.Post
-choose-add-choose-2 t c = let a = c .before .before .before .before .before .args in let p = c .before .before .before .before .before .pre .1 in let s = a .h .now in let r = p .3 in omega (arith, p .0, p .1, r .whole .count)
-
-choose-choose-requires-2 : (t : ℕ) → choose-lts.Need-choose-requires-2 (
-  say-reads.Asked,
-  say-reads.Learnt,
-  is-eligible-reads.Asked,
-  is-eligible-reads.Learnt,
-  carry-out-below t,
-  carry-out.Post,
-  choose-below t,
-  choose.Post,
-) (choose-at t) choose.Post
-choose-choose-requires-2 t c κs = let a = c .before .before .before .before .before .args in let p = c .before .before .before .before .before .pre .1 in let s = a .h .now in let r = p .3 in (omega (arith, c .before .before .before .before .before .pre .0, p .1, c .before .before .if2 .left), (p .0, omega (arith, p .1, c .before .before .if2 .left), p .2, r))
-
-choose-returns-6 : (t : ℕ) → choose-lts.Need-returns-6 (
-  say-reads.Asked,
-  say-reads.Learnt,
-  is-eligible-reads.Asked,
-  is-eligible-reads.Learnt,
-  carry-out-below t,
-  carry-out.Post,
-  choose-below t,
-  choose.Post,
-) (choose-at t) choose.Post
-choose-returns-6 t c = let a = c .before .before .before .before .before .before .args in let p = c .before .before .before .before .before .before .pre .1 in let s = a .h .now in let r = p .3 in let m = turns.skips s (a .left) (a .x) r (a .n) (a .i) (a .tries) (p .0) (omega (arith, p .1, c .before .before .before .if2 .left)) (omega (arith, c .before .before .before .before .if1 .left)) (sym (c .before .before .is-eligible .ensures) ∙ c .before .if3 .left) in (c .choose2 .ensures .0 ∙ sym (ap saidOf m), c .choose2 .ensures .1)
+choose-returns-5 t c = let a = c .before .before .before .before .before .before .args in let p = c .before .before .before .before .before .before .pre .1 in let s = a .h .now in let r = p .3 in let b : a .i ≤ countIn s = omega (arith, p .0, p .1) in let j = c .before .before .before .next-eligible .result in let e = c .before .before .before .next-eligible .ensures in let z : 0 < a .left = omega (arith, c .before .before .before .before .if1 .left) in let l = turns.next-le s (a .left) (a .x) r (a .i) b in let g = turns.passes-to s (a .left) (a .x) r (a .n) (a .i) (a .tries) (p .0) z ∙ ap (λ (k : ℕ). askedAt s (a .left) (a .n - k) (a .x) k (a .tries)) (sym e) in let h : j < a .n = omega (arith, p .0, e, l .1, c .before .before .if2 .left) in let y = ap (isEligible s (a .x)) e ∙ turns.next-eligible s (a .left) (a .x) r (a .i) b (omega (arith, p .0, e, h)) in let d = c .say3 .ensures in let m = g ∙ turns.stops s (a .left) (a .x) r (a .n) j (a .tries) (p .0) h z y (c .before .if3 .left) in (d ∙ sym (turns.said-undecided (a .tries)) ∙ sym (ap saidOf m), omega (arith, p .2, ap (λ (u : Said). u .tries) d))
 
 pub +carry-out+choose-spec : {M : Type 1} → statement M
 +carry-out+choose-spec = close μ-carry-out μ-choose (λ t. carry-out-lts.spec (
@@ -357,8 +322,8 @@ pub +carry-out+choose-spec : {M : Type 1} → statement M
     λ t. choose-lts.spec (
       say-reads.Asked,
       say-reads.Learnt,
-      is-eligible-reads.Asked,
-      is-eligible-reads.Learnt,
+      next-eligible-reads.Asked,
+      next-eligible-reads.Learnt,
       carry-out-below t,
       carry-out.Post,
       choose-below t,
@@ -368,9 +333,9 @@ pub +carry-out+choose-spec : {M : Type 1} → statement M
     choose.Post
     (choose-say-requires t)
     (choose-returns t)
+    (choose-next-eligible-requires t)
     (choose-say-requires-2 t)
     (choose-returns-2 t)
-    (choose-is-eligible-requires t)
     (choose-carry-out-requires t)
     (choose-add-choose t)
     (choose-choose-requires t)
@@ -378,6 +343,3 @@ pub +carry-out+choose-spec : {M : Type 1} → statement M
     (choose-returns-4 t)
     (choose-say-requires-3 t)
     (choose-returns-5 t)
-    (choose-add-choose-2 t)
-    (choose-choose-requires-2 t)
-    (choose-returns-6 t)
