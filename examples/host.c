@@ -237,7 +237,51 @@ static void record_refusals(void) {
     for (int i = 0; i < IMAGE; i++) expect("a byte after a refusal", buffer[i], 0);
 }
 
+/* An operation of a history: 22 bytes. */
+static uint8_t *put_operation(uint8_t *at, uint8_t kind, uint8_t begun, uint8_t answered, uint8_t answer, uint32_t item) {
+    for (int i = 0; i < 22; i++) at[i] = 0;
+    at[0] = kind;
+    at[1] = begun;
+    at[9] = answered;
+    at[17] = answer;
+    put_word(at + 18, item);
+    return at + 22;
+}
+
+/* From queue 7 to queue 9: a dequeue that took 7 and an enqueue of 9 were answered, one enqueue was answered Full, one dequeue not at all. */
+static void history(void) {
+    uint8_t bytes[UQ_MAX_HISTORY] = {4, 1, 1}, order[UQ_MAX_ORDER];
+    uint8_t *at = bytes + 11;
+    put_word(bytes + 3, 7);
+    put_word(bytes + 7, 9);
+    at = put_operation(at, UQ_DEQUEUE, 6, 0, UQ_NO_REPLY, 0);
+    at = put_operation(at, UQ_ENQUEUE, 1, 5, UQ_DONE, 9);
+    at = put_operation(at, UQ_DEQUEUE, 2, 4, UQ_ITEM, 7);
+    at = put_operation(at, UQ_ENQUEUE, 3, 4, UQ_FULL, 8);
+    size_t length = (size_t)(at - bytes);
+    for (int i = 0; i < UQ_MAX_ORDER; i++) order[i] = 99;
+    uint64_t r = uq_judge(bytes, length, order, sizeof order);
+    expect("a history's number", uq_number(r), UQ_TAKEN);
+    expect("its verdict", uq_verdict(r), UQ_LAWFUL);
+    expect("its tries", uq_tries(r), 3);
+    expect("its order's length", uq_order(r), 3);
+    expect("the order", order[0] * 10000u + order[1] * 100u + order[2], 10203);
+    expect("the byte behind it", order[3], 99);
+    expect("no room for it", uq_judge(bytes, length, order, 3), refusal(UQ_ROOM, 0));
+    expect("a history cut short", uq_judge(bytes, length - 1, order, sizeof order), refusal(UQ_LENGTH, 0));
+    put_word(bytes + 7, 10);
+    r = uq_judge(bytes, length, order, sizeof order);
+    expect("the verdict on another recovered item", uq_verdict(r), UQ_UNLAWFUL);
+    expect("its order's length", uq_order(r), 0);
+    bytes[11 + 22 * 2 + 17] = UQ_FULL;
+    expect("a dequeue answered Full", uq_judge(bytes, length, order, sizeof order), refusal(UQ_KIND, 2));
+    bytes[11 + 22 * 2 + 17] = UQ_EMPTY;
+    bytes[11 + 22 * 1 + 9] = 0;
+    expect("answered before it began", uq_judge(bytes, length, order, sizeof order), refusal(UQ_NOT_ZERO, 1));
+}
+
 int main(void) {
+    history();
     endings();
     text();
     refusals();

@@ -97,6 +97,16 @@ static void places(void) {
     result = uq_places(record, sizeof record, buffer, sizeof buffer);
 }
 
+/* Sixteen enqueues without an answer, and a queue that no order of them leaves: as deep as a search goes. */
+static void judge(void) {
+    static uint8_t history[UQ_MAX_HISTORY], order[UQ_MAX_ORDER];
+    history[0] = UQ_MAX_ORDER;
+    history[2] = 1;
+    history[3] = 200;
+    for (int i = 0; i < UQ_MAX_ORDER; i++) history[7 + 22 * i] = UQ_ENQUEUE;
+    result = uq_judge(history, 7 + 22 * UQ_MAX_ORDER, order, sizeof order);
+}
+
 static void (*call)(void);
 static uint8_t *entry;
 
@@ -153,5 +163,6 @@ int main(void) {
     measure("uq_event, a crash", crash);
     measure("uq_save", save);
     measure("uq_places", places);
+    measure("uq_judge", judge);
     return bad;
 }
