@@ -10,3 +10,4 @@ pub mod StartLaws
 pub mod RangeLaws
 pub mod FreshLaws
 pub mod LineLaws
+pub mod StageLaws

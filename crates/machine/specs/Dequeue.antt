@@ -4,6 +4,7 @@ use lib.Dec.{eqb}
 use Rattle.lists.specs.Find.{pick, both}
 use Rattle.answer.specs.declared.Answer.the-variants.{Item, Empty}
 use Rattle.machine.specs.Record.{none, node, thread, readHead, readNext, readItem, putHead}
+use Rattle.machine.specs.Stage.{D1, D2, D3, D4, D5, D6, D7, number}
 use Rattle.machine.specs.Line.{ofHead, persist}
 use Rattle.machine.specs.Retire.{out, moving, going, answering, left, retiredHeld}
 use Rattle.machine.specs.declared.Machine.{Machine}
@@ -11,13 +12,13 @@ use Rattle.machine.specs.declared.Out.{Out}
 
 -- D1 Head read, number and index
 abbrev pub stepD1 : Machine → ℕ → Out
-stepD1 m k = moving m k (readHead (thread m k) (m .head) (m .index)) 14
+stepD1 m k = moving m k (readHead (thread m k) (m .head) (m .index)) (number D2)
 
 -- D2 next of that node read: none goes to D3, else to D4
 abbrev pub stepD2 : Machine → ℕ → Out
 stepD2 m k =
     let x = node m (thread m k .head) .next in
-    moving m k (readNext (thread m k) x) (pick (eqb x none) 15 16)
+    moving m k (readNext (thread m k) x) (pick (eqb x none) (number D3) (number D4))
 
 -- D3 line 0 persisted. Answer Empty
 abbrev pub stepD3 : Machine → ℕ → Out
@@ -28,15 +29,15 @@ abbrev pub stepD4 : Machine → ℕ → Out
 stepD4 m k =
     let x = thread m k .next in
     pick (both (eqb (m .head) (thread m k .head)) (eqb (m .index) (thread m k .index)))
-    (going (putHead m x (node m x .index)) k 17) (going m k 13)
+    (going (putHead m x (node m x .index)) k (number D5)) (going m k (number D1))
 
 -- D5 item of the next node read
 abbrev pub stepD5 : Machine → ℕ → Out
-stepD5 m k = moving m k (readItem (thread m k) (node m (thread m k .next) .item)) 18
+stepD5 m k = moving m k (readItem (thread m k) (node m (thread m k .next) .item)) (number D6)
 
 -- D6 line 0 persisted
 abbrev pub stepD6 : Machine → ℕ → Out
-stepD6 m k = going (persist m (ofHead 0)) k 19
+stepD6 m k = going (persist m (ofHead 0)) k (number D7)
 
 -- D7 the node this thread held from its previous successful dequeue, if any, is retired; the old dummy is now held. Answer the item
 abbrev pub stepD7 : Machine → ℕ → Out

@@ -10,7 +10,7 @@ use Rattle.answer.specs.declared.Answer.{Answer}
 use Rattle.answer.specs.declared.Answer.the-variants.{Taken, Kind, Number, Busy, Idle, NotZero, Record}
 use Rattle.image.specs.Refusals.{startable}
 use Rattle.machine.specs.Record.{thread, putThread}
-use Rattle.machine.specs.Stage.{Stage, noStep, A1, A2, A3, A4, A5, A6, A7, A8, A9, A10, A11, A12, D1, D2, D3, D4, D5, D6, D7, stage, busy}
+use Rattle.machine.specs.Stage.{Stage, noStep, A1, A2, A3, A4, A5, A6, A7, A8, A9, A10, A11, A12, D1, D2, D3, D4, D5, D6, D7, number, stage, busy}
 use Rattle.machine.specs.Line.{lineCount, lineAt, persist, persisted}
 use Rattle.machine.specs.Start.{startOf}
 use Rattle.machine.specs.Retire.{out}
@@ -88,8 +88,8 @@ stepped m k D7 = stepD7 m k
 -- 1 begins an enqueue, 2 a dequeue, 3 moves the thread by one step, 4 writes back a line, 5 is a crash followed by recovery
 abbrev pub done : Machine → Event → Deed → Out
 done m e unknown = out Taken m
-done m e enqueues = out Taken (begun m (e .number) 1 (e .item))
-done m e dequeues = out Taken (begun m (e .number) 13 0)
+done m e enqueues = out Taken (begun m (e .number) (number A1) (e .item))
+done m e dequeues = out Taken (begun m (e .number) (number D1) 0)
 done m e steps = stepped m (e .number) (stage m (e .number))
 done m e writesBack = out Taken (persist m (lineAt (m .n) (e .number)))
 done m e crashes = out Taken (startOf (persisted m) (m .t))

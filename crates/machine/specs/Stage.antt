@@ -19,6 +19,29 @@ stages =
 abbrev pub stageOf : ℕ → Stage
 stageOf s = getD stages s noStep
 
+-- and the number of a step
+abbrev pub number : Stage → ℕ
+number noStep = 0
+number A1 = 1
+number A2 = 2
+number A3 = 3
+number A4 = 4
+number A5 = 5
+number A6 = 6
+number A7 = 7
+number A8 = 8
+number A9 = 9
+number A10 = 10
+number A11 = 11
+number A12 = 12
+number D1 = 13
+number D2 = 14
+number D3 = 15
+number D4 = 16
+number D5 = 17
+number D6 = 18
+number D7 = 19
+
 abbrev pub stage : Machine → ℕ → Stage
 stage m k = stageOf (thread m k .step)
 

@@ -10,7 +10,7 @@ use Rattle.lists.specs.Word.{with, without}
 use Rattle.lists.proofs.WordLaws as words
 use Rattle.answer.specs.declared.Answer.the-variants.{Full, WornOut}
 use Rattle.machine.specs.Record.{none, top, node, thread, contentOf, ownNode, readTail, readNext, readItem, readHead, atStep, withItem, withNext, withLinked, withIndex, putNode, putTail, putFree, putHead}
-use Rattle.machine.specs.Stage.{Stage, noStep, A1, A2, A3, A4, A5, A6, A7, A8, A9, A10, A11, A12, D1, D2, D3, D4, D5, D6, D7, stageOf, stage}
+use Rattle.machine.specs.Stage.{Stage, noStep, A1, A2, A3, A4, A5, A6, A7, A8, A9, A10, A11, A12, D1, D2, D3, D4, D5, D6, D7, stage}
 use Rattle.machine.specs.Line.{Line, ofHead, ofNode, persist}
 use Rattle.machine.specs.Retire.{moving, going, answering, nextFree, freed, left, retired}
 use Rattle.machine.specs.Event.{begun, stepped}
@@ -19,34 +19,10 @@ use Rattle.machine.specs.declared.Machine.{Machine}
 use Rattle.machine.specs.declared.Node.{Node}
 use Rattle.machine.specs.declared.Thread.{Thread}
 use Rattle.machine.proofs.LineLaws.{LineIn}
+use Rattle.machine.proofs.StageLaws.{step-number}
 use Rattle.steps.specs.Numbers.{numbersFit}
 use Rattle.steps.proofs.Fit.{Link, link, ThreadFit, Fit, Used, fit-range, fit-numbers, used-range, numbers-fit}
 use Rattle.steps.proofs.Keep.{none-link, fit-thread, fit-node, fit-kept, fit-kept-head, fit-tail, fit-head, fit-free, next-free-lt, fit-left, fit-retired}
-
--- ---- the step number of a stage: A12 alone is needed
-
-step-12 : (s : ℕ) → stageOf s ≡ A12 → s ≡ 12
-step-12 zero e = let z : _≡_ {A = ℕ} 0 1 = cc in absurd (omega arith)
-step-12 (suc zero) e = let z : _≡_ {A = ℕ} 0 1 = cc in absurd (omega arith)
-step-12 (suc (suc zero)) e = let z : _≡_ {A = ℕ} 0 1 = cc in absurd (omega arith)
-step-12 (suc (suc (suc zero))) e = let z : _≡_ {A = ℕ} 0 1 = cc in absurd (omega arith)
-step-12 (suc (suc (suc (suc zero)))) e = let z : _≡_ {A = ℕ} 0 1 = cc in absurd (omega arith)
-step-12 (suc (suc (suc (suc (suc zero))))) e = let z : _≡_ {A = ℕ} 0 1 = cc in absurd (omega arith)
-step-12 (suc (suc (suc (suc (suc (suc zero)))))) e = let z : _≡_ {A = ℕ} 0 1 = cc in absurd (omega arith)
-step-12 (suc (suc (suc (suc (suc (suc (suc zero))))))) e = let z : _≡_ {A = ℕ} 0 1 = cc in absurd (omega arith)
-step-12 (suc (suc (suc (suc (suc (suc (suc (suc zero)))))))) e = let z : _≡_ {A = ℕ} 0 1 = cc in absurd (omega arith)
-step-12 (suc (suc (suc (suc (suc (suc (suc (suc (suc zero))))))))) e = let z : _≡_ {A = ℕ} 0 1 = cc in absurd (omega arith)
-step-12 (suc (suc (suc (suc (suc (suc (suc (suc (suc (suc zero)))))))))) e = let z : _≡_ {A = ℕ} 0 1 = cc in absurd (omega arith)
-step-12 (suc (suc (suc (suc (suc (suc (suc (suc (suc (suc (suc zero))))))))))) e = let z : _≡_ {A = ℕ} 0 1 = cc in absurd (omega arith)
-step-12 (suc (suc (suc (suc (suc (suc (suc (suc (suc (suc (suc (suc zero)))))))))))) e = refl
-step-12 (suc (suc (suc (suc (suc (suc (suc (suc (suc (suc (suc (suc (suc zero))))))))))))) e = let z : _≡_ {A = ℕ} 0 1 = cc in absurd (omega arith)
-step-12 (suc (suc (suc (suc (suc (suc (suc (suc (suc (suc (suc (suc (suc (suc zero)))))))))))))) e = let z : _≡_ {A = ℕ} 0 1 = cc in absurd (omega arith)
-step-12 (suc (suc (suc (suc (suc (suc (suc (suc (suc (suc (suc (suc (suc (suc (suc zero))))))))))))))) e = let z : _≡_ {A = ℕ} 0 1 = cc in absurd (omega arith)
-step-12 (suc (suc (suc (suc (suc (suc (suc (suc (suc (suc (suc (suc (suc (suc (suc (suc zero)))))))))))))))) e = let z : _≡_ {A = ℕ} 0 1 = cc in absurd (omega arith)
-step-12 (suc (suc (suc (suc (suc (suc (suc (suc (suc (suc (suc (suc (suc (suc (suc (suc (suc zero))))))))))))))))) e = let z : _≡_ {A = ℕ} 0 1 = cc in absurd (omega arith)
-step-12 (suc (suc (suc (suc (suc (suc (suc (suc (suc (suc (suc (suc (suc (suc (suc (suc (suc (suc zero)))))))))))))))))) e = let z : _≡_ {A = ℕ} 0 1 = cc in absurd (omega arith)
-step-12 (suc (suc (suc (suc (suc (suc (suc (suc (suc (suc (suc (suc (suc (suc (suc (suc (suc (suc (suc zero))))))))))))))))))) e = let z : _≡_ {A = ℕ} 0 1 = cc in absurd (omega arith)
-step-12 (suc (suc (suc (suc (suc (suc (suc (suc (suc (suc (suc (suc (suc (suc (suc (suc (suc (suc (suc (suc s)))))))))))))))))))) e = let z : _≡_ {A = ℕ} 0 1 = cc in absurd (omega arith)
 
 -- ---- a thread with one thing replaced
 
@@ -195,7 +171,7 @@ module _ (m : Machine) (k : ℕ) (f : Fit m) (u : Used m k) (l : k < m .t) where
       fit-going (persist m (ofNode i)) k 11 (fit-kept m i (contentOf (node m i)) f (f .nodes i (u .own-in (rw e)) .flag)) l (omega arith)
   fit-step A11 e = A11-by (u .own-in (rw e)) (eqb (m .tail) (thread m k .tail))
   fit-step A12 e =
-      A12-by (eqb (m .tail) (thread m k .tail)) (f .nodes (thread m k .tail) (u .t-in (rw e)) .next-link (u .t-next (step-12 (thread m k .step) e)))
+      A12-by (eqb (m .tail) (thread m k .tail)) (f .nodes (thread m k .tail) (u .t-in (rw e)) .next-link (u .t-next (step-number (thread m k .step) A12 e (omega arith))))
   fit-step D1 e = fit-moving m k (readHead (thread m k) (m .head) (m .index)) 14 f (read-head (thread m k) (m .head) (m .index) (f .threads k l) (link (f .sizes .head-in))) (omega arith)
   fit-step D2 e =
       let x = node m (thread m k .head) .next in

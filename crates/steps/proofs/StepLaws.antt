@@ -5,13 +5,11 @@ use mathlib.Core.Logic.{_≢_}
 use native.Mathlib.Nat.{pos-of-ne-zero}
 use native.Mathlib.Omega.{arith}
 use native.Mathlib.Numerals.{add-one}
-use lib.ListN.{List·getD-eq-default}
 use lib.Pow.{pow-mono}
 use Rattle.lists.specs.Find.{pick, least}
 use Rattle.lists.specs.Word.{has, with, without, wordOf}
 use Rattle.lists.proofs.WordLaws as words
 use Rattle.machine.specs.Record.{node, contentOf, withWaits, putNode, putFree, putKept, putKeptHead}
-use Rattle.machine.specs.Stage.{noStep, stages, stageOf}
 use Rattle.machine.specs.Line.{lineAt, persist}
 use Rattle.machine.specs.Retire.{others, nextFree, lastWait, releasedAt, released}
 use Rattle.machine.specs.declared.Machine.{Machine}
@@ -64,11 +62,6 @@ persist-head m l e = rw (e, line-zero (m .n))
 
 pub persist-node : (m : Machine) (l : ℕ) → 0 < l → putKept m (l - 1) (contentOf (node m (l - 1))) ≡ persist m (lineAt (m .n) l)
 persist-node m l h = rw (line-before (m .n) l h)
-
--- ---- a number above 19 names no step
-
-pub no-step : (s : ℕ) → 19 < s → stageOf s ≡ noStep
-no-step s h = List·getD-eq-default stages noStep h
 
 -- one number of a range is left out after the other
 pub past : (n s : ℕ) → n ≤ s → s ≢ n → suc n ≤ s

@@ -1,5 +1,6 @@
 use Prim.Native.Nat.{_<_}
 use Rattle.steps.proofs.StepLaws as laws
+use Rattle.machine.proofs.StageLaws.{no-step}
 use Rattle.machine.specs.Record.{thread}
 use native.Mathlib.Omega.{arith}
 use borrow.Author.Needs.{needs}
@@ -60,7 +61,7 @@ returns-8 c =
     let r = c .match .rest in
     let s = thread (a .t1) (a .k) .step in
     let h : 19 < s = laws.past 19 s (laws.past 18 s (laws.past 17 s (laws.past 16 s (laws.past 15 s (laws.past 14 s (laws.past 13 s (omega arith) (r .0 .0 .0 .0 .0 .0 .1)) (r .0 .0 .0 .0 .0 .1)) (r .0 .0 .0 .0 .1)) (r .0 .0 .0 .1)) (r .0 .0 .1)) (r .0 .1)) (r .1) in
-    rw (laws.no-step s h)
+    rw (no-step s h)
 
 pub dequeue-step-spec : {M : Type 1} → statement M
 dequeue-step-spec =
