@@ -8,11 +8,11 @@ use native.Mathlib.Omega.{arith}
 use Rattle.lists.specs.Find.{least, any}
 use Rattle.lists.specs.Tab.{tab, front}
 use Rattle.lists.specs.Word.{has, with, without, wordOf}
-use Rattle.image.specs.Layout.{noContents, marked, readNodes, imageIn, sameContent}
-use Rattle.image.specs.Recovered.{recovered, twins, hasTwin, firstTwin, dummyOf, firstUnclear}
+use Rattle.image.specs.Layout.{noContents, marked, readNodes, imageIn, sameContent, headLines, noHeads, headsOf, readHeads}
+use Rattle.image.specs.Recovered.{largest, headOf, recovered, twins, hasTwin, firstTwin, dummyOf, firstUnclear}
 use Rattle.image.specs.Refusals.{startable, sound}
 use Rattle.machine.specs.Record.{blankNodes, idleThreads}
-use Rattle.machine.specs.Line.{headLines, lineAt, putLine}
+use Rattle.machine.specs.Line.{lineAt, putLine}
 use Rattle.machine.specs.Start.{insert, risen, behind, lastOf, startWith, startAnswer}
 use Rattle.machine.specs.Retire.{nextFree, releasedAt, released, others, retired}
 use Rattle.machine.specs.Event.{eventAt}
@@ -84,7 +84,7 @@ lawful-five-six = record { order = 0 ∷ 1 ∷ []; within = within; once = (diff
 pub P6-recovers : (k : ℕ) → k < 3 → Recovers P6 (endingIn P6 k)
 unfolding P6 P7 p6 four enqueue step zeroNodes schedule least any tab front has with without wordOf noContents marked readNodes imageIn
     recovered twins hasTwin firstTwin dummyOf firstUnclear startable sound blankNodes idleThreads insert risen behind lastOf startWith startAnswer
-    nextFree releasedAt released others retired eventAt scheduleIn eventsIn run ran headLines lineAt putLine sameContent joins gathered contentsOf tableOf
+    nextFree releasedAt released others retired eventAt scheduleIn eventsIn run ran headLines noHeads headsOf readHeads largest headOf lineAt putLine sameContent joins gathered contentsOf tableOf
     choices imageOf ending tableIn endingIn operations serveAll itemsFrom
 P6-recovers zero h = record { starts = refl; lawful = lawful-six }
 P6-recovers (suc zero) h = record { starts = refl; lawful = lawful-six }
@@ -95,7 +95,7 @@ P6-recovers (suc (suc (suc k))) h = absurd (omega arith)
 pub P7-recovers : (k : ℕ) → k < 4 → Recovers P7 (endingIn P7 k)
 unfolding P6 P7 p6 four enqueue step zeroNodes schedule least any tab front has with without wordOf noContents marked readNodes imageIn
     recovered twins hasTwin firstTwin dummyOf firstUnclear startable sound blankNodes idleThreads insert risen behind lastOf startWith startAnswer
-    nextFree releasedAt released others retired eventAt scheduleIn eventsIn run ran headLines lineAt putLine sameContent joins gathered contentsOf tableOf
+    nextFree releasedAt released others retired eventAt scheduleIn eventsIn run ran headLines noHeads headsOf readHeads largest headOf lineAt putLine sameContent joins gathered contentsOf tableOf
     choices imageOf ending tableIn endingIn operations serveAll itemsFrom
 P7-recovers zero h = record { starts = refl; lawful = lawful-six }
 P7-recovers (suc zero) h = record { starts = refl; lawful = lawful-six }

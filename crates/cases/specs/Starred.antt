@@ -14,11 +14,11 @@ use Rattle.lists.specs.Word.{has, with, without, wordOf}
 use Rattle.answer.specs.Answers.{told}
 use Rattle.answer.specs.declared.Answer.{Answer}
 use Rattle.answer.specs.declared.Answer.the-variants.{Taken}
-use Rattle.image.specs.Layout.{noContents, marked, readNodes, imageIn, sameContent}
-use Rattle.image.specs.Recovered.{recovered, twins, hasTwin, firstTwin, dummyOf, firstUnclear}
+use Rattle.image.specs.Layout.{noContents, marked, readNodes, imageIn, sameContent, headLines, noHeads, headsOf, readHeads}
+use Rattle.image.specs.Recovered.{largest, headOf, recovered, twins, hasTwin, firstTwin, dummyOf, firstUnclear}
 use Rattle.image.specs.Refusals.{startable, sound, imageAnswer}
 use Rattle.machine.specs.Record.{blankNodes, idleThreads}
-use Rattle.machine.specs.Line.{headLines, lineAt, putLine}
+use Rattle.machine.specs.Line.{lineAt, putLine}
 use Rattle.machine.specs.Start.{insert, risen, behind, lastOf, startWith}
 use Rattle.machine.specs.Retire.{nextFree, releasedAt, released, others, retired}
 use Rattle.machine.specs.Event.{eventAt}
@@ -158,7 +158,7 @@ unfolding allRight right starred p1 p3 p6 sameBytes lastAnswer sixPlaces four en
     noContents marked readNodes imageIn recovered twins hasTwin firstTwin dummyOf firstUnclear startable sound imageAnswer
     blankNodes idleThreads insert risen behind lastOf startWith nextFree releasedAt released others retired eventAt
     reached isHeld inEnqueue inDequeue scheduleIn eventsIn scheduleAnswer run ran
-    headLines lineAt putLine sameContent joins gathered contentsOf tableOf choices product imageOf endings
+    headLines noHeads headsOf readHeads largest headOf lineAt putLine sameContent joins gathered contentsOf tableOf choices product imageOf endings
     tableIn firstCrowded tableAnswer pageAnswer endingCount
     itemsOf spaced endingLine linesFrom firstLine refusedLine printed
 starred-hold = refl

@@ -10,7 +10,7 @@ use Rattle.lists.specs.Tab.{tab, joined, over, front}
 use Rattle.lists.proofs.TabLaws as tabs
 use Rattle.answer.specs.Answers.{accepted}
 use Rattle.image.specs.Bytes.{le4}
-use Rattle.image.specs.Layout.{noContents, contentAt, nodeBytes, nodePlace, headBytes, bodyBytes, readContent, readNodes, imageIn}
+use Rattle.image.specs.Layout.{noContents, contentAt, nodeBytes, nodePlace, headLines, headBytes, bodyBytes, readContent, readNodes, imageIn}
 use Rattle.image.specs.Refusals.{imageAnswer}
 use Rattle.image.specs.declared.Content.{Content}
 use Rattle.codec.specs.Parts.{readPart}
@@ -46,9 +46,9 @@ unfolding readNodes front noContents
 nodes-next s i h = tabs.tab-set (λ k. readContent s (nodePlace k)) i noContents h
 
 -- the head, then the nodes
-pub image-over : (b : List ℕ) (n h : ℕ) (l : List Content) → over (over b 0 (headBytes n h)) 10 (bodyBytes l n) ≡ over b 0 (headBytes n h ++ bodyBytes l n)
-unfolding headBytes
-image-over b n h l = tabs.over-append b 0 (headBytes n h) (bodyBytes l n)
+pub image-over : (b : List ℕ) (n : ℕ) (x : ℕ → ℕ) (l : List Content) → over (over b 0 (headBytes n x)) 10 (bodyBytes l n) ≡ over b 0 (headBytes n x ++ bodyBytes l n)
+unfolding headBytes headLines joined
+image-over b n x l = tabs.over-append b 0 (headBytes n x) (bodyBytes l n)
 
 -- what is read of a part that is taken
 pub part-answer : (more : ℕ) (s : List ℕ) → readPart more s .answer ≡ imageAnswer more s

@@ -1,5 +1,5 @@
 -- Bytes that are taken as an image, read and written again, are the same bytes.
-use Prim.Native.Nat.{ℕ, _+_, _*_, _≤_}
+use Prim.Native.Nat.{ℕ, _+_, _*_, _≤_, _<_}
 use mathlib.Core.Path.{_≡_, refl, sym, ap, ap₂, _∙_}
 use mathlib.Core.Bool.{true}
 use mathlib.Core.List.{List, [], _∷_, _++_}
@@ -9,13 +9,14 @@ use borrow.Author.Tests.{eqb-true}
 use lib.ListN.{length, getD, take, drop}
 use lib.Seq.{take-all, take-add, drop-drop}
 use lib.Dec.{eqb}
-use Rattle.lists.specs.Tab.{tab, over}
+use Rattle.lists.specs.Tab.{tab, joined, over}
 use Rattle.lists.proofs.BoolLaws.{both-true}
 use Rattle.lists.proofs.TabLaws as tabs
 use Rattle.answer.specs.Answers.{accepted}
 use Rattle.answer.specs.declared.Answer.the-variants.{Taken}
-use Rattle.image.specs.Bytes.{at1, at4}
+use Rattle.image.specs.Bytes.{at1, at4, le4}
 use Rattle.image.specs.Layout as im
+use Rattle.image.proofs.HeadLaws.{heads-at}
 use Rattle.image.specs.Refusals.{imageAnswer, readImage, writeAnswer, written}
 use Rattle.codec.proofs.Accepted as acc
 use Rattle.codec.proofs.Numbers as num
@@ -28,8 +29,8 @@ node-there s p b h =
     tabs.take-drop-tab s 0 p 9 h ∙ simp add-zero in
     ap₂ (λ (u v : List ℕ). getD s p 0 ∷ (u ++ v)) (num.byte4 s (p + 1) b) (num.byte4 s (p + 5) b) ∙ simp add-assoc (sym t)
 
-head-there : (s : List ℕ) → num.Bytes s → im.isImage s ≡ true → 10 ≤ length s → im.headBytes (at1 s 5) (at4 s 6) ≡ take 10 s
-unfolding im.marked im.headBytes tab
+head-there : (s : List ℕ) → num.Bytes s → im.isImage s ≡ true → 10 ≤ length s → im.headBytes (at1 s 5) (λ k. at4 s (6 + k * 4)) ≡ take 10 s
+unfolding im.marked im.headBytes im.headLines joined tab
 head-there s b m h =
     let m0 = both-true (eqb (getD s 0 0) 85) _ m in
     let m1 = both-true (eqb (getD s 1 0) 81) _ (m0 .1) in
@@ -42,6 +43,11 @@ head-there s b m h =
     let e4 : getD s 4 0 ≡ 0 = eqb-true _ _ (m3 .1) in
     ap (λ (l : List ℕ). 85 ∷ 81 ∷ 73 ∷ 1 ∷ 0 ∷ getD s 5 0 ∷ l) (num.byte4 s 6 b)
     ∙ sym (rw (e0, e1, e2, e3, e4) at (tabs.take-drop-tab s 0 0 10 h))
+
+-- the indices of the head lines that are read
+heads-there : (s : List ℕ) (n : ℕ) (x y : ℕ → ℕ) → ((k : ℕ) → k < im.headLines n → x k ≡ y k) → im.headBytes n x ≡ im.headBytes n y
+unfolding im.headBytes
+heads-there s n x y h = ap (λ (l : List ℕ). 85 ∷ 81 ∷ 73 ∷ 1 ∷ 0 ∷ n ∷ l) (tabs.joined-same (λ k. le4 (x k)) (λ k. le4 (y k)) (im.headLines n) (λ k p. ap le4 (h k p)))
 
 body-there : (s : List ℕ) (n : ℕ) → num.Bytes s → im.nodePlace n ≤ length s → im.bodyBytes (im.readNodes s n) n ≡ take (n * 9) (drop 10 s)
 unfolding im.bodyBytes im.readNodes
@@ -56,11 +62,11 @@ body-there s n b e =
 
 -- an image with bytes behind it: its own bytes come back
 pub part-again : (more : ℕ) (s : List ℕ) → num.Bytes s → accepted (imageAnswer more s) ≡ true → im.imageBytes (im.imageIn s) ≡ take (im.nodePlace (at1 s 5)) s
-unfolding im.imageBytes im.imageIn
+unfolding im.imageBytes im.imageIn im.readHeads
 part-again more s b h =
     let a = acc.part-taken more s h in
     let n = at1 s 5 in
-    ap₂ (λ (x y : List ℕ). x ++ y) (head-there s b (a .mark) (a .long)) (body-there s n b (omega (arith, a .size))) ∙ sym (take-add 10 (n * 9) s)
+    ap₂ (λ (x y : List ℕ). x ++ y) (heads-there s n _ (λ k. at4 s (6 + k * 4)) (λ k p. heads-at n (λ k. at4 s (6 + k * 4)) k p) ∙ head-there s b (a .mark) (a .long)) (body-there s n b (omega (arith, a .size))) ∙ sym (take-add 10 (n * 9) s)
 
 -- an image alone
 pub bytes-again : (s : List ℕ) → num.Bytes s → accepted (imageAnswer 0 s) ≡ true → im.imageBytes (im.imageIn s) ≡ s

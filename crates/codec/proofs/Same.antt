@@ -8,7 +8,7 @@ use Rattle.lists.specs.Find.{least}
 use Rattle.lists.proofs.FindLaws.{least-same, any-same}
 use Rattle.answer.specs.declared.Answer.{Answer}
 use Rattle.image.specs.Layout.{contentAt}
-use Rattle.image.specs.Recovered.{recovered, recoveredAt, twins, hasTwin, firstTwin, dummyOf, firstUnclear}
+use Rattle.image.specs.Recovered.{headOf, recovered, recoveredAt, twins, hasTwin, firstTwin, dummyOf, firstUnclear}
 use Rattle.image.specs.Refusals.{startable, sound}
 use Rattle.image.specs.declared.Content.{Content}
 use Rattle.image.specs.declared.Image.{Image}
@@ -16,7 +16,7 @@ use Rattle.image.specs.declared.Image.{Image}
 -- one node count, one head index, and the same contents below that count
 pub record Alike (g g′ : Image) : Type 0 where
   pub n : g .n ≡ g′ .n
-  pub head : g .head ≡ g′ .head
+  pub head : headOf g ≡ headOf g′
   pub nodes : (i : ℕ) → i < g .n → contentAt (g .nodes) i ≡ contentAt (g′ .nodes) i
 
 module _ (g g′ : Image) (a : Alike g g′) where

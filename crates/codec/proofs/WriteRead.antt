@@ -9,12 +9,13 @@ use borrow.Author.Tests.{eq-eqb, le-ltb}
 use lib.ListN.{length, getD, take, drop, length-append, take-append-drop}
 use lib.Seq.{getD-append-add, take-at, drop-at}
 use lib.Dec.{eqb, ltb}
-use Rattle.lists.specs.Tab.{tab, front}
+use Rattle.lists.specs.Tab.{tab, joined, front}
 use Rattle.lists.proofs.TabLaws as tabs
 use Rattle.answer.specs.Answers.{accepted}
 use Rattle.answer.specs.declared.Answer.the-variants.{Taken}
 use Rattle.image.specs.Bytes.{at1, at4}
 use Rattle.image.specs.Layout as im
+use Rattle.image.proofs.HeadLaws.{heads-at, heads-same, head-same}
 use Rattle.image.specs.Refusals.{sound, imageAnswer, readImage, writeAnswer, written}
 use Rattle.image.specs.declared.Content.{Content}
 use Rattle.image.specs.declared.Image.{Image}
@@ -26,35 +27,35 @@ use Rattle.codec.proofs.Same as same
 
 -- the numbers of 32 bits fit
 pub record Fits (g : Image) : Type 0 where
-  pub head : g .head < 2 ^ 32
+  pub head : (k : ℕ) → k < im.headLines (g .n) → im.headIn g k < 2 ^ 32
   pub index : (i : ℕ) → i < g .n → im.contentAt (g .nodes) i .index < 2 ^ 32
   pub item : (i : ℕ) → i < g .n → im.contentAt (g .nodes) i .item < 2 ^ 32
 
--- the same N, head index and nodes, and blank beyond
+-- the same N, head indices and nodes, and blank beyond
 abbrev pub trimmed : Image → Image
-trimmed g = record { n = g .n; head = g .head; nodes = front (im.contentAt (g .nodes)) (g .n) im.noContents }
+trimmed g = record { n = g .n; heads = im.headsOf (g .n) (im.headIn g); nodes = front (im.contentAt (g .nodes)) (g .n) im.noContents }
 
 pub trimmed-at : (g : Image) (i : ℕ) → i < g .n → im.contentAt (trimmed g .nodes) i ≡ im.contentAt (g .nodes) i
 trimmed-at g i p = tabs.front-at (im.contentAt (g .nodes)) (g .n) im.noContents i im.noContent p
 
 pub trimmed-alike : (g : Image) → same.Alike (trimmed g) g
-trimmed-alike g = record { n = refl; head = refl; nodes = trimmed-at g }
+trimmed-alike g = record { n = refl; head = head-same (trimmed g) g refl (heads-at (g .n) (im.headIn g)); nodes = trimmed-at g }
 
 pub trimmed-beyond : (g : Image) → drop (g .n) (trimmed g .nodes) ≡ drop (g .n) im.noContents
 unfolding front
 trimmed-beyond g =
     drop-at (tab (im.contentAt (g .nodes)) (g .n)) (drop (g .n) im.noContents) (g .n) (tabs.length-tab (im.contentAt (g .nodes)) (g .n))
 
--- where nothing stands beyond the nodes, nothing is trimmed
-pub trimmed-same : (g : Image) → g .n ≤ length (g .nodes) → drop (g .n) (g .nodes) ≡ drop (g .n) im.noContents → trimmed g ≡ g
+-- where nothing stands beyond the head lines and beyond the nodes, nothing is trimmed
+pub trimmed-same : (g : Image) → im.headsOf (g .n) (im.headIn g) ≡ g .heads → g .n ≤ length (g .nodes) → drop (g .n) (g .nodes) ≡ drop (g .n) im.noContents → trimmed g ≡ g
 unfolding front
-trimmed-same g l e =
+trimmed-same g x l e =
     let t : tab (im.contentAt (g .nodes)) (g .n) ≡ take (g .n) (g .nodes) =
     tabs.tab-same (im.contentAt (g .nodes)) (λ i. getD (g .nodes) (0 + i) im.noContent) (g .n) (λ i p. ap (im.contentAt (g .nodes)) (sym (zero-add i)))
     ∙ sym (tabs.take-drop-tab (g .nodes) im.noContent 0 (g .n) (omega arith)) in
     let e′ : front (im.contentAt (g .nodes)) (g .n) im.noContents ≡ g .nodes =
     ap₂ (λ (x y : List Content). x ++ y) t (sym e) ∙ take-append-drop (g .n) (g .nodes) in
-    λ k. record { n = g .n; head = g .head; nodes = e′ k }
+    λ k. record { n = g .n; heads = x k; nodes = e′ k }
 
 module _ (g : Image) where
   nodeOf : ℕ → List ℕ
@@ -62,10 +63,10 @@ module _ (g : Image) where
 
   -- byte j of node i
   at-node : (i j : ℕ) → i < g .n → j < 9 → getD (im.imageBytes g) (im.nodePlace i + j) 0 ≡ getD (nodeOf i) j 0
-  unfolding im.imageBytes im.headBytes im.bodyBytes nodeOf
+  unfolding im.imageBytes im.headBytes im.headLines joined im.bodyBytes nodeOf
   at-node i j p q =
       ap (λ (k : ℕ). getD (im.imageBytes g) k 0) (add-assoc 10 (i * 9) j)
-      ∙ getD-append-add (im.headBytes (g .n) (g .head)) (im.bodyBytes (g .nodes) (g .n)) (i * 9 + j) 0
+      ∙ getD-append-add (im.headBytes (g .n) (im.headIn g)) (im.bodyBytes (g .nodes) (g .n)) (i * 9 + j) 0
       ∙ tabs.getD-joined nodeOf 9 (g .n) i j 0 (λ k. refl) p q
 
   at-node₂ : (i j k : ℕ) → i < g .n → j + k < 9 → getD (im.imageBytes g) (im.nodePlace i + j + k) 0 ≡ getD (nodeOf i) (j + k) 0
@@ -92,16 +93,20 @@ module _ (g : Image) where
       (tabs.tab-same (λ i. im.readContent (im.imageBytes g) (im.nodePlace i)) (im.contentAt (g .nodes)) (g .n) (λ i p. node-back w i p))
 
   pub size-back : length (im.imageBytes g) ≡ im.nodePlace (g .n)
-  unfolding im.imageBytes im.headBytes
-  size-back = length-append (im.headBytes (g .n) (g .head)) (im.bodyBytes (g .nodes) (g .n)) ∙ ap (λ (k : ℕ). 10 + k) (laws.length-body (g .nodes) (g .n))
+  unfolding im.imageBytes im.headBytes im.headLines joined
+  size-back = length-append (im.headBytes (g .n) (im.headIn g)) (im.bodyBytes (g .nodes) (g .n)) ∙ ap (λ (k : ℕ). 10 + k) (laws.length-body (g .nodes) (g .n))
 
   count-back : at1 (im.imageBytes g) 5 ≡ g .n
   unfolding im.imageBytes im.headBytes
   count-back = refl
 
-  head-back : Fits g → at4 (im.imageBytes g) 6 ≡ g .head
-  unfolding im.imageBytes im.headBytes
-  head-back w = num.num4-le4 (g .head) (w .head)
+  heads-back : Fits g → (k : ℕ) → k < im.headLines (g .n) → at4 (im.imageBytes g) (6 + k * 4) ≡ im.headIn g k
+  unfolding im.imageBytes im.headBytes im.headLines joined
+  heads-back w k h = let z : k ≡ 0 = omega arith in rw z (num.num4-le4 (im.headIn g 0) (w .head 0 (omega arith)))
+
+  heads-again : Fits g → im.readHeads (im.imageBytes g) (g .n) ≡ trimmed g .heads
+  unfolding im.readHeads
+  heads-again w = heads-same (g .n) (λ k. at4 (im.imageBytes g) (6 + k * 4)) (im.headIn g) (heads-back w)
 
   mark-back : im.isImage (im.imageBytes g) ≡ true
   unfolding im.marked im.imageBytes im.headBytes
@@ -110,7 +115,7 @@ module _ (g : Image) where
   -- what the bytes of contents hold
   pub image-back : Fits g → im.imageIn (im.imageBytes g) ≡ trimmed g
   unfolding im.imageIn
-  image-back w = λ k. record { n = count-back k; head = head-back w k; nodes = (ap (im.readNodes (im.imageBytes g)) count-back ∙ nodes-back w) k }
+  image-back w = λ k. record { n = count-back k; heads = (ap (im.readHeads (im.imageBytes g)) count-back ∙ heads-again w) k; nodes = (ap (im.readNodes (im.imageBytes g)) count-back ∙ nodes-back w) k }
 
   answer-back : Fits g → (room : ℕ) → accepted (writeAnswer g room) ≡ true → imageAnswer 0 (im.imageBytes g) ≡ Taken
   unfolding imageAnswer
@@ -122,16 +127,16 @@ module _ (g : Image) where
       rw (image-back w) (same.sound-same (trimmed g) g (trimmed-alike g) Taken ∙ acc.sound-taken g Taken (t .clear)) in
       rw (long, mark-back, count-back, t .nodes, size, clear)
 
--- WRITTEN, THEN READ: the bytes are taken, and give the same N, head index and nodes, blank beyond
+-- WRITTEN, THEN READ: the bytes are taken, and give the same N, head indices and nodes, blank beyond
 pub contents-again : (g : Image) (room : ℕ) → Fits g → accepted (writeAnswer g room) ≡ true →
     readImage (im.imageBytes g) ≡ record { answer = Taken; image = trimmed g }
 unfolding readImage
 contents-again g room w h = rw (answer-back g w room h, image-back g w)
 
--- and contents with nothing beyond their nodes come back whole
-pub whole-again : (g : Image) (room : ℕ) → Fits g → g .n ≤ length (g .nodes) → drop (g .n) (g .nodes) ≡ drop (g .n) im.noContents →
+-- and contents with nothing beyond their head lines and nodes come back whole
+pub whole-again : (g : Image) (room : ℕ) → Fits g → im.headsOf (g .n) (im.headIn g) ≡ g .heads → g .n ≤ length (g .nodes) → drop (g .n) (g .nodes) ≡ drop (g .n) im.noContents →
     accepted (writeAnswer g room) ≡ true → readImage (im.imageBytes g) ≡ record { answer = Taken; image = g }
-whole-again g room w l e h = contents-again g room w h ∙ ap (λ (x : Image). record { answer = Taken; image = x }) (trimmed-same g l e)
+whole-again g room w x l e h = contents-again g room w h ∙ ap (λ (x : Image). record { answer = Taken; image = x }) (trimmed-same g x l e)
 
 -- what `write_image` leaves in a buffer: the image's bytes in front, and the rest as it was
 pub written-is : (g : Image) (b : List ℕ) → accepted (writeAnswer g (length b)) ≡ true → written g b ≡ im.imageBytes g ++ drop (im.nodePlace (g .n)) b

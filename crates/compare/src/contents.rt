@@ -32,6 +32,7 @@ pub fn contents_of(s: &[u8]) -> Image {
         i += 1;
     }
     let n = byte(s, 0);
-    let head = word(s, 1);
-    Image { n, head, nodes }
+    let mut heads = [0; 8];
+    heads[0] = word(s, 1);
+    Image { n, heads, nodes }
 }

@@ -21,7 +21,7 @@ use Rattle.schedule.specs.Run.{Bench, begins, andBefore, run}
 use Rattle.endtable.specs.Touches.{touchIn}
 use Rattle.endtable.specs.Opened.{openedTable, openedCounts}
 use Rattle.endtable.specs.Tables.{tableAfter, countsAfter}
-use Rattle.endtable.specs.Frame.{lineOf}
+use Rattle.endtable.specs.Frame.{lineOf, Even}
 use Rattle.endtable.specs.Benches.{turnedBy, benchAt, Stands}
 use Rattle.endtable.proofs.Steps as events
 use Rattle.endtable.proofs.Moments as moments
@@ -41,7 +41,7 @@ module _ (p : ℕ) (b : Bench) (e : Event) (t : List (List Content)) (cs : List 
   m′ = eventAt p (b .machine) e .machine
 
   -- an event that is no crash
-  pub stands-event : length (b .machine .kept) ≡ length (b .machine .nodes) → (deedOf (e .kind) ≡ crashes → ⊥)
+  pub stands-event : Even (b .machine) → (deedOf (e .kind) ≡ crashes → ⊥)
       → Stands (turnedBy p b e) (eventAt p (b .machine) e .machine)
       (tableAfter t cs (touchIn (b .machine) e) (cachedAt (eventAt p (b .machine) e .machine) (lineOf (eventAt p (b .machine) e .machine .n) (touchIn (b .machine) e))))
       (countsAfter t cs (touchIn (b .machine) e) (cachedAt (eventAt p (b .machine) e .machine) (lineOf (eventAt p (b .machine) e .machine .n) (touchIn (b .machine) e))))

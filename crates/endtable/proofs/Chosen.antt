@@ -8,11 +8,11 @@ use lib.ListN.{length, getD, take, drop, List·getD-append}
 use lib.Seq.{getD-at, take-suc, take-all}
 use Rattle.lists.specs.Tab.{tab}
 use Rattle.lists.proofs.TabLaws as tabs
-use Rattle.image.specs.Layout.{noContent, noContents, contentAt}
+use Rattle.image.specs.Layout.{noContent, noContents, contentAt, headLines}
 use Rattle.image.specs.declared.Content.{Content}
 use Rattle.image.specs.declared.Image.{Image}
-use Rattle.machine.specs.Line.{headLines, lineCount}
-use Rattle.machine.proofs.LineLaws.{one-head}
+use Rattle.machine.specs.Line.{lineCount}
+use Rattle.image.proofs.HeadLaws.{heads-same}
 use Rattle.page.specs.Endings.{choices, product, imageOf, ending}
 use Rattle.endtable.specs.Opened.{blankCounts}
 use Rattle.endtable.specs.Picks.{prod, digits, Ready, pickedAt, pickedNode, pickedImage, picksOf, endingFrom}
@@ -82,8 +82,8 @@ pub record Fits (lists : List (List Content)) : Type 0 where
   pub some : (l : ℕ) → l < length lists → 0 < length (getD lists l [])
   pub few : (l : ℕ) → l < length lists → length (getD lists l []) ≤ 16
 
-abbrev made : ℕ → ℕ → List Content → Image
-made n x y = record { n = n; head = x; nodes = y }
+abbrev made : ℕ → List ℕ → List Content → Image
+made n x y = record { n = n; heads = x; nodes = y }
 
 module _ (t : List (List Content)) (cs : List ℕ) (lists : List (List Content)) (h : Tables t cs lists) where
   -- then the counts are the lengths, and the endings can be picked
@@ -106,7 +106,7 @@ module _ (t : List (List Content)) (cs : List ℕ) (lists : List (List Content))
   pub ending-is : (n k : ℕ) → length lists ≡ lineCount n → Fits lists → k < product lists → endingFrom t cs n k ≡ ending n lists k
   unfolding endingFrom picksOf pickedImage ending imageOf
   ending-is n k e f p =
-      ap₂ (λ (x : Content) (y : List Content). made n (x .index) y) (at 0 (omega (arith, one-head n)))
+      ap₂ (made n) (heads-same n (λ j. pickedAt t ps j .index) (λ j. contentAt (getD (choices lists) k []) j .index) (λ j h. ap (λ (x : Content). x .index) (at j (omega arith))))
       (tabs.front-same (pickedNode t ps n) (λ i. contentAt (getD (choices lists) k []) (headLines n + i)) n noContents (λ i q. at (headLines n + i) (omega arith)))
     where
       ps : List ℕ

@@ -10,12 +10,13 @@ use lib.ListN.{length, getD, drop, length-append, length-map, List·getD-append}
 use lib.Seq.{getD-at, ext-getD}
 use Rattle.lists.proofs.FindLaws as find
 use Rattle.lists.proofs.TabLaws as tabs
-use Rattle.image.specs.Layout.{noContent, noContents, contentAt, sameContent}
+use Rattle.image.specs.Layout.{noContent, noContents, contentAt, sameContent, headLines, noHeads, headIn}
 use Rattle.image.specs.declared.Content.{Content}
 use Rattle.image.specs.declared.Image.{Image}
-use Rattle.machine.specs.Line.{Line, ofHead, headLines, lineCount, lineAt, headContent, cachedAt, persistedAt}
+use Rattle.machine.specs.Line.{Line, ofHead, lineCount, lineAt, headContent, cachedAt, persistedAt}
 use Rattle.machine.specs.declared.Machine.{Machine}
-use Rattle.machine.proofs.LineLaws.{one-head, line-zero}
+use Rattle.image.proofs.HeadLaws.{one-head, heads-at}
+use Rattle.machine.proofs.LineLaws.{line-zero}
 use Rattle.schedule.specs.Run.{Bench}
 use Rattle.page.specs.Contents.{joins, gathered, contentsOf, tableOf}
 use Rattle.page.specs.Endings.{choices, product, imageOf, endings}
@@ -136,16 +137,20 @@ image-injective n c d p q g h e = ext-getD noContent c d (p ∙ sym q) (λ i r. 
         ∙ ap (λ (x : Image). contentAt (x .nodes) i) e
         ∙ tabs.front-at (λ j. contentAt d (headLines n + j)) n noContents i noContent r
 
+    head : (k : ℕ) → k < headLines n → contentAt c k .index ≡ contentAt d k .index
+    head k r =
+        sym (heads-at n (λ j. contentAt c j .index) k r) ∙ ap (λ (x : Image). headIn x k) e ∙ heads-at n (λ j. contentAt d j .index) k r
+
     at : (i : ℕ) → i < lineCount n → contentAt c i ≡ contentAt d i
     at i r = by (decLt i (headLines n))
       where
         by : Dec (i < headLines n) → contentAt c i ≡ contentAt d i
-        by (yes p) = let z : i ≡ 0 = omega (arith, one-head n) in rw z (g ∙ ap headContent (ap (λ (x : Image). x .head) e) ∙ sym h)
+        by (yes p) = let z : i ≡ 0 = omega (arith, one-head n) in rw z (g ∙ ap headContent (head 0 (omega arith)) ∙ sym h)
         by (no p) = let z : i ≡ headLines n + (i - headLines n) = omega arith in rw z (node (i - headLines n) (omega arith))
 
 -- what an image beyond the last ending reads as
 abbrev pub noImage : Image
-noImage = record { n = 0; head = 0; nodes = noContents }
+noImage = record { n = 0; heads = noHeads; nodes = noContents }
 
 module _ (n : ℕ) (line : List Content) (rest : List (List Content)) (size : length (line ∷ rest) ≡ lineCount n) (head : (j : ℕ) → j < length line → OfHead (contentAt line j)) where
   choice-head : (k : ℕ) → k < product (line ∷ rest) → OfHead (contentAt (getD (choices (line ∷ rest)) k []) 0)

@@ -9,24 +9,24 @@ use native.Mathlib.Decide.{decLt}
 use lib.ListN.{length, getD, set, List·getD-map, List·getD-eq-default}
 use lib.Seq.{getD-set-same, getD-set-other, set-out, map-set-same}
 use Rattle.lists.specs.Find.{pick}
-use Rattle.image.specs.Layout.{noContent}
-use Rattle.machine.specs.Record.{zeroNode, node, contentOf, putNode, putHead}
-use Rattle.machine.specs.Line.{Line, ofHead, ofNode, headLines, lineAt, cachedAt, persistedAt, persist}
+use Rattle.image.specs.Layout.{noContent, headLines}
+use Rattle.machine.specs.Record.{zeroNode, node, headAt, contentOf, putNode, putHead}
+use Rattle.machine.specs.Line.{Line, ofHead, ofNode, lineAt, headContent, cachedAt, persistedAt, persist}
 use Rattle.machine.specs.Retire.{releasedAt, released, retired}
 use Rattle.machine.specs.declared.Machine.{Machine}
 use Rattle.machine.specs.declared.Node.{Node}
 use Rattle.machine.proofs.LineLaws.{line-node, line-zero}
 use Rattle.endtable.specs.declared.touch.Touch.{Touch}
 use Rattle.endtable.specs.Touches.{storedTo, persistedLine}
-use Rattle.endtable.specs.Frame.{lineOf, Frame}
+use Rattle.endtable.specs.Frame.{lineOf, Even, Frame}
 
 -- ---- the same contents
 
 pub record Same (m m′ : Machine) : Type 0 where
   pub size : m′ .n ≡ m .n
-  pub index : m′ .index ≡ m .index
+  pub index : m′ .heads ≡ m .heads
   pub nodes : map contentOf (m′ .nodes) ≡ map contentOf (m .nodes)
-  pub head : m′ .«kept_head» ≡ m .«kept_head»
+  pub head : m′ .«kept_heads» ≡ m .«kept_heads»
   pub kept : m′ .kept ≡ m .kept
 
 pub same-self : (m : Machine) → Same m m
@@ -82,14 +82,12 @@ same-retired m k x = record {
 
 module _ (m m′ : Machine) (s : Same m m′) where
   pub same-cached : (l : Line) → cachedAt m′ l ≡ cachedAt m l
-  same-cached (ofHead zero) = rw (s .index)
-  same-cached (ofHead (suc k)) = refl
+  same-cached (ofHead k) = rw (s .index)
   same-cached (ofNode i) =
       sym (List·getD-map contentOf (m′ .nodes) i zeroNode) ∙ ap (λ c. getD c i noContent) (s .nodes) ∙ List·getD-map contentOf (m .nodes) i zeroNode
 
   pub same-persisted : (l : Line) → persistedAt m′ l ≡ persistedAt m l
-  same-persisted (ofHead zero) = rw (s .head)
-  same-persisted (ofHead (suc k)) = refl
+  same-persisted (ofHead k) = rw (s .head)
   same-persisted (ofNode i) = rw (s .kept)
 
   -- an event that may store finds nothing to store, or touches no line
@@ -126,13 +124,11 @@ frame-node m i v = record {
 }
   where
     at : (l : Line) → (l ≡ ofNode i → ⊥) → cachedAt (putNode m i v) l ≡ cachedAt m l
-    at (ofHead zero) ne = refl
-    at (ofHead (suc k)) ne = refl
+    at (ofHead k) ne = refl
     at (ofNode j) ne = ap contentOf (getD-set-other (m .nodes) i j v zeroNode (λ e. ne (ap ofNode e)))
 
     stays : (l : Line) → persistedAt (putNode m i v) l ≡ persistedAt m l
-    stays (ofHead zero) = refl
-    stays (ofHead (suc k)) = refl
+    stays (ofHead k) = refl
     stays (ofNode j) = refl
 
 pub frame-head : (m : Machine) (h x : ℕ) → Frame m (putHead m h x) (storedTo 0)
@@ -144,40 +140,31 @@ frame-head m h x = record {
 }
   where
     at : (l : Line) → (l ≡ ofHead 0 → ⊥) → cachedAt (putHead m h x) l ≡ cachedAt m l
-    at (ofHead zero) ne = absurd (ne refl)
-    at (ofHead (suc k)) ne = refl
+    at (ofHead k) ne = ap headContent (getD-set-other (m .heads) 0 k x 0 (λ e. ne (ap ofHead e)))
     at (ofNode j) ne = refl
 
     stays : (l : Line) → persistedAt (putHead m h x) l ≡ persistedAt m l
-    stays (ofHead zero) = refl
-    stays (ofHead (suc k)) = refl
+    stays (ofHead k) = refl
     stays (ofNode j) = refl
 
 -- ---- one persist
 
 pub persist-size : (m : Machine) (l : Line) → persist m l .n ≡ m .n
-persist-size m (ofHead zero) = refl
-persist-size m (ofHead (suc k)) = refl
+persist-size m (ofHead k) = refl
 persist-size m (ofNode i) = refl
 
 -- every cached copy stays
 pub persist-cached : (m : Machine) (l j : Line) → cachedAt (persist m l) j ≡ cachedAt m j
-persist-cached m (ofHead zero) (ofHead zero) = refl
-persist-cached m (ofHead zero) (ofHead (suc k)) = refl
-persist-cached m (ofHead zero) (ofNode j) = refl
-persist-cached m (ofHead (suc k)) j = refl
-persist-cached m (ofNode i) (ofHead zero) = refl
-persist-cached m (ofNode i) (ofHead (suc k)) = refl
+persist-cached m (ofHead k) (ofHead j) = refl
+persist-cached m (ofHead k) (ofNode j) = refl
+persist-cached m (ofNode i) (ofHead k) = refl
 persist-cached m (ofNode i) (ofNode j) = refl
 
 -- and every other persisted one
 persist-other : (m : Machine) (l j : Line) → (j ≡ l → ⊥) → persistedAt (persist m l) j ≡ persistedAt m j
-persist-other m (ofHead zero) (ofHead zero) ne = absurd (ne refl)
-persist-other m (ofHead zero) (ofHead (suc k)) ne = refl
-persist-other m (ofHead zero) (ofNode j) ne = refl
-persist-other m (ofHead (suc k)) j ne = refl
-persist-other m (ofNode i) (ofHead zero) ne = refl
-persist-other m (ofNode i) (ofHead (suc k)) ne = refl
+persist-other m (ofHead k) (ofHead j) ne = ap headContent (getD-set-other (m .«kept_heads») k j (headAt m k) 0 (λ q. ne (ap ofHead q)))
+persist-other m (ofHead k) (ofNode j) ne = refl
+persist-other m (ofNode i) (ofHead k) ne = refl
 persist-other m (ofNode i) (ofNode j) ne = getD-set-other (m .kept) i j (contentOf (node m i)) noContent (λ q. ne (ap ofNode q))
 
 -- beyond the tables both copies are blank
@@ -189,13 +176,20 @@ put-kept m i e = by (decLt i (length (m .kept)))
     by (no p) =
         rw (set-out (m .kept) i (contentOf (node m i)) (omega arith), List·getD-eq-default (m .kept) noContent {n = i} (omega arith), List·getD-eq-default (m .nodes) zeroNode {n = i} (omega arith))
 
-persist-present : (m : Machine) (l : Line) → length (m .kept) ≡ length (m .nodes) → persistedAt (persist m l) l ≡ cachedAt (persist m l) l
-persist-present m (ofHead zero) e = refl
-persist-present m (ofHead (suc k)) e = refl
-persist-present m (ofNode i) e = put-kept m i e
+put-kept-head : (m : Machine) (k : ℕ) → length (m .«kept_heads») ≡ length (m .heads) → getD (set (m .«kept_heads») k (headAt m k)) k 0 ≡ headAt m k
+put-kept-head m k e = by (decLt k (length (m .«kept_heads»)))
+  where
+    by : Dec (k < length (m .«kept_heads»)) → getD (set (m .«kept_heads») k (headAt m k)) k 0 ≡ headAt m k
+    by (yes p) = getD-set-same (m .«kept_heads») k (headAt m k) 0 p
+    by (no p) =
+        rw (set-out (m .«kept_heads») k (headAt m k) (omega arith), List·getD-eq-default (m .«kept_heads») 0 {n = k} (omega arith), List·getD-eq-default (m .heads) 0 {n = k} (omega arith))
+
+persist-present : (m : Machine) (l : Line) → Even m → persistedAt (persist m l) l ≡ cachedAt (persist m l) l
+persist-present m (ofHead k) e = ap headContent (put-kept-head m k (e .1))
+persist-present m (ofNode i) e = put-kept m i (e .0)
 
 -- line l, whose number is x
-pub frame-persist : (m : Machine) (l : Line) (x : ℕ) → lineAt (m .n) x ≡ l → length (m .kept) ≡ length (m .nodes) → Frame m (persist m l) (persistedLine x)
+pub frame-persist : (m : Machine) (l : Line) (x : ℕ) → lineAt (m .n) x ≡ l → Even m → Frame m (persist m l) (persistedLine x)
 frame-persist m l x is e = record {
   size = persist-size m l;
   cached = λ j p. persist-cached m l j;

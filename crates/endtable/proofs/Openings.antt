@@ -7,12 +7,13 @@ use native.Mathlib.Omega.{arith}
 use native.Mathlib.Nat.{pos-of-ne-zero}
 use Rattle.lists.specs.Tab.{front}
 use Rattle.lists.proofs.TabLaws as tabs
-use Rattle.image.specs.Layout.{noContents, contentAt}
+use Rattle.image.specs.Layout.{noContents, contentAt, headLines}
 use Rattle.image.specs.declared.Content.{Content}
-use Rattle.machine.specs.Record.{node, kept, contentOf}
-use Rattle.machine.specs.Line.{headContent, headLines, lineAt, cachedAt}
+use Rattle.machine.specs.Record.{node, kept, headAt, keptHead, contentOf}
+use Rattle.machine.specs.Line.{headContent, lineAt, cachedAt}
 use Rattle.machine.specs.declared.Machine.{Machine}
-use Rattle.machine.proofs.LineLaws.{one-head, line-zero, line-next, line-before}
+use Rattle.image.proofs.HeadLaws.{one-head}
+use Rattle.machine.proofs.LineLaws.{line-zero, line-next, line-before}
 use Rattle.endtable.specs.Opened.{blankTable, blankCounts, openedRow, openedCount, lineOpened, lineCounted, openedTable, openedCounts}
 use Rattle.endtable.specs.Picks.{pickedAt, pickedNode}
 
@@ -29,10 +30,10 @@ unfolding noContents
 length-no-contents = refl
 
 module _ (m : Machine) where
-  pub table-first : set blankTable 0 (openedRow (headContent (m .«kept_head»)) (headContent (m .index))) ≡ openedTable m (0 + 1)
+  pub table-first : set blankTable 0 (openedRow (headContent (keptHead m 0)) (headContent (headAt m 0))) ≡ openedTable m (0 + 1)
   unfolding openedTable
   table-first =
-      let e : openedRow (headContent (m .«kept_head»)) (headContent (m .index)) ≡ lineOpened m 0 = rw (line-zero (m .n)) in
+      let e : openedRow (headContent (keptHead m 0)) (headContent (headAt m 0)) ≡ lineOpened m 0 = rw (line-zero (m .n)) in
       ap (set blankTable 0) e
       ∙ ap (λ (l : List (List Content)). set l 0 (lineOpened m 0)) (tabs.front-none (lineOpened m) blankTable)
       ∙ tabs.front-next (lineOpened m) 0 blankTable (omega (arith, length-blank-table))
@@ -43,10 +44,10 @@ module _ (m : Machine) where
       let e : openedRow (kept m i) (contentOf (node m i)) ≡ lineOpened m (i + 1) = rw (line-next (m .n) i) in
       ap (set (front (lineOpened m) (i + 1) blankTable) (i + 1)) e ∙ tabs.front-next (lineOpened m) (i + 1) blankTable (omega (arith, length-blank-table))
 
-  pub counts-first : set blankCounts 0 (openedCount (headContent (m .«kept_head»)) (headContent (m .index))) ≡ openedCounts m (0 + 1)
+  pub counts-first : set blankCounts 0 (openedCount (headContent (keptHead m 0)) (headContent (headAt m 0))) ≡ openedCounts m (0 + 1)
   unfolding openedCounts
   counts-first =
-      let e : openedCount (headContent (m .«kept_head»)) (headContent (m .index)) ≡ lineCounted m 0 = rw (line-zero (m .n)) in
+      let e : openedCount (headContent (keptHead m 0)) (headContent (headAt m 0)) ≡ lineCounted m 0 = rw (line-zero (m .n)) in
       ap (set blankCounts 0) e
       ∙ ap (λ (l : List ℕ). set l 0 (lineCounted m 0)) (tabs.front-none (lineCounted m) blankCounts)
       ∙ tabs.front-next (lineCounted m) 0 blankCounts (omega (arith, length-blank-counts))
@@ -67,7 +68,7 @@ picked-next t ps n i h =
     ∙ tabs.front-next (pickedNode t ps n) i noContents (omega (arith, length-no-contents))
 
 -- a line by its number
-pub cached-head : (m : Machine) (l : ℕ) → l ≡ 0 → headContent (m .index) ≡ cachedAt m (lineAt (m .n) l)
+pub cached-head : (m : Machine) (l : ℕ) → l ≡ 0 → headContent (headAt m 0) ≡ cachedAt m (lineAt (m .n) l)
 cached-head m l e = rw (e, line-zero (m .n))
 
 pub cached-node : (m : Machine) (l : ℕ) → (l ≡ 0 → ⊥) → contentOf (node m (l - 1)) ≡ cachedAt m (lineAt (m .n) l)

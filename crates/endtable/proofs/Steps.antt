@@ -8,9 +8,10 @@ use lib.Dec.{eqb}
 use Rattle.lists.specs.Find.{pick, both}
 use Rattle.answer.specs.Answers.{accepted}
 use Rattle.answer.specs.declared.Answer.{Answer}
-use Rattle.machine.specs.Record.{none, top, node, thread, withItem, withNext, withLinked, withIndex, putNode, putTail}
+use Rattle.machine.specs.Record.{none, top, node, thread, headAt, withItem, withNext, withLinked, withIndex, putNode, putTail}
 use Rattle.machine.specs.Stage.{Stage, noStep, A1, A2, A3, A4, A5, A6, A7, A8, A9, A10, A11, A12, D1, D2, D3, D4, D5, D6, D7, stage}
-use Rattle.machine.specs.Line.{ofHead, ofNode, headLines, lineAt, persist}
+use Rattle.image.specs.Layout.{headLines}
+use Rattle.machine.specs.Line.{ofHead, ofNode, lineAt, persist}
 use Rattle.machine.specs.Retire.{left, freed, released, retired, retiredHeld}
 use Rattle.machine.specs.Event.{Deed, unknown, enqueues, dequeues, steps, writesBack, crashes, deedOf, eventAnswer, stepped, done, ifTaken, eventAt}
 use Rattle.machine.specs.declared.Machine.{Machine}
@@ -20,7 +21,7 @@ use Rattle.machine.proofs.LineLaws.{line-node, line-zero}
 use Rattle.schedule.specs.Run.{aLine, stepPersists, persists, Bench, goesOn, turned}
 use Rattle.endtable.specs.declared.touch.Touch.{Touch}
 use Rattle.endtable.specs.Touches.{storedTo, persistedLine, stageTouch, stepTouch, touches, touchIn}
-use Rattle.endtable.specs.Frame.{persistsOf, Frame}
+use Rattle.endtable.specs.Frame.{persistsOf, Even, Frame}
 use Rattle.endtable.proofs.Frame as frame
 
 -- ---- which line an event persists is as the run has it
@@ -68,7 +69,7 @@ answers m a k x s =
     record { size = r .size; index = r .index; nodes = r .nodes; head = r .head; kept = r .kept }
 
 -- a thread moves on, and the contents are those of a
-moves : (m a b : Machine) → frame.Same m a → b .n ≡ a .n → b .index ≡ a .index → b .nodes ≡ a .nodes → b .«kept_head» ≡ a .«kept_head» → b .kept ≡ a .kept → frame.Same m b
+moves : (m a b : Machine) → frame.Same m a → b .n ≡ a .n → b .heads ≡ a .heads → b .nodes ≡ a .nodes → b .«kept_heads» ≡ a .«kept_heads» → b .kept ≡ a .kept → frame.Same m b
 moves m a b s p q r t u = record {
   size = p ∙ s .size;
   index = q ∙ s .index;
@@ -82,14 +83,14 @@ module _ (m : Machine) (k : ℕ) where
   pickOut true a b w p q = p
   pickOut false a b w p q = q
 
-  here : (a : Machine) → a .n ≡ m .n → a .index ≡ m .index → a .nodes ≡ m .nodes → a .«kept_head» ≡ m .«kept_head» → a .kept ≡ m .kept → frame.Same m a
+  here : (a : Machine) → a .n ≡ m .n → a .heads ≡ m .heads → a .nodes ≡ m .nodes → a .«kept_heads» ≡ m .«kept_heads» → a .kept ≡ m .kept → frame.Same m a
   here a = moves m m a (frame.same-self m)
 
   -- what a machine a with the frame w is after its thread moved
-  on : (a b : Machine) (w : Touch) → Frame m a w → b .n ≡ a .n → b .index ≡ a .index → b .nodes ≡ a .nodes → b .«kept_head» ≡ a .«kept_head» → b .kept ≡ a .kept → Frame m b w
+  on : (a b : Machine) (w : Touch) → Frame m a w → b .n ≡ a .n → b .heads ≡ a .heads → b .nodes ≡ a .nodes → b .«kept_heads» ≡ a .«kept_heads» → b .kept ≡ a .kept → Frame m b w
   on a b w f p q r t u = frame.frame-then m a b w f (moves a a b (frame.same-self a) p q r t u)
 
-  pub frame-step : length (m .kept) ≡ length (m .nodes) → (s : Stage) → Frame m (stepped m k s .machine) (stageTouch (headLines (m .n)) (thread m k .node) s)
+  pub frame-step : Even m → (s : Stage) → Frame m (stepped m k s .machine) (stageTouch (headLines (m .n)) (thread m k .node) s)
   frame-step h noStep = quiet m m (frame.same-self m)
   frame-step h A1 =
       pickOut (eqb (m .free) 0) _ _ (storedTo 65)
@@ -132,7 +133,7 @@ module _ (m : Machine) (k : ℕ) where
       frame.frame-then m p _ (persistedLine 0) (frame.frame-persist m (ofHead 0) 0 (line-zero (m .n)) h) (answers p p k (thread m k .held) (frame.same-self p))
   frame-step h D4 =
       let x = thread m k .next in
-      pickOut (both (eqb (m .head) (thread m k .head)) (eqb (m .index) (thread m k .index))) _ _ (storedTo 0)
+      pickOut (both (eqb (m .head) (thread m k .head)) (eqb (headAt m 0) (thread m k .index))) _ _ (storedTo 0)
       (on _ _ _ (frame.frame-head m x (node m x .index)) refl refl refl refl refl)
       (frame.frame-same m _ (here _ refl refl refl refl refl) 0)
   frame-step h D5 = quiet m _ (here _ refl refl refl refl refl)
@@ -144,7 +145,7 @@ module _ (m : Machine) (k : ℕ) where
 
 -- ---- the events
 
-pub frame-done : (m : Machine) (e : Event) (d : Deed) → length (m .kept) ≡ length (m .nodes) → (d ≡ crashes → ⊥) → Frame m (done m e d .machine) (touches m e d)
+pub frame-done : (m : Machine) (e : Event) (d : Deed) → Even m → (d ≡ crashes → ⊥) → Frame m (done m e d .machine) (touches m e d)
 unfolding stepTouch
 frame-done m e unknown h ne = quiet m m (frame.same-self m)
 frame-done m e enqueues h ne = quiet m _ (here m 0 _ refl refl refl refl refl)
@@ -167,7 +168,7 @@ unfolding eventAt
 event-done p m e h = taken (eventAnswer p m e (deedOf (e .kind))) m e (deedOf (e .kind)) h
 
 -- what any taken event but a crash leaves alone
-pub frame-event : (p : ℕ) (m : Machine) (e : Event) → length (m .kept) ≡ length (m .nodes) → accepted (eventAt p m e .answer) ≡ true
+pub frame-event : (p : ℕ) (m : Machine) (e : Event) → Even m → accepted (eventAt p m e .answer) ≡ true
     → (deedOf (e .kind) ≡ crashes → ⊥) → Frame m (eventAt p m e .machine) (touchIn m e)
 unfolding touchIn
 frame-event p m e h a ne = rw (event-done p m e a) (frame-done m e (deedOf (e .kind)) h ne)

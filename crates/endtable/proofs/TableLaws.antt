@@ -19,7 +19,8 @@ use Rattle.machine.specs.Line.{Line, lineCount, lineAt, cachedAt, persistedAt}
 use Rattle.machine.specs.Event.{crashes, deedOf, eventAt}
 use Rattle.machine.specs.declared.Machine.{Machine}
 use Rattle.machine.specs.declared.Event.{Event}
-use Rattle.machine.proofs.LineLaws.{one-head, line-one}
+use Rattle.image.proofs.HeadLaws.{one-head}
+use Rattle.machine.proofs.LineLaws.{line-one}
 use Rattle.schedule.specs.Run.{noLine, aLine, Bench, begins, goesOn, turned}
 use Rattle.page.specs.Contents.{contentsOf, tableOf}
 use Rattle.endtable.specs.declared.touch.Touch.{Touch}
@@ -28,7 +29,7 @@ use Rattle.endtable.specs.Touches.{touchIn}
 use Rattle.endtable.specs.Opened.{blankTable, blankCounts, lineOpened, lineCounted, openedTable, openedCounts}
 use Rattle.endtable.specs.Tables.{Held, Tables, tableAfter, countsAfter}
 use Rattle.endtable.specs.Moments.{Timed}
-use Rattle.endtable.specs.Frame.{lineOf, persistsOf, Frame}
+use Rattle.endtable.specs.Frame.{lineOf, persistsOf, Even, Frame}
 use Rattle.endtable.proofs.RowLaws as rows
 use Rattle.endtable.proofs.Openings as openings
 use Rattle.endtable.proofs.Moments as moments
@@ -154,7 +155,7 @@ module _ (b : Bench) (timed : Timed b) (small : b .machine .n ≤ 64) (m : Machi
           (tables-still t cs (tableOf b) (tableOf after) h size (λ l q. others l q (λ e. omega (arith, one-head (b .machine .n), moments.table-length b))))
 
 -- a taken event that is no crash, as a run turns by it
-pub tables-event : (p : ℕ) (b : Bench) (e : Event) → Timed b → b .machine .n ≤ 64 → length (b .machine .kept) ≡ length (b .machine .nodes)
+pub tables-event : (p : ℕ) (b : Bench) (e : Event) → Timed b → b .machine .n ≤ 64 → Even (b .machine)
     → accepted (eventAt p (b .machine) e .answer) ≡ true → (deedOf (e .kind) ≡ crashes → ⊥) → (t : List (List Content)) (cs : List ℕ) → Tables t cs (tableOf b)
     → Tables (tableAfter t cs (touchIn (b .machine) e) (cachedAt (eventAt p (b .machine) e .machine) (lineOf (eventAt p (b .machine) e .machine .n) (touchIn (b .machine) e))))
     (countsAfter t cs (touchIn (b .machine) e) (cachedAt (eventAt p (b .machine) e .machine) (lineOf (eventAt p (b .machine) e .machine .n) (touchIn (b .machine) e))))

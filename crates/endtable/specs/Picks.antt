@@ -9,7 +9,7 @@ use Rattle.lists.specs.Tab.{front}
 use Rattle.answer.specs.Answers.{check}
 use Rattle.answer.specs.declared.Answer.{Answer}
 use Rattle.answer.specs.declared.Answer.the-variants.{Taken, Contents, Endings}
-use Rattle.image.specs.Layout.{contentAt, noContents}
+use Rattle.image.specs.Layout.{contentAt, noContents, headsOf}
 use Rattle.image.specs.declared.Content.{Content}
 use Rattle.image.specs.declared.Image.{Image}
 use Rattle.machine.specs.Line.{ofHead, ofNode, lineCount, numberOf}
@@ -74,7 +74,7 @@ pickedNode t ps n i = pickedAt t ps (numberOf n (ofNode i))
 unfoldable pub pickedImage : List (List Content) → List ℕ → ℕ → Image
 pickedImage t ps n = record {
   n = n;
-  head = pickedAt t ps (numberOf n (ofHead 0)) .index;
+  heads = headsOf n (λ k. pickedAt t ps (numberOf n (ofHead k)) .index);
   nodes = front (pickedNode t ps n) n noContents;
 }
 

@@ -1,9 +1,9 @@
 -- Which line an event stores to, and which it persists. No event does both.
 use Prim.Native.Nat.{ℕ, _+_}
 use mathlib.Core.Bool.{true, false}
+use Rattle.image.specs.Layout.{headLines}
 use Rattle.machine.specs.Record.{thread}
 use Rattle.machine.specs.Stage.{Stage, noStep, A1, A2, A3, A4, A5, A6, A7, A8, A9, A10, A11, A12, D1, D2, D3, D4, D5, D6, D7, stageOf}
-use Rattle.machine.specs.Line.{headLines}
 use Rattle.machine.specs.Event.{Deed, unknown, enqueues, dequeues, steps, writesBack, crashes, deedOf}
 use Rattle.machine.specs.declared.Machine.{Machine}
 use Rattle.machine.specs.declared.Thread.{Thread}

@@ -9,6 +9,7 @@ use answer::Answer;
 use image::Content;
 use image::Image;
 use image::no_contents;
+use image::no_heads;
 use machine::Machine;
 
 // The first line with more than 16 contents, and the number of lines where none has.
@@ -98,9 +99,7 @@ pub fn ending_image(t: [[Content; 16]; 65], picks: [u8; 65], n: u8) -> Image
     }
     let j = picks[0] as usize;
     let head = t[0][j];
-    Image {
-        n,
-        head: head.index,
-        nodes,
-    }
+    let mut heads = no_heads();
+    heads[0] = head.index;
+    Image { n, heads, nodes }
 }

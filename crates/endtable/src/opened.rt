@@ -37,7 +37,7 @@ pub fn cached_at(m: Machine, l: usize) -> Content
     ensures { λ r. ⌜ r ≡ cachedAt m (lineAt (m .n) l) ⌝ }
 {
     if l == 0 {
-        return head_content(m.index);
+        return head_content(m.heads[0]);
     }
     let v = m.nodes[l - 1];
     content_of(v)
@@ -90,7 +90,7 @@ pub fn opened_table(m: Machine) -> [[Content; 16]; 65]
     ensures { λ r. ⌜ r ≡ openedTable m (lineCount (m .n)) ⌝ }
 {
     let mut t = blank_table();
-    let head = opened_row(head_content(m.kept_head), head_content(m.index));
+    let head = opened_row(head_content(m.kept_heads[0]), head_content(m.heads[0]));
     t[0] = head;
     let n = m.n as usize;
     let mut i = 0;
@@ -109,7 +109,7 @@ pub fn opened_counts(m: Machine) -> [u8; 65]
     ensures { λ r. ⌜ r ≡ openedCounts m (lineCount (m .n)) ⌝ }
 {
     let mut counts = blank_counts();
-    counts[0] = opened_count(head_content(m.kept_head), head_content(m.index));
+    counts[0] = opened_count(head_content(m.kept_heads[0]), head_content(m.heads[0]));
     let n = m.n as usize;
     let mut i = 0;
     while i < n {

@@ -9,7 +9,7 @@ use Rattle.lists.specs.Word.{without}
 use Rattle.answer.specs.Answers.{accepted}
 use Rattle.answer.specs.declared.Answer.{Answer}
 use Rattle.answer.specs.declared.Answer.the-variants.{Full, WornOut, Record}
-use Rattle.machine.specs.Record.{none, top, node, thread, ownNode, withNext, withIndex, putNode, putFree, putHead}
+use Rattle.machine.specs.Record.{none, top, node, thread, ownNode, withNext, withIndex, putNode, putFree, putHead, headAt}
 use Rattle.machine.specs.Stage.{Stage, noStep, A1, A2, A3, A4, A5, A6, A7, A8, A9, A10, A11, A12, D1, D2, D3, D4, D5, D6, D7, stage}
 use Rattle.machine.specs.Retire.{out, moving, going, answering, nextFree, freed}
 use Rattle.machine.specs.Event.{Deed, unknown, enqueues, dequeues, steps, writesBack, crashes, deedOf, eventAnswer, done, stepped, eventAt, eventOn}
@@ -54,7 +54,7 @@ step-taken m k D2 = refl
 step-taken m k D3 = refl
 step-taken m k D4 =
     let x = thread m k .next in
-    pick-fine (both (eqb (m .head) (thread m k .head)) (eqb (m .index) (thread m k .index))) (going (putHead m x (node m x .index)) k 17)
+    pick-fine (both (eqb (m .head) (thread m k .head)) (eqb (headAt m 0) (thread m k .index))) (going (putHead m x (node m x .index)) k 17)
     (going m k 13) refl refl
 step-taken m k D5 = refl
 step-taken m k D6 = refl

@@ -11,8 +11,8 @@ use Rattle.lists.specs.Word.{has, with, without, wordOf}
 use Rattle.answer.specs.Answers.{told, accepted, replied}
 use Rattle.answer.specs.declared.Answer.{Answer}
 use Rattle.answer.specs.declared.Told.{Told}
-use Rattle.image.specs.Layout.{noContents}
-use Rattle.image.specs.Recovered.{recovered, twins, hasTwin, firstTwin, dummyOf}
+use Rattle.image.specs.Layout.{noContents, noHeads, headLines, headsOf}
+use Rattle.image.specs.Recovered.{largest, headOf, recovered, twins, hasTwin, firstTwin, dummyOf}
 use Rattle.image.specs.Refusals.{startable}
 use Rattle.machine.specs.Record.{blankNodes, idleThreads}
 use Rattle.machine.specs.Start.{insert, risen, behind, lastOf, startWith, freshOf}
@@ -36,7 +36,7 @@ pub record Facts (c : Point) : Type 0 where
   pub answer : told (eventOn (given c) step .answer) ≡ replied (reply c) 0
 
 pub facts : (c : Point) → Facts c
-unfolding leaves least any count tab joined over front has with without wordOf noContents recovered twins hasTwin firstTwin dummyOf startable
+unfolding leaves least any count tab joined over front has with without wordOf noContents noHeads headLines headsOf largest headOf recovered twins hasTwin firstTwin dummyOf startable
     blankNodes idleThreads insert risen behind lastOf startWith nextFree releasedAt released others retired inRange nodeFits threadFits eventAt eventOn
 facts P1 = record { old = refl; new = refl; answer = refl }
 facts P2 = record { old = refl; new = refl; answer = refl }
@@ -81,12 +81,12 @@ abbrev pub firstStep : Machine
 firstStep = after (enqueue 7 ∷ step ∷ [])
 
 second : stepNumber firstStep ≡ 2
-unfolding leaves least any count tab joined over front has with without wordOf noContents recovered twins hasTwin firstTwin dummyOf startable
+unfolding leaves least any count tab joined over front has with without wordOf noContents noHeads headLines headsOf largest headOf recovered twins hasTwin firstTwin dummyOf startable
     blankNodes idleThreads insert risen behind lastOf startWith nextFree releasedAt released others retired inRange nodeFits threadFits eventAt eventOn
 second = refl
 
 last-step : stepNumber (after (before P2 ++ (step ∷ []))) ≡ 11
-unfolding leaves least any count tab joined over front has with without wordOf noContents recovered twins hasTwin firstTwin dummyOf startable
+unfolding leaves least any count tab joined over front has with without wordOf noContents noHeads headLines headsOf largest headOf recovered twins hasTwin firstTwin dummyOf startable
     blankNodes idleThreads insert risen behind lastOf startWith nextFree releasedAt released others retired inRange nodeFits threadFits eventAt eventOn
 last-step = refl
 
@@ -99,7 +99,7 @@ only-claims b h e =
     omega (arith, last-step, second, ap stepNumber z)
 
 third : stepNumber (eventOn firstStep step .machine) ≡ 3
-unfolding leaves least any count tab joined over front has with without wordOf noContents recovered twins hasTwin firstTwin dummyOf startable
+unfolding leaves least any count tab joined over front has with without wordOf noContents noHeads headLines headsOf largest headOf recovered twins hasTwin firstTwin dummyOf startable
     blankNodes idleThreads insert risen behind lastOf startWith nextFree releasedAt released others retired inRange nodeFits threadFits eventAt eventOn
 third = refl
 

@@ -15,10 +15,11 @@ use machine::Out;
 pub fn kept_image(m: Machine) -> Image
     ensures { λ r. ⌜ r ≡ persisted m ⌝ }
 {
+    let heads = m.kept_heads;
     let nodes = m.kept;
     Image {
         n: m.n,
-        head: m.kept_head,
+        heads,
         nodes,
     }
 }

@@ -12,10 +12,12 @@ use borrow.Author.Tests.{eqb-false}
 use Rattle.lists.specs.Find.{pick, both}
 use Rattle.lists.specs.Tab.{tab, front}
 use Rattle.lists.proofs.TabLaws as tabs
-use Rattle.image.specs.Layout.{noContent, noContents, contentAt}
+use Rattle.image.specs.Layout.{noContent, noContents, contentAt, headLines, noHeads, headIn, headsOf}
+use Rattle.image.specs.Recovered.{headOf}
+use Rattle.image.proofs.HeadLaws.{head-one}
 use Rattle.image.specs.declared.Content.{Content}
 use Rattle.image.specs.declared.Image.{Image}
-use Rattle.machine.specs.Record.{none, top, node, thread, kept, contentOf, zeroNode, zeroThread, blankNodes, idleThread, idleThreads, withIndex, atStep, putNode, putThread, putFree, putTail, putHead}
+use Rattle.machine.specs.Record.{none, top, node, thread, kept, headAt, keptHead, contentOf, zeroNode, zeroThread, blankNodes, idleThread, idleThreads, withIndex, atStep, putNode, putThread, putFree, putTail, putHead}
 use Rattle.machine.specs.Stage.{Stage, noStep, A1, A2, A3, A4, A5, A6, A7, A8, A9, A10, A11, A12, D1, D2, D3, D4, D5, D6, D7, stage}
 use Rattle.machine.specs.Line.{Line, ofHead, ofNode, lineAt, persist, persisted}
 use Rattle.machine.specs.Retire.{left, freed, released, releasedAt, retired, retiredHeld, going, answering}
@@ -34,8 +36,8 @@ Little c = (c .index < 4294967296) × (c .item < 4294967296)
 pub record Small (m : Machine) : Type 0 where
   pub cached : (i : ℕ) → Little (contentOf (node m i))
   pub saved : (i : ℕ) → Little (kept m i)
-  pub mark : m .index < 4294967296
-  pub savedMark : m .«kept_head» < 4294967296
+  pub mark : (k : ℕ) → headAt m k < 4294967296
+  pub savedMark : (k : ℕ) → keptHead m k < 4294967296
   pub items : (k : ℕ) → thread m k .item < 4294967296
 
 -- ---- lists all of whose elements are so
@@ -90,11 +92,16 @@ small-tail : (m : Machine) (x : ℕ) → Small m → Small (putTail m x)
 small-tail m x s = record { cached = s .cached; saved = s .saved; mark = s .mark; savedMark = s .savedMark; items = s .items }
 
 small-head : (m : Machine) (h x : ℕ) → Small m → x < 4294967296 → Small (putHead m h x)
-small-head m h x s l = record { cached = s .cached; saved = s .saved; mark = l; savedMark = s .savedMark; items = s .items }
+small-head m h x s l = record { cached = s .cached; saved = s .saved; mark = set-all (λ y. y < 4294967296) (m .heads) 0 x (s .mark) l 0; savedMark = s .savedMark; items = s .items }
 
 small-persist : (m : Machine) (l : Line) → Small m → Small (persist m l)
-small-persist m (ofHead (suc k)) s = s
-small-persist m (ofHead zero) s = record { cached = s .cached; saved = s .saved; mark = s .mark; savedMark = s .mark; items = s .items }
+small-persist m (ofHead k) s = record {
+  cached = s .cached;
+  saved = s .saved;
+  mark = s .mark;
+  savedMark = set-all (λ y. y < 4294967296) (m .«kept_heads») 0 (headAt m k) (s .savedMark) (s .mark k) k;
+  items = s .items;
+}
 small-persist m (ofNode i) s = record {
   cached = s .cached;
   saved = λ j. set-all Little (m .kept) noContent (contentOf (node m i)) (s .saved) (s .cached i) i j;
@@ -171,7 +178,7 @@ module _ (m : Machine) (k : ℕ) (s : Small m) where
   small-step D2 = small-thread m s k _ (s .items k)
   small-step D3 = small-left (persist m (ofHead 0)) k _ (small-persist m (ofHead 0) s)
   small-step D4 =
-      small-pick (both (eqb (m .head) (thread m k .head)) (eqb (m .index) (thread m k .index))) _ _
+      small-pick (both (eqb (m .head) (thread m k .head)) (eqb (headAt m 0) (thread m k .index))) _ _
       (small-going _ k 17 (small-head m (thread m k .next) _ s (s .cached (thread m k .next) .0))) (small-going m k 13 s)
   small-step D5 = small-thread m s k _ (s .cached (thread m k .next) .1)
   small-step D6 = small-going _ k 19 (small-persist m (ofHead 0) s)
@@ -179,11 +186,11 @@ module _ (m : Machine) (k : ℕ) (s : Small m) where
 
 -- ---- starts and events
 
-start-content : (g : Image) (d : ℕ) (q : List ℕ) → ((i : ℕ) → Little (contentAt (g .nodes) i)) → g .head < 4294967296
+start-content : (g : Image) (d : ℕ) (q : List ℕ) → ((i : ℕ) → Little (contentAt (g .nodes) i)) → headOf g < 4294967296
     → (i : ℕ) → Little (contentOf (startNode g d q i))
 start-content g d q h l i = (by (eqb i d), h i .1)
   where
-    by : (t : Bool) → pick t (g .head) (contentAt (g .nodes) i .index) < 4294967296
+    by : (t : Bool) → pick t (headOf g) (contentAt (g .nodes) i .index) < 4294967296
     by true = l
     by false = h i .0
 
@@ -191,14 +198,18 @@ pub no-content : (i : ℕ) → Little (contentAt noContents i)
 unfolding noContents
 no-content i = same-all Little 64 noContent noContent (omega arith, omega arith) (omega arith, omega arith) i
 
-pub small-start : (g : Image) (t : ℕ) → ((i : ℕ) → Little (contentAt (g .nodes) i)) → g .head < 4294967296 → Small (startOf g t)
+pub heads-small : (n : ℕ) (x : ℕ → ℕ) → ((k : ℕ) → x k < 4294967296) → (k : ℕ) → getD (headsOf n x) k 0 < 4294967296
+unfolding headsOf noHeads
+heads-small n x h = front-all (λ y. y < 4294967296) x (headLines n) noHeads 0 (λ j p. h j) (same-all (λ y. y < 4294967296) 8 0 0 (omega arith) (omega arith))
+
+pub small-start : (g : Image) (t : ℕ) → ((i : ℕ) → Little (contentAt (g .nodes) i)) → ((k : ℕ) → headIn g k < 4294967296) → Small (startOf g t)
 unfolding startWith blankNodes idleThreads
 small-start g t h l = record {
-  cached = λ i. front-all (λ n. Little (contentOf n)) (startNode g _ (queueOf g)) (g .n) blankNodes zeroNode (λ j p. start-content g _ (queueOf g) h l j)
+  cached = λ i. front-all (λ n. Little (contentOf n)) (startNode g _ (queueOf g)) (g .n) blankNodes zeroNode (λ j p. start-content g _ (queueOf g) h (subst (λ x. x < 4294967296) (sym (head-one g)) (l 0)) j)
       (λ j. same-all (λ n. Little (contentOf n)) 64 _ zeroNode (omega arith, omega arith) (omega arith, omega arith) j) i;
   saved = λ i. front-all Little (contentAt (g .nodes)) (g .n) noContents noContent (λ j p. h j) no-content i;
-  mark = l;
-  savedMark = l;
+  mark = heads-small (g .n) (headIn g) l;
+  savedMark = heads-small (g .n) (headIn g) l;
   items = λ i. same-all (λ t. t .item < 4294967296) 8 (idleThread 255) zeroThread (omega arith) (omega arith) i;
 }
 

@@ -1,5 +1,5 @@
 -- Every line of a page of bytes goes into 721 bytes.
-use Prim.Native.Nat.{ℕ, zero, suc, _+_, _≤_, _<_}
+use Prim.Native.Nat.{ℕ, zero, suc, _+_, _*_, _≤_, _<_}
 use mathlib.Core.Path.{_≡_, refl, sym, ap, subst, _∙_}
 use mathlib.Core.Bool.{Bool, true, false}
 use mathlib.Core.List.{List, [], _∷_, _++_, map}
@@ -11,13 +11,13 @@ use Rattle.lists.specs.Tab.{tab, front}
 use Rattle.answer.specs.Answers.{accepted}
 use Rattle.answer.specs.declared.Answer.{Answer}
 use Rattle.image.specs.Bytes.{at4}
-use Rattle.image.specs.Layout.{noContent, noContents, contentAt, readContent, readNodes, nodePlace, imageIn, sameContent}
+use Rattle.image.specs.Layout.{noContent, noContents, contentAt, readContent, readNodes, nodePlace, imageIn, sameContent, headLines, headIn, readHeads}
 use Rattle.image.specs.declared.Content.{Content}
 use Rattle.image.specs.declared.Image.{Image}
-use Rattle.machine.specs.Line.{Line, ofHead, ofNode, headLines, lineCount, lineAt, cachedAt, persistedAt}
+use Rattle.machine.specs.Line.{Line, ofHead, ofNode, lineCount, lineAt, cachedAt, persistedAt}
 use Rattle.machine.specs.Event.{Deed, unknown, enqueues, dequeues, steps, writesBack, crashes, deedOf}
 use Rattle.machine.specs.declared.Machine.{Machine}
-use Rattle.machine.proofs.LineLaws.{one-head}
+use Rattle.image.proofs.HeadLaws.{one-head, heads-at, head-one}
 use Rattle.machine.specs.declared.Event.{Event}
 use Rattle.machine.proofs.AnswerLaws as starts
 use Rattle.schedule.specs.Layout.{scheduleIn, eventIn, eventsIn, threadsIn, nodesIn, countIn}
@@ -38,7 +38,7 @@ use Rattle.pages.proofs.PageLaws as laws
 use Rattle.printing.specs.Bounds.{lineRoom}
 use Rattle.printing.proofs.Short as short
 use Rattle.filling.proofs.Numbers as numbers
-use Rattle.filling.proofs.Small.{Little, Small, front-all, no-content, small-start, small-done}
+use Rattle.filling.proofs.Small.{Little, Small, front-all, heads-small, no-content, small-start, small-done}
 
 -- ---- a run
 
@@ -101,9 +101,9 @@ contents-small s y i =
     front-all Little (λ i. readContent s (nodePlace i)) (getD s 5 0) noContents noContent
     (λ j p. (word-small s y (nodePlace j + 1), word-small s y (nodePlace j + 5))) no-content i
 
-head-small : (s : List ℕ) → Bytes s → imageIn s .head < 4294967296
-unfolding imageIn
-head-small s y = word-small s y 6
+head-small : (s : List ℕ) → Bytes s → (k : ℕ) → headIn (imageIn s) k < 4294967296
+unfolding imageIn readHeads
+head-small s y = heads-small (getD s 5 0) (λ k. at4 s (6 + k * 4)) (λ k. word-small s y (6 + k * 4))
 
 ran-small : (s : List ℕ) → Bytes s → accepted (ran s .answer) ≡ true → SmallBench (ran s .bench)
 unfolding ran eventsIn scheduleIn
@@ -134,13 +134,11 @@ gathered-all [] seen h p = h
 gathered-all (c ∷ l) seen h p = gathered-all l (joins seen c) (joins-all seen c h (p .0)) (p .1)
 
 cached-little : (m : Machine) → Small m → (l : Line) → Little (cachedAt m l)
-cached-little m s (ofHead zero) = (s .mark, omega arith)
-cached-little m s (ofHead (suc k)) = (omega arith, omega arith)
+cached-little m s (ofHead k) = (s .mark k, omega arith)
 cached-little m s (ofNode i) = s .cached i
 
 persisted-little : (m : Machine) → Small m → (l : Line) → Little (persistedAt m l)
-persisted-little m s (ofHead zero) = (s .savedMark, omega arith)
-persisted-little m s (ofHead (suc k)) = (omega arith, omega arith)
+persisted-little m s (ofHead k) = (s .savedMark k, omega arith)
 persisted-little m s (ofNode i) = s .saved i
 
 map-all : (l : Line) (ms : List Machine) → SmallAll ms → AllLittle (map (λ m. cachedAt m l) ms)
@@ -172,7 +170,9 @@ module _ (b : Bench) (h : SmallBench b) (k : ℕ) (lt : k < product (tableOf b))
   ending-short : k < 65536 → b .machine .n ≤ 64 → length (endingLine k (imageOf (b .machine .n) chosen)) ≤ lineRoom 64
   unfolding imageOf
   ending-short q n =
-      short.image-short 64 k _ (omega arith) q (chosen-little 0 (omega (arith, one-head (b .machine .n))) .0)
+      let first : 0 < headLines (b .machine .n) = omega (arith, one-head (b .machine .n)) in
+      short.image-short 64 k _ (omega arith) q (subst (λ x. x < 4294967296) (sym (head-one (imageOf (b .machine .n) chosen) ∙ heads-at (b .machine .n) (λ j. contentAt chosen j .index) 0 first))
+      (chosen-little 0 (omega arith) .0))
       (short.items-small _ (λ i. front-all Little (λ i. contentAt chosen (headLines (b .machine .n) + i)) (b .machine .n) noContents noContent
       (λ j p. chosen-little (headLines (b .machine .n) + j) (omega arith)) no-content i .1))
       n

@@ -1,1 +1,2 @@
 pub mod RecoveredLaws
+pub mod HeadLaws

@@ -1,16 +1,22 @@
 -- Which nodes of an image are recovered, which of them are twins, and which one is the dummy.
-use Prim.Native.Nat.{ℕ}
+use Prim.Native.Nat.{ℕ, zero, suc}
 use mathlib.Core.Bool.{Bool, true, false, not}
 use mathlib.Core.List.{List}
+use lib.ListN.{getD}
 use lib.Dec.{eqb, ltb}
 use Rattle.lists.specs.Find.{pick, both, least, any}
-use Rattle.image.specs.Layout.{contentAt}
+use Rattle.image.specs.Layout.{contentAt, headLines}
 use Rattle.image.specs.declared.Content.{Content}
 use Rattle.image.specs.declared.Image.{Image}
 
--- the head index that a start takes from an image
-abbrev pub headOf : Image → ℕ
-headOf g = g .head
+-- the largest of the first k numbers of a list; 0 of none
+unfoldable pub largest : List ℕ → ℕ → ℕ
+largest l zero = 0
+largest l (suc k) = let r = largest l k in pick (ltb r (getD l k 0)) (getD l k 0) r
+
+-- the head index that a start takes from an image: the largest of its head lines
+unfoldable pub headOf : Image → ℕ
+headOf g = largest (g .heads) (headLines (g .n))
 
 -- "A node is recovered when its linked flag is 1 and its index is above the head index."
 unfoldable pub recovered : ℕ → Content → Bool

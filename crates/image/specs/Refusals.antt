@@ -10,7 +10,7 @@ use Rattle.answer.specs.Answers.{check, accepted}
 use Rattle.answer.specs.declared.Answer.{Answer}
 use Rattle.answer.specs.declared.Answer.the-variants.{Taken, Length, Mark, Nodes, Linked, Twin, NoDummy, Room}
 use Rattle.image.specs.Bytes.{at1}
-use Rattle.image.specs.Layout.{noContents, isImage, nodePlace, imageIn, imageBytes}
+use Rattle.image.specs.Layout.{noContents, noHeads, isImage, nodePlace, imageIn, imageBytes}
 use Rattle.image.specs.Recovered.{firstUnclear, firstTwin, dummyOf}
 use Rattle.image.specs.declared.Image.{Image}
 use Rattle.image.specs.declared.Read.{Read}
@@ -40,7 +40,7 @@ imageAnswer more s =
 
 -- what is handed back beside a refusal
 abbrev pub blankImage : Image
-blankImage = record { n = 0; head = 0; nodes = noContents }
+blankImage = record { n = 0; heads = noHeads; nodes = noContents }
 
 -- an image alone
 unfoldable pub readImage : List ℕ → Read

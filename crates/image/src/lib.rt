@@ -2,15 +2,19 @@
 use answer::Answer;
 
 pub mod blank;
+pub mod heads;
 pub mod recovered;
 pub mod same;
 
 pub use blank::blank_image;
 pub use blank::no_contents;
+pub use blank::no_heads;
+pub use heads::largest_of;
 pub use recovered::dummy_of;
 pub use recovered::first_twin;
 pub use recovered::first_unclear;
 pub use recovered::is_recovered;
+pub use recovered::recovered_in;
 pub use recovered::sound_of;
 pub use recovered::startable_of;
 pub use same::is_same;
@@ -22,10 +26,11 @@ pub struct Content {
     pub item: u32,
 }
 
-// N, the head index, and the contents of the N nodes. Nodes at n and beyond are not part of it.
+// N, the indices of the head lines, and the contents of the N nodes. There is one head line: indices behind the first are not part of
+// it, nor are nodes at n and beyond.
 pub struct Image {
     pub n: u8,
-    pub head: u32,
+    pub heads: [u32; 8],
     pub nodes: [Content; 64],
 }
 

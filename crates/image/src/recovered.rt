@@ -1,13 +1,14 @@
 // The tests on an image by value: unclear linked bytes (6), twins (7), the dummy (8).
 use super::Content;
 use super::Image;
+use super::heads::largest_of;
 use answer::Answer;
 ghost use mathlib.Core.Path.{_≡_};
 ghost use Prim.Native.Nat.{_≤_};
 ghost use lib.Dec.{eqb};
 ghost use Rattle.lists.specs.Find.{both};
 ghost use Rattle.answer.specs.declared.Answer.the-variants.{Taken};
-ghost use Rattle.image.specs.Recovered.{recovered, firstUnclear, firstTwin, dummyOf};
+ghost use Rattle.image.specs.Recovered.{largest, recovered, firstUnclear, firstTwin, dummyOf};
 ghost use Rattle.image.specs.Refusals.{startable, sound};
 
 // A node is recovered when its linked flag is 1 and its index is above the head index.
@@ -18,6 +19,14 @@ pub fn is_recovered(c: Content, h: u32) -> bool
         return h < c.index;
     }
     false
+}
+
+// By the indices of the head lines.
+pub fn recovered_in(c: Content, heads: [u32; 8]) -> bool
+    ensures { λ r. ⌜ r ≡ recovered (largest heads 1) c ⌝ }
+{
+    let h = largest_of(heads, 1);
+    is_recovered(c, h)
 }
 
 // Both are recovered, with one index.
@@ -56,7 +65,8 @@ pub fn first_twin(g: Image) -> usize
     ensures { λ r. ⌜ r ≡ firstTwin g ⌝ }
 {
     let n = g.n as usize;
-    let h = g.head;
+    let heads = g.heads;
+    let h = largest_of(heads, 1);
     let mut i = 0;
     'pairs: while i < n {
         let mut j = 0;
@@ -79,7 +89,8 @@ pub fn dummy_of(g: Image) -> usize
     ensures { λ r. ⌜ r ≡ dummyOf g ⌝ }
 {
     let n = g.n as usize;
-    let h = g.head;
+    let heads = g.heads;
+    let h = largest_of(heads, 1);
     let mut i = 0;
     while i < n {
         let v = g.nodes[i];

@@ -7,7 +7,7 @@ use mathlib.Core.Logic.{_↔_}
 use lib.ListN.{length, getD}
 use Rattle.answer.specs.Answers.{accepted}
 use Rattle.answer.specs.declared.Answer.{Answer}
-use Rattle.image.specs.Layout.{contentAt, noContents}
+use Rattle.image.specs.Layout.{contentAt, noContents, headIn, headsOf}
 use Rattle.image.specs.declared.Image.{Image}
 use Rattle.lists.specs.Tab.{front}
 use Rattle.machine.specs.Line.{lineCount, persisted}
@@ -32,7 +32,11 @@ runOf s l = run 0 (opened (scheduleIn s)) l
 
 -- the image that the machine's persisted copies are
 abbrev pub imageLeft : Machine → Image
-imageLeft m = record { n = m .n; head = persisted m .head; nodes = front (contentAt (persisted m .nodes)) (m .n) noContents }
+imageLeft m = record {
+  n = m .n;
+  heads = headsOf (m .n) (headIn (persisted m));
+  nodes = front (contentAt (persisted m .nodes)) (m .n) noContents;
+}
 
 -- the image is left by some run with write-backs added after the last start: accepted, its recorded events answering as they did
 pub record Leaves (s : List ℕ) (g : Image) : Type 0 where

@@ -9,11 +9,13 @@ use Rattle.lists.proofs.TabLaws.{front-at}
 use Rattle.answer.specs.Answers.{accepted}
 use Rattle.image.specs.declared.Content.{Content}
 use Rattle.image.specs.declared.Image.{Image}
+use Rattle.image.specs.Layout as layout
 use Rattle.image.specs.Layout.{noContent, noContents, contentAt}
 use Rattle.machine.specs.Record.{top}
 use Rattle.machine.specs.Line as memory
 use Rattle.machine.specs.Line.{numberOf}
-use Rattle.machine.proofs.LineLaws.{LineIn, one-head}
+use Rattle.image.proofs.HeadLaws.{one-head, heads-at}
+use Rattle.machine.proofs.LineLaws.{LineIn}
 use Rattle.machine.specs.Start.{startOf, startAnswer, blankMachine}
 use Rattle.machine.specs.declared.Machine.{Machine}
 use Rattle.machine.specs.declared.Event.{Event}
@@ -63,17 +65,17 @@ module _ (b : schedule.Bench) (B : Bench) (r : BenchT b B) (c : List Content) (p
   abbrev E : recovery.Image
   E = imageShown e (m .t)
 
-  e-head : e .head ≡ contentAt c 0 .index
+  e-head : layout.headIn e 0 ≡ contentAt c 0 .index
   unfolding imageOf
-  e-head = refl
+  e-head = heads-at (m .n) (λ j. contentAt c j .index) 0 (omega (arith, one-head (m .n)))
 
   e-size : e .n ≡ m .n
   unfolding imageOf
   e-size = refl
 
-  e-at : (i : ℕ) → i < m .n → contentAt (e .nodes) i ≡ contentAt c (memory.headLines (m .n) + i)
+  e-at : (i : ℕ) → i < m .n → contentAt (e .nodes) i ≡ contentAt c (layout.headLines (m .n) + i)
   unfolding imageOf
-  e-at i h = front-at (λ i. contentAt c (memory.headLines (m .n) + i)) (m .n) noContents i noContent h
+  e-at i h = front-at (λ i. contentAt c (layout.headLines (m .n) + i)) (m .n) noContents i noContent h
 
   -- the content that line k has in the ending
   abbrev at : memory.Line → Content
@@ -93,7 +95,7 @@ module _ (b : schedule.Bench) (B : Bench) (r : BenchT b B) (c : List Content) (p
   unfolding imageShown imageOf
   E-conf = refl
 
-  E-head : E .heads 0 ≡ e .head
+  E-head : E .heads 0 ≡ layout.headIn e 0
   unfolding imageShown
   E-head = refl
 

@@ -9,14 +9,11 @@ use lib.Dec.{eqb, ltb}
 use borrow.Author.Tests.{lt-ltb, le-ltb, eq-eqb, ne-eqb, eqb-true}
 use Rattle.lists.specs.Find.{pick}
 use Rattle.lists.proofs.BoolLaws.{false-true}
-use Rattle.machine.specs.Line.{Line, ofHead, ofNode, headLines, lineCount, lineAt, numberOf, sameLine, putLine}
+use Rattle.image.specs.Layout.{headLines}
+use Rattle.image.proofs.HeadLaws.{one-head}
+use Rattle.machine.specs.Line.{Line, ofHead, ofNode, lineCount, lineAt, numberOf, sameLine, putLine}
 
 -- ---- numbers
-
--- this machine has one head line
-pub one-head : (n : ℕ) → headLines n ≡ 1
-unfolding headLines
-one-head n = refl
 
 pub line-head : (n k : ℕ) → k < headLines n → lineAt n k ≡ ofHead k
 unfolding lineAt

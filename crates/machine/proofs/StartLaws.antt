@@ -17,12 +17,13 @@ use Rattle.answer.specs.Answers.{accepted}
 use Rattle.answer.specs.declared.Answer.the-variants.{Taken}
 use Rattle.image.specs.declared.Content.{Content}
 use Rattle.image.specs.declared.Image.{Image}
-use Rattle.image.specs.Layout.{noContent, noContents, contentAt}
-use Rattle.image.specs.Recovered.{recovered, recoveredAt, dummyOf}
-use Rattle.machine.specs.Record.{none, node, thread, kept, contentOf, zeroNode, zeroThread, blankNodes, idleThread, idleThreads}
+use Rattle.image.specs.Layout.{noContent, noContents, contentAt, headLines, headIn}
+use Rattle.image.specs.Recovered.{headOf, recovered, recoveredAt, dummyOf}
+use Rattle.image.proofs.HeadLaws.{one-head, heads-at, head-one}
+use Rattle.machine.specs.Record.{none, node, thread, kept, headAt, keptHead, contentOf, zeroNode, zeroThread, blankNodes, idleThread, idleThreads}
 use Rattle.machine.specs.Line.{persisted}
 use Rattle.machine.specs.Stage.{busy}
-use Rattle.machine.specs.Start.{queueOf, startNode, startWith, startOf, startAnswer, startFrom, spare}
+use Rattle.machine.specs.Start.{queueOf, startHeads, startNode, startWith, startOf, startAnswer, startFrom, spare}
 use Rattle.machine.specs.Rising.{among, Rising}
 use Rattle.machine.specs.declared.Node.{Node}
 use Rattle.machine.proofs.AcceptedLaws.{Accepted, accepted-start, taken-start, dummy-spare, dummy-lowest}
@@ -44,24 +45,24 @@ module _ (g : Image) (t : ℕ) where
   kept-is i h = tabs.front-at (contentAt (g .nodes)) (g .n) noContents i noContent h
 
   -- as an image they are the one that was read, where that holds nothing from N on
-  pub persisted-is : g .n ≤ length (g .nodes) → drop (g .n) (g .nodes) ≡ drop (g .n) noContents → persisted (startOf g t) ≡ g
+  pub persisted-is : g .n ≤ length (g .nodes) → drop (g .n) (g .nodes) ≡ drop (g .n) noContents → startHeads g ≡ g .heads → persisted (startOf g t) ≡ g
   unfolding startWith front
-  persisted-is h e =
+  persisted-is h e i =
       let same : tab (contentAt (g .nodes)) (g .n) ≡ take (g .n) (g .nodes) = sym (tabs.take-drop-tab (g .nodes) noContent 0 (g .n) (omega arith) ∙ tabs.tab-same _ (contentAt (g .nodes)) (g .n) (λ i p. ap (contentAt (g .nodes)) (omega arith))) in
-      ap (λ (l : List Content). record { n = g .n; head = g .head; nodes = l }) (ap₂ (λ (a b : List Content). a ++ b) same (sym e) ∙ take-append-drop (g .n) (g .nodes))
+      ap₂ (λ (x : List ℕ) (l : List Content). record { n = g .n; heads = x; nodes = l }) i (ap₂ (λ (a b : List Content). a ++ b) same (sym e) ∙ take-append-drop (g .n) (g .nodes))
 
-  pub kept-head-is : startOf g t .«kept_head» ≡ g .head
+  pub kept-head-is : (k : ℕ) → k < headLines (g .n) → keptHead (startOf g t) k ≡ headIn g k
   unfolding startWith
-  kept-head-is = refl
+  kept-head-is k h = heads-at (g .n) (headIn g) k h
 
   pub sizes-are : (startOf g t .n ≡ g .n) × (startOf g t .t ≡ t)
   unfolding startWith
   sizes-are = (refl, refl)
 
   -- "Head points at it with the head index unchanged"
-  pub head-is : (startOf g t .head ≡ dummyOf g) × (startOf g t .index ≡ g .head)
+  pub head-is : (startOf g t .head ≡ dummyOf g) × (headAt (startOf g t) 0 ≡ headOf g)
   unfolding startWith
-  head-is = (refl, refl)
+  head-is = (refl, heads-at (g .n) (headIn g) 0 (omega (arith, one-head (g .n))) ∙ sym (head-one g))
 
   -- "Tail is the last node"
   pub tail-is : startOf g t .tail ≡ getD (dummyOf g ∷ queueOf g) (length (queueOf g)) 0
@@ -113,7 +114,7 @@ module _ (g : Image) (t : ℕ) (ok : accepted (startAnswer g t) ≡ true) where
 
   -- "its cached index becomes the head index"; its flag and item are as read
   pub dummy-node :
-      (node (startOf g t) (dummyOf g) .index ≡ g .head)
+      (node (startOf g t) (dummyOf g) .index ≡ headOf g)
       × (node (startOf g t) (dummyOf g) .linked ≡ contentAt (g .nodes) (dummyOf g) .linked)
       × (node (startOf g t) (dummyOf g) .item ≡ contentAt (g .nodes) (dummyOf g) .item)
   dummy-node =
@@ -136,9 +137,9 @@ module _ (g : Image) (t : ℕ) (ok : accepted (startAnswer g t) ≡ true) where
   not-dummy : (i : ℕ) → recoveredAt g i ≡ true → i ≢ dummyOf g
   not-dummy i e z = no-way (sym (rw z at e) ∙ dummy-spare g (fit .dummy))
 
-  above : (i : ℕ) → recoveredAt g i ≡ true → g .head < contentAt (g .nodes) i .index
+  above : (i : ℕ) → recoveredAt g i ≡ true → headOf g < contentAt (g .nodes) i .index
   unfolding recovered
-  above i e = ltb-true (g .head) (contentAt (g .nodes) i .index) (both-true (eqb (contentAt (g .nodes) i .linked) 1) (ltb (g .head) (contentAt (g .nodes) i .index)) e .1)
+  above i e = ltb-true (headOf g) (contentAt (g .nodes) i .index) (both-true (eqb (contentAt (g .nodes) i .linked) 1) (ltb (headOf g) (contentAt (g .nodes) i .index)) e .1)
 
   cached-index : (i : ℕ) → among i (queueOf g) → node (startOf g t) i .index ≡ contentAt (g .nodes) i .index
   cached-index i h = let r = queue-in g t i h in ap (λ (c : Content). c .index) (cached-is i (r .0) (not-dummy i (r .1)))

@@ -3,7 +3,7 @@ use Prim.Native.Nat.{ℕ}
 use lib.Dec.{eqb}
 use Rattle.lists.specs.Find.{pick, both}
 use Rattle.answer.specs.declared.Answer.the-variants.{Item, Empty}
-use Rattle.machine.specs.Record.{none, node, thread, readHead, readNext, readItem, putHead}
+use Rattle.machine.specs.Record.{none, node, headAt, thread, readHead, readNext, readItem, putHead}
 use Rattle.machine.specs.Stage.{D1, D2, D3, D4, D5, D6, D7, number}
 use Rattle.machine.specs.Line.{ofHead, persist}
 use Rattle.machine.specs.Retire.{out, moving, going, answering, left, retiredHeld}
@@ -12,7 +12,7 @@ use Rattle.machine.specs.declared.Out.{Out}
 
 -- D1 Head read, number and index
 abbrev pub stepD1 : Machine → ℕ → Out
-stepD1 m k = moving m k (readHead (thread m k) (m .head) (m .index)) (number D2)
+stepD1 m k = moving m k (readHead (thread m k) (m .head) (headAt m 0)) (number D2)
 
 -- D2 next of that node read: none goes to D3, else to D4
 abbrev pub stepD2 : Machine → ℕ → Out
@@ -28,7 +28,7 @@ stepD3 m k = answering Empty (persist m (ofHead 0)) k
 abbrev pub stepD4 : Machine → ℕ → Out
 stepD4 m k =
     let x = thread m k .next in
-    pick (both (eqb (m .head) (thread m k .head)) (eqb (m .index) (thread m k .index)))
+    pick (both (eqb (m .head) (thread m k .head)) (eqb (headAt m 0) (thread m k .index)))
     (going (putHead m x (node m x .index)) k (number D5)) (going m k (number D1))
 
 -- D5 item of the next node read

@@ -1,8 +1,9 @@
 -- Lines of memory: the head lines, then the nodes. Each has a cached and a persisted copy.
-use Prim.Native.Nat.{ℕ, zero, suc, _+_, _-_}
+use Prim.Native.Nat.{ℕ, _+_, _-_}
 use mathlib.Core.Bool.{Bool, true, false}
 use lib.Dec.{eqb, ltb}
 use Rattle.lists.specs.Find.{pick}
+use Rattle.image.specs.Layout.{headLines}
 use Rattle.image.specs.declared.Content.{Content}
 use Rattle.image.specs.declared.Image.{Image}
 use Rattle.machine.specs.Record.{node, kept, headAt, keptHead, contentOf, putKept, putKeptHead}
@@ -13,10 +14,6 @@ pub data Line : Type 0 where
   ofNode : (i : ℕ) → Line
 
 -- ---- "Line 0 is Head, line i+1 is node i": the number of a line
-
--- how many head lines a machine of n nodes has
-unfoldable pub headLines : ℕ → ℕ
-headLines n = 1
 
 -- how many lines there are
 abbrev pub lineCount : ℕ → ℕ
@@ -60,10 +57,9 @@ persistedAt m (ofNode i) = kept m i
 
 -- a line is written back whole: by a write-back, or by a step that persists it
 abbrev pub persist : Machine → Line → Machine
-persist m (ofHead zero) = putKeptHead m (m .index)
-persist m (ofHead (suc k)) = m
+persist m (ofHead k) = putKeptHead m k (headAt m k)
 persist m (ofNode i) = putKept m i (contentOf (node m i))
 
 -- the persisted copies, as an image
 abbrev pub persisted : Machine → Image
-persisted m = record { n = m .n; head = m .«kept_head»; nodes = m .kept }
+persisted m = record { n = m .n; heads = m .«kept_heads»; nodes = m .kept }

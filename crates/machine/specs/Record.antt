@@ -1,5 +1,5 @@
 -- The machine record: what is read of it, and the record with one thing replaced.
-use Prim.Native.Nat.{ℕ, zero, suc}
+use Prim.Native.Nat.{ℕ}
 use mathlib.Core.List.{List}
 use lib.ListN.{getD, set, replicate}
 use Rattle.image.specs.declared.Content.{Content}
@@ -34,14 +34,12 @@ thread m k = getD (m .threads) k zeroThread
 abbrev pub kept : Machine → ℕ → Content
 kept m i = getD (m .kept) i noContent
 
--- the index in head line k, cached and persisted: there is one such line, number 0
+-- the index in head line k, cached and persisted; that of line 0 is Head's
 abbrev pub headAt : Machine → ℕ → ℕ
-headAt m zero = m .index
-headAt m (suc k) = 0
+headAt m k = getD (m .heads) k 0
 
 abbrev pub keptHead : Machine → ℕ → ℕ
-keptHead m zero = m .«kept_head»
-keptHead m (suc k) = 0
+keptHead m k = getD (m .«kept_heads») k 0
 
 -- what a node's line holds
 abbrev pub contentOf : Node → Content
@@ -98,22 +96,22 @@ abbrev pub readHead : Thread → ℕ → ℕ → Thread
 readHead v h x = record { step = v .step; node = v .node; tail = v .tail; head = h; index = x; next = v .next; item = v .item; held = v .held }
 
 abbrev pub putTail : Machine → ℕ → Machine
-putTail m x = record { n = m .n; t = m .t; head = m .head; index = m .index; tail = x; free = m .free; nodes = m .nodes; «kept_head» = m .«kept_head»; kept = m .kept; threads = m .threads }
+putTail m x = record { n = m .n; t = m .t; head = m .head; heads = m .heads; tail = x; free = m .free; nodes = m .nodes; «kept_heads» = m .«kept_heads»; kept = m .kept; threads = m .threads }
 
 abbrev pub putFree : Machine → ℕ → Machine
-putFree m x = record { n = m .n; t = m .t; head = m .head; index = m .index; tail = m .tail; free = x; nodes = m .nodes; «kept_head» = m .«kept_head»; kept = m .kept; threads = m .threads }
+putFree m x = record { n = m .n; t = m .t; head = m .head; heads = m .heads; tail = m .tail; free = x; nodes = m .nodes; «kept_heads» = m .«kept_heads»; kept = m .kept; threads = m .threads }
 
-abbrev pub putKeptHead : Machine → ℕ → Machine
-putKeptHead m x = record { n = m .n; t = m .t; head = m .head; index = m .index; tail = m .tail; free = m .free; nodes = m .nodes; «kept_head» = x; kept = m .kept; threads = m .threads }
+abbrev pub putKeptHead : Machine → ℕ → ℕ → Machine
+putKeptHead m k x = record { n = m .n; t = m .t; head = m .head; heads = m .heads; tail = m .tail; free = m .free; nodes = m .nodes; «kept_heads» = set (m .«kept_heads») k x; kept = m .kept; threads = m .threads }
 
 abbrev pub putHead : Machine → ℕ → ℕ → Machine
-putHead m h x = record { n = m .n; t = m .t; head = h; index = x; tail = m .tail; free = m .free; nodes = m .nodes; «kept_head» = m .«kept_head»; kept = m .kept; threads = m .threads }
+putHead m h x = record { n = m .n; t = m .t; head = h; heads = set (m .heads) 0 x; tail = m .tail; free = m .free; nodes = m .nodes; «kept_heads» = m .«kept_heads»; kept = m .kept; threads = m .threads }
 
 abbrev pub putNode : Machine → ℕ → Node → Machine
-putNode m i v = record { n = m .n; t = m .t; head = m .head; index = m .index; tail = m .tail; free = m .free; nodes = set (m .nodes) i v; «kept_head» = m .«kept_head»; kept = m .kept; threads = m .threads }
+putNode m i v = record { n = m .n; t = m .t; head = m .head; heads = m .heads; tail = m .tail; free = m .free; nodes = set (m .nodes) i v; «kept_heads» = m .«kept_heads»; kept = m .kept; threads = m .threads }
 
 abbrev pub putKept : Machine → ℕ → Content → Machine
-putKept m i v = record { n = m .n; t = m .t; head = m .head; index = m .index; tail = m .tail; free = m .free; nodes = m .nodes; «kept_head» = m .«kept_head»; kept = set (m .kept) i v; threads = m .threads }
+putKept m i v = record { n = m .n; t = m .t; head = m .head; heads = m .heads; tail = m .tail; free = m .free; nodes = m .nodes; «kept_heads» = m .«kept_heads»; kept = set (m .kept) i v; threads = m .threads }
 
 abbrev pub putThread : Machine → ℕ → Thread → Machine
-putThread m i v = record { n = m .n; t = m .t; head = m .head; index = m .index; tail = m .tail; free = m .free; nodes = m .nodes; «kept_head» = m .«kept_head»; kept = m .kept; threads = set (m .threads) i v }
+putThread m i v = record { n = m .n; t = m .t; head = m .head; heads = m .heads; tail = m .tail; free = m .free; nodes = m .nodes; «kept_heads» = m .«kept_heads»; kept = m .kept; threads = set (m .threads) i v }

@@ -4,6 +4,7 @@ use super::Machine;
 use super::Node;
 use super::Thread;
 use image::no_contents;
+use image::no_heads;
 ghost use mathlib.Core.Path.{_≡_};
 ghost use Rattle.machine.specs.Record.{blankNodes, idleThreads};
 ghost use Rattle.machine.specs.Start.{blankMachine};
@@ -42,17 +43,19 @@ pub fn blank_machine() -> Machine
     ensures { λ r. ⌜ r ≡ blankMachine ⌝ }
 {
     let nodes = blank_nodes();
+    let heads = no_heads();
+    let kept_heads = no_heads();
     let kept = no_contents();
     let threads = idle_threads();
     Machine {
         n: 0,
         t: 0,
         head: 0,
-        index: 0,
+        heads,
         tail: 0,
         free: 0,
         nodes,
-        kept_head: 0,
+        kept_heads,
         kept,
         threads,
     }

@@ -3,6 +3,7 @@ use answer::Answer;
 use image::Content;
 use image::Image;
 use image::no_contents;
+use image::no_heads;
 
 pub mod blank;
 pub mod queue;
@@ -35,17 +36,18 @@ pub struct Thread {
     pub held: u8,
 }
 
-// N and T; Head, a node number with an index; Tail; the free set as a word; cached and persisted copies; the threads.
-// Nodes at n and beyond and threads at t and beyond are not part of it.
+// N and T; Head, a node number with an index, which is that of head line 0; Tail; the free set as a word; cached and persisted copies,
+// those of the head lines apart; the threads. Indices of head lines behind the first, nodes at n and beyond and threads at t and beyond
+// are not part of it.
 pub struct Machine {
     pub n: u8,
     pub t: u8,
     pub head: u8,
-    pub index: u32,
+    pub heads: [u32; 8],
     pub tail: u8,
     pub free: u64,
     pub nodes: [Node; 64],
-    pub kept_head: u32,
+    pub kept_heads: [u32; 8],
     pub kept: [Content; 64],
     pub threads: [Thread; 8],
 }
@@ -72,8 +74,9 @@ impl Machine {
         ensures answered { λ r. ⌜ told (r .answer) ≡ told (freshFrom n t .answer) ⌝ }
         ensures started { λ r. ⌜ r .machine ≡ freshFrom n t .machine ⌝ }
     {
+        let heads = no_heads();
         let nodes = no_contents();
-        let g = Image { n, head: 0, nodes };
+        let g = Image { n, heads, nodes };
         start_from(g, t)
     }
 }

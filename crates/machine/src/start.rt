@@ -13,14 +13,16 @@ use answer::Answer;
 use image::Content;
 use image::Image;
 use image::dummy_of;
-use image::is_recovered;
+use image::largest_of;
 use image::no_contents;
+use image::no_heads;
+use image::recovered_in;
 use image::sound_of;
 ghost use mathlib.Core.Path.{_≡_};
 ghost use Prim.Native.Nat.{suc, _≤_, _<_};
 ghost use Rattle.answer.specs.Answers.{told};
 ghost use Rattle.image.specs.Refusals.{nodesFit};
-ghost use Rattle.machine.specs.Start.{queueOf, startNode, startOf, threadsFit, startFrom};
+ghost use Rattle.machine.specs.Start.{queueOf, startHeads, startNode, startOf, threadsFit, startFrom};
 ghost use Rattle.machine.specs.Laid.{laid, refusedStart, startNodes, startKept, startFree};
 
 // Node i after a start whose dummy is d: the cached copy is read anew, the dummy's cached index becomes the head index.
@@ -31,11 +33,12 @@ fn node_of(g: Image, d: u8, q: Queue, i: usize) -> Node
     let v = g.nodes[i];
     let next = link_of(d, q, i);
     if i == d as usize {
+        let index = largest_of(g.heads, Machine::HEADS);
         return Node {
             item: v.item,
             next,
             linked: v.linked,
-            index: g.head,
+            index,
             waits: 0,
         };
     }
@@ -63,6 +66,15 @@ fn nodes_of(g: Image, d: u8, q: Queue) -> [Node; 64]
     nodes
 }
 
+// The indices of the head lines as read: the persisted ones stay, the cached ones are the same.
+fn heads_of(g: Image) -> [u32; 8]
+    ensures { λ r. ⌜ r ≡ startHeads g ⌝ }
+{
+    let mut heads = no_heads();
+    heads[0] = g.heads[0];
+    heads
+}
+
 // The persisted copies stay.
 fn kept_of(g: Image) -> [Content; 64]
     requires { ⌜ g .n ≤ 64 ⌝ }
@@ -88,7 +100,7 @@ fn with_spare(g: Image, d: u8, w: u64, i: usize) -> u64
         return w;
     }
     let v = g.nodes[i];
-    if is_recovered(v, g.head) {
+    if recovered_in(v, g.heads) {
         return w;
     }
     let k = i as u32;
@@ -121,17 +133,19 @@ pub fn start(g: Image, t: u8) -> Machine
     let tail = last_of(d, q);
     let free = free_of(g, d);
     let nodes = nodes_of(g, d, q);
+    let heads = heads_of(g);
+    let kept_heads = heads_of(g);
     let kept = kept_of(g);
     let threads = idle_threads();
     Machine {
         n: g.n,
         t,
         head: d,
-        index: g.head,
+        heads,
         tail,
         free,
         nodes,
-        kept_head: g.head,
+        kept_heads,
         kept,
         threads,
     }

@@ -3,7 +3,7 @@ use Prim.Native.Nat.{ℕ, zero, suc, _*_}
 use mathlib.Core.List.{List, [], _∷_, _++_, map}
 use lib.ListN.{length, getD}
 use Rattle.lists.specs.Tab.{front}
-use Rattle.image.specs.Layout.{noContent, noContents, contentAt}
+use Rattle.image.specs.Layout.{noContent, noContents, contentAt, headsOf}
 use Rattle.image.specs.declared.Content.{Content}
 use Rattle.image.specs.declared.Image.{Image}
 use Rattle.machine.specs.Line.{ofHead, ofNode, numberOf}
@@ -26,7 +26,7 @@ product (line ∷ rest) = length line * product rest
 unfoldable pub imageOf : ℕ → List Content → Image
 imageOf n c = record {
   n = n;
-  head = contentAt c (numberOf n (ofHead 0)) .index;
+  heads = headsOf n (λ k. contentAt c (numberOf n (ofHead k)) .index);
   nodes = front (λ i. contentAt c (numberOf n (ofNode i))) n noContents;
 }
 

@@ -9,7 +9,7 @@ use Rattle.lists.specs.Find.{pick, both}
 use Rattle.answer.specs.declared.Answer.{Answer}
 use Rattle.answer.specs.declared.Answer.the-variants.{Done}
 use Rattle.image.specs.declared.Content.{Content}
-use Rattle.machine.specs.Record.{none, top, node, thread, contentOf, putTail, putThread, idleThread}
+use Rattle.machine.specs.Record.{none, top, node, headAt, thread, contentOf, putTail, putThread, idleThread}
 use Rattle.machine.specs.Stage.{Stage, noStep, A1, A2, A3, A4, A5, A6, A7, A8, A9, A10, A11, A12, D1, D2, D3, D4, D5, D6, D7, stage}
 use Rattle.machine.specs.Line.{Line, ofHead, ofNode, lineAt, persist, cachedAt}
 use Rattle.machine.specs.Retire.{going, answering, left, freed, releasedAt, released, retired, retiredHeld, nextFree, others}
@@ -20,16 +20,16 @@ use Rattle.machine.specs.declared.Out.{Out}
 use Rattle.endtable.specs.Touches.{touches}
 
 -- m with other persisted copies
-abbrev pub keeping : Machine → ℕ → List Content → Machine
-keeping m h k = record { n = m .n; t = m .t; head = m .head; index = m .index; tail = m .tail; free = m .free; nodes = m .nodes; «kept_head» = h; kept = k; threads = m .threads }
+abbrev pub keeping : Machine → List ℕ → List Content → Machine
+keeping m h k = record { n = m .n; t = m .t; head = m .head; heads = m .heads; tail = m .tail; free = m .free; nodes = m .nodes; «kept_heads» = h; kept = k; threads = m .threads }
 
 pub record Alike (m m′ : Machine) : Type 0 where
-  pub head : ℕ
+  pub heads : List ℕ
   pub copies : List Content
-  pub is : m′ ≡ keeping m head copies
+  pub is : m′ ≡ keeping m heads copies
 
 pub alike-self : (m : Machine) → Alike m m
-alike-self m = record { head = m .«kept_head»; copies = m .kept; is = refl }
+alike-self m = record { heads = m .«kept_heads»; copies = m .kept; is = refl }
 
 -- two results with one answer, and machines alike
 pub record AlikeOut (o o′ : Out) : Type 0 where
@@ -38,27 +38,27 @@ pub record AlikeOut (o o′ : Out) : Type 0 where
 
 -- ---- the parts of a step
 
-keep-released-at : (m : Machine) (h : ℕ) (c : List Content) (k i : ℕ) → releasedAt (keeping m h c) k i ≡ keeping (releasedAt m k i) h c
+keep-released-at : (m : Machine) (h : List ℕ) (c : List Content) (k i : ℕ) → releasedAt (keeping m h c) k i ≡ keeping (releasedAt m k i) h c
 unfolding releasedAt
 keep-released-at m h c k i = refl
 
-keep-released : (m : Machine) (h : ℕ) (c : List Content) (k i : ℕ) → released (keeping m h c) k i ≡ keeping (released m k i) h c
+keep-released : (m : Machine) (h : List ℕ) (c : List Content) (k i : ℕ) → released (keeping m h c) k i ≡ keeping (released m k i) h c
 unfolding released
 keep-released m h c k zero = refl
 keep-released m h c k (suc i) = ap (λ (x : Machine). releasedAt x k i) (keep-released m h c k i) ∙ keep-released-at (released m k i) h c k i
 
-keep-left : (m : Machine) (h : ℕ) (c : List Content) (k x : ℕ) → left (keeping m h c) k x ≡ keeping (left m k x) h c
+keep-left : (m : Machine) (h : List ℕ) (c : List Content) (k x : ℕ) → left (keeping m h c) k x ≡ keeping (left m k x) h c
 keep-left m h c k x = ap (λ (z : Machine). putThread z k (idleThread x)) (keep-released m h c k (m .n))
 
-keep-pick : (a b : Machine) (h : ℕ) (c : List Content) (t : Bool) → pick t (keeping a h c) (keeping b h c) ≡ keeping (pick t a b) h c
+keep-pick : (a b : Machine) (h : List ℕ) (c : List Content) (t : Bool) → pick t (keeping a h c) (keeping b h c) ≡ keeping (pick t a b) h c
 keep-pick a b h c true = refl
 keep-pick a b h c false = refl
 
-keep-retired : (m : Machine) (h : ℕ) (c : List Content) (k x : ℕ) → retired (keeping m h c) k x ≡ keeping (retired m k x) h c
+keep-retired : (m : Machine) (h : List ℕ) (c : List Content) (k x : ℕ) → retired (keeping m h c) k x ≡ keeping (retired m k x) h c
 unfolding retired others
 keep-retired m h c k x = refl
 
-keep-retired-held : (m : Machine) (h : ℕ) (c : List Content) (k : ℕ) → retiredHeld (keeping m h c) k ≡ keeping (retiredHeld m k) h c
+keep-retired-held : (m : Machine) (h : List ℕ) (c : List Content) (k : ℕ) → retiredHeld (keeping m h c) k ≡ keeping (retiredHeld m k) h c
 keep-retired-held m h c k =
     ap (pick (eqb (thread m k .held) none) (keeping m h c)) (keep-retired m h c k (thread m k .held))
     ∙ keep-pick m (retired m k (thread m k .held)) h c (eqb (thread m k .held) none)
@@ -67,30 +67,28 @@ pick-out : (t : Bool) (a b a′ b′ : Out) → AlikeOut a a′ → AlikeOut b b
 pick-out true a b a′ b′ p q = p
 pick-out false a b a′ b′ p q = q
 
-keep-free : (m : Machine) (h : ℕ) (c : List Content) → nextFree (keeping m h c) ≡ nextFree m
+keep-free : (m : Machine) (h : List ℕ) (c : List Content) → nextFree (keeping m h c) ≡ nextFree m
 unfolding nextFree
 keep-free m h c = refl
 
-alike-persist : (m : Machine) (h : ℕ) (c : List Content) (l : Line) → Alike (persist m l) (persist (keeping m h c) l)
-alike-persist m h c (ofHead zero) = record { head = m .index; copies = c; is = refl }
-alike-persist m h c (ofHead (suc k)) = record { head = h; copies = c; is = refl }
-alike-persist m h c (ofNode i) = record { head = h; copies = set c i (contentOf (node m i)); is = refl }
+alike-persist : (m : Machine) (h : List ℕ) (c : List Content) (l : Line) → Alike (persist m l) (persist (keeping m h c) l)
+alike-persist m h c (ofHead k) = record { heads = set h k (headAt m k); copies = c; is = refl }
+alike-persist m h c (ofNode i) = record { heads = h; copies = set c i (contentOf (node m i)); is = refl }
 
 -- a write-back on one side alone
-keep-back : (m : Machine) (h : ℕ) (c : List Content) (l : Line) → Alike m (persist (keeping m h c) l)
-keep-back m h c (ofHead zero) = record { head = m .index; copies = c; is = refl }
-keep-back m h c (ofHead (suc k)) = record { head = h; copies = c; is = refl }
-keep-back m h c (ofNode i) = record { head = h; copies = set c i (contentOf (node m i)); is = refl }
+keep-back : (m : Machine) (h : List ℕ) (c : List Content) (l : Line) → Alike m (persist (keeping m h c) l)
+keep-back m h c (ofHead k) = record { heads = set h k (headAt m k); copies = c; is = refl }
+keep-back m h c (ofNode i) = record { heads = h; copies = set c i (contentOf (node m i)); is = refl }
 
 pub alike-back : (m m′ : Machine) → Alike m m′ → (l : Line) → Alike m (persist m′ l)
-alike-back m m′ a l = subst (λ (x : Machine). Alike m (persist x l)) (sym (a .is)) (keep-back m (a .head) (a .copies) l)
+alike-back m m′ a l = subst (λ (x : Machine). Alike m (persist x l)) (sym (a .is)) (keep-back m (a .heads) (a .copies) l)
 
 -- ---- the steps
 
-module _ (m : Machine) (h : ℕ) (c : List Content) (k : ℕ) where
+module _ (m : Machine) (h : List ℕ) (c : List Content) (k : ℕ) where
   -- nothing is persisted
   quiet : (a : Answer) (x y : Machine) → y ≡ keeping x h c → AlikeOut (record { answer = a; machine = x }) (record { answer = a; machine = y })
-  quiet a x y e = record { answer = refl; machine = record { head = h; copies = c; is = e } }
+  quiet a x y e = record { answer = refl; machine = record { heads = h; copies = c; is = e } }
 
   alike-step : (s : Stage) → AlikeOut (stepped m k s) (stepped (keeping m h c) k s)
   alike-step noStep = quiet _ _ _ refl
@@ -109,7 +107,7 @@ module _ (m : Machine) (h : ℕ) (c : List Content) (k : ℕ) where
       (quiet _ _ _ refl)
   alike-step A8 = pick-out (eqb (node m (thread m k .tail) .next) none) _ _ _ _ (quiet _ _ _ refl) (quiet _ _ _ refl)
   alike-step A9 = quiet _ _ _ refl
-  alike-step A10 = record { answer = refl; machine = record { head = h; copies = set c (thread m k .node) (contentOf (node m (thread m k .node))); is = refl } }
+  alike-step A10 = record { answer = refl; machine = record { heads = h; copies = set c (thread m k .node) (contentOf (node m (thread m k .node))); is = refl } }
   alike-step A11 = tailed (eqb (m .tail) (thread m k .tail))
     where
       tailed : (t : Bool) → AlikeOut (answering Done (pick t (putTail m (thread m k .node)) m) k)
@@ -124,28 +122,28 @@ module _ (m : Machine) (h : ℕ) (c : List Content) (k : ℕ) where
       tailed false = quiet _ _ _ refl
   alike-step D1 = quiet _ _ _ refl
   alike-step D2 = quiet _ _ _ refl
-  alike-step D3 = record { answer = refl; machine = record { head = m .index; copies = c; is = keep-left (persist m (ofHead 0)) (m .index) c k (thread m k .held) } }
+  alike-step D3 = record { answer = refl; machine = record { heads = set h 0 (headAt m 0); copies = c; is = keep-left (persist m (ofHead 0)) (set h 0 (headAt m 0)) c k (thread m k .held) } }
   alike-step D4 =
-      pick-out (both (eqb (m .head) (thread m k .head)) (eqb (m .index) (thread m k .index))) _ _ _ _ (quiet _ _ _ refl) (quiet _ _ _ refl)
+      pick-out (both (eqb (m .head) (thread m k .head)) (eqb (headAt m 0) (thread m k .index))) _ _ _ _ (quiet _ _ _ refl) (quiet _ _ _ refl)
   alike-step D5 = quiet _ _ _ refl
-  alike-step D6 = record { answer = refl; machine = record { head = m .index; copies = c; is = refl } }
+  alike-step D6 = record { answer = refl; machine = record { heads = set h 0 (headAt m 0); copies = c; is = refl } }
   alike-step D7 = quiet _ _ _
       (ap (λ (x : Machine). left x k (thread m k .head)) (keep-retired-held m h c k) ∙ keep-left (retiredHeld m k) h c k (thread m k .head))
 
 -- ---- the events
 
-keep-done : (m : Machine) (h : ℕ) (c : List Content) (e : Event) (d : Deed) → (d ≡ crashes → ⊥) → AlikeOut (done m e d) (done (keeping m h c) e d)
-keep-done m h c e unknown ne = record { answer = refl; machine = record { head = h; copies = c; is = refl } }
-keep-done m h c e enqueues ne = record { answer = refl; machine = record { head = h; copies = c; is = refl } }
-keep-done m h c e dequeues ne = record { answer = refl; machine = record { head = h; copies = c; is = refl } }
+keep-done : (m : Machine) (h : List ℕ) (c : List Content) (e : Event) (d : Deed) → (d ≡ crashes → ⊥) → AlikeOut (done m e d) (done (keeping m h c) e d)
+keep-done m h c e unknown ne = record { answer = refl; machine = record { heads = h; copies = c; is = refl } }
+keep-done m h c e enqueues ne = record { answer = refl; machine = record { heads = h; copies = c; is = refl } }
+keep-done m h c e dequeues ne = record { answer = refl; machine = record { heads = h; copies = c; is = refl } }
 keep-done m h c e steps ne = alike-step m h c (e .number) (stage m (e .number))
 keep-done m h c e writesBack ne = record { answer = refl; machine = alike-persist m h c (lineAt (m .n) (e .number)) }
 keep-done m h c e crashes ne = absurd (ne refl)
 
 pub alike-done : (m m′ : Machine) → Alike m m′ → (e : Event) (d : Deed) → (d ≡ crashes → ⊥) → AlikeOut (done m e d) (done m′ e d)
-alike-done m m′ a e d ne = subst (λ (x : Machine). AlikeOut (done m e d) (done x e d)) (sym (a .is)) (keep-done m (a .head) (a .copies) e d ne)
+alike-done m m′ a e d ne = subst (λ (x : Machine). AlikeOut (done m e d) (done x e d)) (sym (a .is)) (keep-done m (a .heads) (a .copies) e d ne)
 
-keep-answer : (p : ℕ) (m : Machine) (h : ℕ) (c : List Content) (e : Event) (d : Deed) → (d ≡ crashes → ⊥) → eventAnswer p (keeping m h c) e d ≡ eventAnswer p m e d
+keep-answer : (p : ℕ) (m : Machine) (h : List ℕ) (c : List Content) (e : Event) (d : Deed) → (d ≡ crashes → ⊥) → eventAnswer p (keeping m h c) e d ≡ eventAnswer p m e d
 keep-answer p m h c e unknown ne = refl
 keep-answer p m h c e enqueues ne = refl
 keep-answer p m h c e dequeues ne = refl
@@ -154,19 +152,18 @@ keep-answer p m h c e writesBack ne = refl
 keep-answer p m h c e crashes ne = absurd (ne refl)
 
 pub alike-answer : (p : ℕ) (m m′ : Machine) → Alike m m′ → (e : Event) (d : Deed) → (d ≡ crashes → ⊥) → eventAnswer p m′ e d ≡ eventAnswer p m e d
-alike-answer p m m′ a e d ne = ap (λ (x : Machine). eventAnswer p x e d) (a .is) ∙ keep-answer p m (a .head) (a .copies) e d ne
+alike-answer p m m′ a e d ne = ap (λ (x : Machine). eventAnswer p x e d) (a .is) ∙ keep-answer p m (a .heads) (a .copies) e d ne
 
 -- ---- what is alike
 
-keep-cached : (m : Machine) (h : ℕ) (c : List Content) (l : Line) → cachedAt (keeping m h c) l ≡ cachedAt m l
-keep-cached m h c (ofHead zero) = refl
-keep-cached m h c (ofHead (suc k)) = refl
+keep-cached : (m : Machine) (h : List ℕ) (c : List Content) (l : Line) → cachedAt (keeping m h c) l ≡ cachedAt m l
+keep-cached m h c (ofHead k) = refl
 keep-cached m h c (ofNode i) = refl
 
 pub alike-cached : (m m′ : Machine) → Alike m m′ → (l : Line) → cachedAt m′ l ≡ cachedAt m l
-alike-cached m m′ a l = ap (λ (x : Machine). cachedAt x l) (a .is) ∙ keep-cached m (a .head) (a .copies) l
+alike-cached m m′ a l = ap (λ (x : Machine). cachedAt x l) (a .is) ∙ keep-cached m (a .heads) (a .copies) l
 
-keep-touches : (m : Machine) (h : ℕ) (c : List Content) (e : Event) (d : Deed) → touches (keeping m h c) e d ≡ touches m e d
+keep-touches : (m : Machine) (h : List ℕ) (c : List Content) (e : Event) (d : Deed) → touches (keeping m h c) e d ≡ touches m e d
 keep-touches m h c e unknown = refl
 keep-touches m h c e enqueues = refl
 keep-touches m h c e dequeues = refl
@@ -175,7 +172,7 @@ keep-touches m h c e writesBack = refl
 keep-touches m h c e crashes = refl
 
 pub alike-touches : (m m′ : Machine) → Alike m m′ → (e : Event) (d : Deed) → touches m′ e d ≡ touches m e d
-alike-touches m m′ a e d = ap (λ (x : Machine). touches x e d) (a .is) ∙ keep-touches m (a .head) (a .copies) e d
+alike-touches m m′ a e d = ap (λ (x : Machine). touches x e d) (a .is) ∙ keep-touches m (a .heads) (a .copies) e d
 
 pub alike-size : (m m′ : Machine) → Alike m m′ → m′ .n ≡ m .n
 alike-size m m′ a = ap (λ (x : Machine). x .n) (a .is)

@@ -1,6 +1,6 @@
 -- In every machine of a run there are as many persisted copies as nodes: each node's line has one.
 use Prim.Native.Nat.{ℕ, zero, suc, _+_, _-_}
-use mathlib.Core.Path.{_≡_, sym, ap, _∙_}
+use mathlib.Core.Path.{_≡_, refl, sym, ap, _∙_}
 use mathlib.Core.Bool.{Bool, true, false}
 use mathlib.Core.List.{List}
 use lib.ListN.{length, set, length-map, length-set, length-replicate}
@@ -9,7 +9,7 @@ use Rattle.lists.specs.Find.{pick, both}
 use Rattle.lists.proofs.TabLaws as tabs
 use Rattle.image.specs.declared.Image.{Image}
 use Rattle.image.specs.Layout.{noContent, noContents}
-use Rattle.machine.specs.Record.{none, top, node, thread, contentOf, blankNode, blankNodes, putTail}
+use Rattle.machine.specs.Record.{none, top, node, thread, headAt, contentOf, blankNode, blankNodes, putTail, putHead, putNode}
 use Rattle.machine.specs.Stage.{Stage, noStep, A1, A2, A3, A4, A5, A6, A7, A8, A9, A10, A11, A12, D1, D2, D3, D4, D5, D6, D7, stage}
 use Rattle.machine.specs.Line.{Line, ofHead, ofNode, lineAt, persist}
 use Rattle.machine.specs.Retire.{left, freed, released, retired, retiredHeld}
@@ -19,32 +19,34 @@ use Rattle.machine.specs.declared.Machine.{Machine}
 use Rattle.machine.specs.declared.Node.{Node}
 use Rattle.machine.specs.declared.Event.{Event}
 use Rattle.machine.specs.declared.Out.{Out}
+use Rattle.endtable.specs.Frame.{Even}
 use Rattle.endtable.proofs.Frame as frame
-
-abbrev pub Even : Machine → Type 0
-Even m = length (m .kept) ≡ length (m .nodes)
 
 -- ---- parts of a step
 
 -- the same contents
 even-same : (m m′ : Machine) → frame.Same m m′ → Even m → Even m′
-even-same m m′ s e =
-    ap length (s .kept) ∙ e ∙ sym (length-map (m .nodes) contentOf) ∙ ap length (sym (s .nodes)) ∙ length-map (m′ .nodes) contentOf
+even-same m m′ s e = (
+  ap length (s .kept) ∙ e .0 ∙ sym (length-map (m .nodes) contentOf) ∙ ap length (sym (s .nodes)) ∙ length-map (m′ .nodes) contentOf,
+  ap length (s .head) ∙ e .1 ∙ ap length (sym (s .index)),
+)
 
 even-left : (m : Machine) (k x : ℕ) → Even m → Even (left m k x)
 even-left m k x e = even-same m (released m k (m .n)) (frame.same-released m k (m .n)) e
 
-even-set : (m : Machine) (i : ℕ) (v : Node) → Even m → length (m .kept) ≡ length (set (m .nodes) i v)
-even-set m i v e = e ∙ sym (length-set (m .nodes) i v)
+even-set : (m : Machine) (i : ℕ) (v : Node) → Even m → Even (putNode m i v)
+even-set m i v e = (e .0 ∙ sym (length-set (m .nodes) i v), e .1)
+
+even-head : (m : Machine) (h x : ℕ) → Even m → Even (putHead m h x)
+even-head m h x e = (e .0, e .1 ∙ sym (length-set (m .heads) 0 x))
 
 even-pick : (t : Bool) (a b : Out) → Even (a .machine) → Even (b .machine) → Even (pick t a b .machine)
 even-pick true a b p q = p
 even-pick false a b p q = q
 
 even-persist : (m : Machine) (l : Line) → Even m → Even (persist m l)
-even-persist m (ofHead zero) e = e
-even-persist m (ofHead (suc k)) e = e
-even-persist m (ofNode i) e = length-set (m .kept) i (contentOf (node m i)) ∙ e
+even-persist m (ofHead k) e = (e .0, length-set (m .«kept_heads») k (headAt m k) ∙ e .1)
+even-persist m (ofNode i) e = (length-set (m .kept) i (contentOf (node m i)) ∙ e .0, e .1)
 
 even-held : (m : Machine) (k : ℕ) → Even m → Even (retiredHeld m k)
 even-held m k e = by (eqb (thread m k .held) none)
@@ -81,10 +83,10 @@ module _ (m : Machine) (k : ℕ) (e : Even m) where
   even-step A12 = even-tail m (eqb (m .tail) (thread m k .tail)) (node m (thread m k .tail) .next) e
   even-step D1 = e
   even-step D2 = e
-  even-step D3 = even-left (persist m (ofHead 0)) k (thread m k .held) e
-  even-step D4 = even-pick (both (eqb (m .head) (thread m k .head)) (eqb (m .index) (thread m k .index))) _ _ e e
+  even-step D3 = even-left (persist m (ofHead 0)) k (thread m k .held) (even-persist m (ofHead 0) e)
+  even-step D4 = even-pick (both (eqb (m .head) (thread m k .head)) (eqb (headAt m 0) (thread m k .index))) _ _ (even-head m (thread m k .next) _ e) e
   even-step D5 = e
-  even-step D6 = e
+  even-step D6 = even-persist m (ofHead 0) e
   even-step D7 = even-left (retiredHeld m k) k (thread m k .head) (even-held m k e)
 
 -- ---- starts and events
@@ -99,8 +101,10 @@ contents-length = length-replicate 64 noContent
 
 even-with : (g : Image) (t d : ℕ) (q : List ℕ) → Even (startWith g t d q)
 unfolding startWith
-even-with g t d q =
-    tabs.front-length _ (g .n) noContents ∙ ap (λ (x : ℕ). g .n + (x - g .n)) (contents-length ∙ sym blank-length) ∙ sym (tabs.front-length _ (g .n) blankNodes)
+even-with g t d q = (
+  tabs.front-length _ (g .n) noContents ∙ ap (λ (x : ℕ). g .n + (x - g .n)) (contents-length ∙ sym blank-length) ∙ sym (tabs.front-length _ (g .n) blankNodes),
+  refl,
+)
 
 pub even-start : (g : Image) (t : ℕ) → Even (startOf g t)
 even-start g t = even-with g t _ (queueOf g)

@@ -25,12 +25,12 @@ use Rattle.page.specs.Contents.{joins, contentsOf}
 use Rattle.lawful.specs.Added.{writeBack}
 use Rattle.endtable.specs.declared.touch.Touch.{Touch}
 use Rattle.endtable.specs.Touches.{touches, touchIn}
-use Rattle.endtable.specs.Frame.{lineOf, persistsOf, Frame}
+use Rattle.endtable.specs.Frame.{lineOf, persistsOf, Frame, Even}
 use Rattle.endtable.specs.Moments.{Timed}
 use Rattle.endtable.proofs.Steps as acts
 use Rattle.endtable.proofs.Moments as moments
 use Rattle.pageproof.proofs.Alike.{Alike, alike-done, alike-answer, alike-touches, alike-size}
-use Rattle.pageproof.proofs.Even.{Even, even-done}
+use Rattle.pageproof.proofs.Even.{even-done}
 
 abbrev pub Takes : ℕ → Machine → Event → Type 0
 Takes p m e = accepted (eventAt p m e .answer) ≡ true

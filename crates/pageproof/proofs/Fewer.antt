@@ -14,8 +14,8 @@ use Rattle.page.specs.Contents.{joins, gathered, contentsOf}
 use Rattle.lawful.specs.Added.{writeBack, Adds, ends, keeps, adds, NoCrash}
 use Rattle.endtable.proofs.Frame.{persist-cached}
 use Rattle.endtable.proofs.Moments as moments
+use Rattle.endtable.specs.Frame.{Even}
 use Rattle.pageproof.proofs.Alike.{Alike, alike-cached, alike-back}
-use Rattle.pageproof.proofs.Even.{Even}
 use Rattle.pageproof.proofs.Among.{Among, among-old, among-new}
 use Rattle.pageproof.proofs.Events as events
 use Rattle.pageproof.proofs.Events.{Takes, next, Crash, no-crash, hits, Good, onto}

@@ -23,7 +23,8 @@ use Rattle.lawful.specs.Demand3.{Bytes, Leaves, PageHolds}
 use Rattle.endtable.proofs.Blocks as blocks
 use Rattle.endtable.proofs.Choices as choices
 use Rattle.endtable.proofs.Distinct as distinct
-use Rattle.pageproof.proofs.Even.{Even, even-start}
+use Rattle.endtable.specs.Frame.{Even}
+use Rattle.pageproof.proofs.Even.{even-start}
 use Rattle.pageproof.proofs.Page.{leaves, only}
 
 -- ---- each image once

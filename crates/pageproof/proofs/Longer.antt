@@ -22,8 +22,9 @@ use Rattle.lawful.specs.Demand3.{Bytes, runOf, imageLeft, Leaves}
 use Rattle.endtable.proofs.Moments as moments
 use Rattle.pageproof.specs.Longer as longer
 use Rattle.pageproof.specs.Longer.{Longer, LongerLate}
+use Rattle.endtable.specs.Frame.{Even}
 use Rattle.pageproof.proofs.Alike.{Alike, alike-self, alike-back, alike-size}
-use Rattle.pageproof.proofs.Even.{Even, even-start}
+use Rattle.pageproof.proofs.Even.{even-start}
 use Rattle.pageproof.proofs.Events as events
 use Rattle.pageproof.proofs.Events.{Takes, no-crash, Good, onto}
 use Rattle.pageproof.proofs.Runs.{Accepts, run-first, run-cons, run-rest, run-taken, run-silent, run-front, run-append, good-run, run-size, andAfter}

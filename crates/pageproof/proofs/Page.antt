@@ -1,6 +1,6 @@
 -- The page of a run from a start: its endings are what added write-backs leave.
 use Prim.Native.Nat.{ℕ, suc, _+_, _<_}
-use mathlib.Core.Path.{_≡_, refl, sym, ap, subst, _∙_}
+use mathlib.Core.Path.{_≡_, refl, sym, ap, ap₂, subst, _∙_}
 use mathlib.Core.List.{List, [], _++_}
 use native.Mathlib.Omega.{arith}
 use native.Mathlib.Decide.{decLt}
@@ -8,21 +8,23 @@ use lib.ListN.{length, getD, drop}
 use Rattle.lists.specs.Tab.{front}
 use Rattle.lists.proofs.TabLaws as tabs
 use Rattle.answer.specs.Answers.{accepted}
-use Rattle.image.specs.Layout.{contentAt, noContents}
+use Rattle.image.specs.Layout.{contentAt, noContents, headLines}
 use Rattle.image.specs.declared.Content.{Content}
 use Rattle.image.specs.declared.Image.{Image}
-use Rattle.machine.specs.Line.{ofHead, headLines, lineCount, lineAt, persistedAt}
+use Rattle.machine.specs.Line.{ofHead, lineCount, lineAt, persistedAt}
+use Rattle.machine.specs.Record.{keptHead}
 use Rattle.machine.specs.declared.Machine.{Machine}
 use Rattle.machine.specs.declared.Event.{Event}
-use Rattle.machine.proofs.LineLaws.{one-head, line-zero, line-node}
+use Rattle.image.proofs.HeadLaws.{heads-same}
+use Rattle.machine.proofs.LineLaws.{line-head, line-node}
 use Rattle.schedule.specs.Run.{Bench, Ran, run, begins}
 use Rattle.page.specs.Contents.{contentsOf, tableOf}
 use Rattle.page.specs.Endings.{choices, product, imageOf, ending}
 use Rattle.lawful.specs.Added.{AddsLate}
 use Rattle.lawful.specs.Demand3.{imageLeft}
 use Rattle.endtable.proofs.Moments as moments
+use Rattle.endtable.specs.Frame.{Even}
 use Rattle.pageproof.proofs.Alike.{alike-self}
-use Rattle.pageproof.proofs.Even.{Even}
 use Rattle.pageproof.proofs.Among.{Among, choice-in, choice-of}
 use Rattle.pageproof.proofs.Events.{Good}
 use Rattle.pageproof.proofs.Runs.{Accepts, Last, last-of, good-run, run-size, run-front, run-append, begins-at, andAfter}
@@ -34,12 +36,13 @@ use Rattle.pageproof.proofs.Sow.{sow, Sown, sown}
 image-is : (m : Machine) (n : ℕ) (c : List Content) → m .n ≡ n → ((j : ℕ) → j < lineCount n → persistedAt m (lineAt n j) ≡ contentAt c j) → imageLeft m ≡ imageOf n c
 unfolding imageOf front
 image-is m n c size h =
-    rw (size, ap (λ (x : Content). x .index) head)
-    (ap (λ (x : List Content). record { n = n; head = contentAt c 0 .index; nodes = x ++ drop n noContents })
+    rw size
+    (ap₂ (λ (y : List ℕ) (x : List Content). record { n = n; heads = y; nodes = x ++ drop n noContents })
+    (heads-same n (keptHead m) (λ k. contentAt c k .index) head)
     (tabs.tab-same (contentAt (m .kept)) (λ i. contentAt c (headLines n + i)) n node))
   where
-    head : persistedAt m (ofHead 0) ≡ contentAt c 0
-    head = ap (persistedAt m) (sym (line-zero n)) ∙ h 0 (omega (arith, one-head n))
+    head : (k : ℕ) → k < headLines n → keptHead m k ≡ contentAt c k .index
+    head k r = ap (λ (x : Content). x .index) (ap (persistedAt m) (sym (line-head n k r)) ∙ h k (omega arith))
 
     node : (i : ℕ) → i < n → contentAt (m .kept) i ≡ contentAt c (headLines n + i)
     node i k = ap (persistedAt m) (sym (line-node n i)) ∙ h (headLines n + i) (omega arith)

@@ -30,6 +30,7 @@ use Rattle.schedule.specs.Layout.{scheduleIn, scheduleAnswer, eventFrom, eventP
 use Rattle.schedule.specs.Run.{Ran, Bench, run, ran, opened, begins, turned, andBefore}
 use Rattle.page.specs.Refusals.{tableIn}
 use Rattle.page.specs.Contents.{tableOf}
+use Rattle.endtable.specs.Frame.{Even}
 use Rattle.endtable.specs.Opened.{openedTable, openedCounts}
 use Rattle.endtable.specs.Touches.{touchIn}
 use Rattle.endtable.specs.Tables.{Tables, tableAfter, countsAfter}
@@ -117,10 +118,10 @@ module _ (s : List ℕ) where
         ap inRange (g .stands .machine ∙ sym (ap (λ (x : Bench). x .machine) (g .come)))
         ∙ schedules.events-in-range s bytes a 0 (tab f i)
 
-    -- the two tables of nodes are of one length
-    pub going-even : length (m .kept) ≡ length (m .nodes)
+    -- each line has as many persisted copies as cached ones
+    pub going-even : Even m
     going-even =
-        subst (λ (x : Machine). length (x .kept) ≡ length (x .nodes)) (sym (g .stands .machine ∙ sym (ap (λ (x : Bench). x .machine) (g .come))))
+        subst (λ (x : Machine). Even x) (sym (g .stands .machine ∙ sym (ap (λ (x : Bench). x .machine) (g .come))))
         (runs.good-run (tab f i) 0 b₀ (record { timed = moments.timed-begins (b₀ .machine); even = evens.even-start (scheduleIn s .image) (scheduleIn s .t) }) (g .taken) .even)
 
     pub going-small : m .n ≤ 64
@@ -146,7 +147,7 @@ module _ (s : List ℕ) where
         }
 
     -- an event that is taken
-    module _ (lt : i < countIn s) (a : accepted (eventAt i m (f i) .answer) ≡ true) (even : length (m .kept) ≡ length (m .nodes)) where
+    module _ (lt : i < countIn s) (a : accepted (eventAt i m (f i) .answer) ≡ true) (even : Even m) where
       abbrev e : Event
       e = f i
 
@@ -159,8 +160,8 @@ module _ (s : List ℕ) where
       taken′ : accepted (eventAt i (b .machine) e .answer) ≡ true
       taken′ = subst (λ (x : Machine). accepted (eventAt i x e .answer) ≡ true) now a
 
-      even′ : length (b .machine .kept) ≡ length (b .machine .nodes)
-      even′ = subst (λ (x : Machine). length (x .kept) ≡ length (x .nodes)) now even
+      even′ : Even (b .machine)
+      even′ = subst (λ (x : Machine). Even x) now even
 
       own : Stands b (b .machine) (atsOf rows) (countsOf rows)
       own = benches.stands-now b m (atsOf rows) (countsOf rows) (g .stands)

@@ -19,7 +19,7 @@ use Rattle.image.specs.declared.Content.{Content}
 use Rattle.image.specs.declared.Image.{Image}
 use Rattle.machine.specs.Line.{lineCount}
 use Rattle.machine.specs.declared.Machine.{Machine}
-use Rattle.machine.proofs.LineLaws.{one-head}
+use Rattle.image.proofs.HeadLaws.{one-head}
 use Rattle.schedule.specs.Layout.{scheduleAnswer}
 use Rattle.schedule.specs.Run.{Ran, Bench, ran}
 use Rattle.page.specs.Contents.{tableOf}

@@ -9,6 +9,8 @@ use Rattle.lists.specs.Tab.{tab, front}
 use Rattle.lists.proofs.TabLaws as tabs
 use Rattle.image.specs.declared.Image.{Image}
 use Rattle.image.specs.Layout.{contentAt}
+use Rattle.image.specs.Recovered.{largest, headOf}
+use Rattle.image.proofs.HeadLaws.{head-largest}
 use Rattle.machine.specs.declared.queue.Queue.{Queue}
 use Rattle.machine.specs.Start.{queueOf}
 use Rattle.machine.specs.Laid.{zeros, laid}
@@ -83,9 +85,11 @@ pub listed-count : (g : Image) → listed (itemsOf g) .count ≤ g .n
 unfolding listed
 listed-count g = omega (arith, length-items g, queues.length-risen g (g .n))
 
-pub ending-line : (k : ℕ) (g : Image) (i : Items) → i ≡ listed (itemsOf g) → lineText k (g .head) (take (i .count) (i .items)) ≡ endingLine k g
+pub ending-line : (k : ℕ) (g : Image) (h : ℕ) (i : Items) → h ≡ largest (g .heads) 1 → i ≡ listed (itemsOf g) → lineText k h (take (i .count) (i .items)) ≡ endingLine k g
 unfolding lineText endingLine
-ending-line k g i e = ap (lineText k (g .head)) (ap (λ i. take (i .count) (i .items)) e ∙ listed-take (itemsOf g))
+ending-line k g h i z e =
+    ap (λ (x : ℕ). lineText k x (take (i .count) (i .items))) (z ∙ head-largest g)
+    ∙ ap (lineText k (headOf g)) (ap (λ i. take (i .count) (i .items)) e ∙ listed-take (itemsOf g))
 
 pub few-items : (g : Image) (i : Items) → g .n ≤ 64 → i ≡ listed (itemsOf g) → i .count ≤ 64
 few-items g i h e = omega (arith, ap (λ i. i .count) e, listed-count g)

@@ -12,6 +12,7 @@ use Rattle.answer.specs.declared.Answer.{Answer}
 use Rattle.answer.specs.declared.Answer.the-variants.{Taken, Done, Full, WornOut, Item, Empty, Length, Mark, Nodes, Threads, Events, Linked, Twin, NoDummy, Kind, Number, Busy, Idle, NotZero, Contents, Endings, NoEnding, Room, Record}
 use Rattle.image.specs.declared.Image.{Image}
 use Rattle.image.specs.Layout.{contentAt}
+use Rattle.image.specs.Recovered.{headOf}
 use Rattle.machine.specs.Start.{queueOf}
 use Rattle.page.specs.Printed.{spaced, itemsText, itemsOf, newline, firstLine, endingLine, refusedLine}
 use Rattle.printing.specs.Lines.{lineText, refusedText, listed}
@@ -90,13 +91,13 @@ line-short c k h l p q r s n =
       items-short c l p s n,
     )
 
-pub ending-short : (c k : ℕ) (g : Image) → 0 < c → k < 65536 → g .head < 4294967296 → AllSmall (itemsOf g)
+pub ending-short : (c k : ℕ) (g : Image) → 0 < c → k < 65536 → headOf g < 4294967296 → AllSmall (itemsOf g)
     → length (itemsOf g) ≤ c → length (endingLine k g) ≤ lineRoom c
 unfolding lineText endingLine
-ending-short c k g p q h s n = line-short c k (g .head) (itemsOf g) p q h s n
+ending-short c k g p q h s n = line-short c k (headOf g) (itemsOf g) p q h s n
 
 -- every image of at most c nodes
-pub image-short : (c k : ℕ) (g : Image) → 0 < c → k < 65536 → g .head < 4294967296 → AllSmall (itemsOf g)
+pub image-short : (c k : ℕ) (g : Image) → 0 < c → k < 65536 → headOf g < 4294967296 → AllSmall (itemsOf g)
     → g .n ≤ c → length (endingLine k g) ≤ lineRoom c
 image-short c k g p q h s n = ending-short c k g p q h s (omega (arith, items.items-few g))
 

@@ -1,6 +1,7 @@
 // The items that an image recovers to, and the line of an ending.
 use super::lines::put_line;
 use image::Image;
+use image::largest_of;
 use machine::queue::queue_of;
 ghost use mathlib.Core.Path.{_≡_};
 ghost use Prim.Native.Nat.{_+_, _≤_};
@@ -45,7 +46,9 @@ pub fn put_ending(b: &mut [u8], at: usize, k: u64, g: Image) -> usize
     requires { ⌜ (g .n ≤ 64) × (at + length (endingLine k g) ≤ length (now b)) ⌝ }
     ensures { λ r. ⌜ (r ≡ at + length (endingLine k g)) × (now (b .exit) ≡ over (now (b .entry)) at (endingLine k g)) ⌝ }
 {
+    let heads = g.heads;
+    let h = largest_of(heads, 1);
     let i = items_of(g);
     let items = i.items;
-    put_line(b, at, k, g.head as u64, items, i.count)
+    put_line(b, at, k, h as u64, items, i.count)
 }

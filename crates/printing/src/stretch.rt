@@ -5,6 +5,7 @@ use endtable::turn::turned;
 use image::Content;
 use image::Image;
 use image::no_contents;
+use image::no_heads;
 ghost use mathlib.Core.Path.{_≡_};
 ghost use Prim.Native.Nat.{_+_, _-_, _≤_, _<_};
 ghost use lib.ListN.{length};
@@ -52,11 +53,9 @@ pub fn write_endings(
         }
         let h = picks[0] as usize;
         let head = t[0][h];
-        let g = Image {
-            n,
-            head: head.index,
-            nodes,
-        };
+        let mut heads = no_heads();
+        heads[0] = head.index;
+        let g = Image { n, heads, nodes };
         let q = fit_ending(b, p, k, g);
         if q == p {
             return Stretch { next: k, place: p };

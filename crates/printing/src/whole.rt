@@ -6,6 +6,7 @@ use super::lines::put_number_place;
 use answer::Answer;
 use answer::told_of;
 use image::Image;
+use image::largest_of;
 ghost use mathlib.Core.Path.{_≡_};
 ghost use Prim.Native.Nat.{_+_, _≤_, _<_};
 ghost use lib.ListN.{length};
@@ -26,9 +27,11 @@ pub fn write_ending(b: &mut [u8], at: usize, k: u32, g: Image) -> usize
     ensures place { λ r. ⌜ (r ≡ at + length (endingLine k g)) × (r ≤ at + lineRoom 64) ⌝ }
     ensures bytes { λ r. ⌜ now (b .exit) ≡ over (now (b .entry)) at (endingLine k g) ⌝ }
 {
+    let heads = g.heads;
+    let h = largest_of(heads, 1);
     let i = items_of(g);
     let items = i.items;
-    put_line(b, at, k as u64, g.head as u64, items, i.count)
+    put_line(b, at, k as u64, h as u64, items, i.count)
 }
 
 // The page's first line.

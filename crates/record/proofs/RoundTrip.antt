@@ -5,24 +5,26 @@ use mathlib.Core.List.{List, _++_}
 use native.Mathlib.Omega.{arith}
 use native.Mathlib.Nat.{div-div-eq-div-mul, div-add-mod', add-assoc, add-zero}
 use borrow.Author.Tests.{eq-eqb}
-use lib.ListN.{length, getD, length-append, List·getD-append}
+use lib.ListN.{length, getD, set, length-append, List·getD-append}
 use lib.Seq.{ext-getD, getD-append-add}
 use Rattle.lists.specs.Tab.{joined, front}
 use Rattle.lists.proofs.TabLaws as tabs
 use Rattle.answer.specs.declared.Answer.the-variants.{Taken}
 use Rattle.image.specs.Bytes.{num4, at1, at4}
-use Rattle.image.specs.Layout.{noContent, noContents}
-use Rattle.machine.specs.Record.{node, kept, thread, zeroNode, zeroThread, blankNodes, idleThreads}
+use Rattle.image.specs.Layout.{noContent, noContents, noHeads}
+use Rattle.machine.specs.Record.{node, kept, headAt, keptHead, thread, zeroNode, zeroThread, blankNodes, idleThreads}
 use Rattle.machine.specs.Retire.{out}
 use Rattle.machine.specs.declared.Machine.{Machine}
 use Rattle.record.specs.Layout.{at8, headBytes, nodePart, threadPart, recordBytes, nodeIn, keptIn, threadIn, recordIn, readRecord}
 use Rattle.record.proofs.Laws as laws
 
--- the tables are whole, and the numbers of 32 and 64 bits fit
+-- the tables are whole, nothing stands in the head lines behind the first, and the numbers of 32 and 64 bits fit
 pub record Whole (m : Machine) : Type 0 where
-  pub index : m .index < 2 ^ 32
+  pub index : headAt m 0 < 2 ^ 32
   pub free : m .free < 2 ^ 64
-  pub head : m .«kept_head» < 2 ^ 32
+  pub head : keptHead m 0 < 2 ^ 32
+  pub heads : set noHeads 0 (headAt m 0) ≡ m .heads
+  pub kept-heads : set noHeads 0 (keptHead m 0) ≡ m .«kept_heads»
   pub nodes : length (m .nodes) ≡ 64
   pub copies : length (m .kept) ≡ 64
   pub threads : length (m .threads) ≡ 8
@@ -169,17 +171,17 @@ module _ (m : Machine) where
     unfolding idleThreads
     threads-back = filled zeroThread (threadIn (recordBytes m)) 8 idleThreads (m .threads) refl (w .threads) thread-back
 
-    index-back : at4 (recordBytes m) 3 ≡ m .index
+    index-back : at4 (recordBytes m) 3 ≡ headAt m 0
     unfolding recordBytes
-    index-back = word-back (m .index) (w .index)
+    index-back = word-back (headAt m 0) (w .index)
 
     free-back : at8 (recordBytes m) 8 ≡ m .free
     unfolding recordBytes
     free-back = long-back (m .free) (w .free)
 
-    head-back : at4 (recordBytes m) 16 ≡ m .«kept_head»
+    head-back : at4 (recordBytes m) 16 ≡ keptHead m 0
     unfolding recordBytes
-    head-back = word-back (m .«kept_head») (w .head)
+    head-back = word-back (keptHead m 0) (w .head)
 
     record-back : recordIn (recordBytes m) ≡ m
     unfolding recordIn recordBytes
@@ -187,11 +189,11 @@ module _ (m : Machine) where
       n = m .n;
       t = m .t;
       head = m .head;
-      index = index-back k;
+      heads = (ap (set noHeads 0) index-back ∙ w .heads) k;
       tail = m .tail;
       free = free-back k;
       nodes = nodes-back k;
-      «kept_head» = head-back k;
+      «kept_heads» = (ap (set noHeads 0) head-back ∙ w .kept-heads) k;
       kept = copies-back k;
       threads = threads-back k;
     }

@@ -9,7 +9,7 @@ use lib.Seq.{take-all, take-add, drop-drop}
 use Rattle.lists.specs.Tab.{tab, joined}
 use Rattle.lists.proofs.TabLaws as tabs
 use Rattle.image.specs.Bytes.{num4, le4, at1, at4}
-use Rattle.image.specs.Layout.{noContent, noContents}
+use Rattle.image.specs.Layout.{noContent, noContents, noHeads}
 use Rattle.machine.specs.Record.{zeroNode, zeroThread, blankNodes, idleThreads}
 use Rattle.record.specs.Layout.{le8, at8, headBytes, nodeBytes, threadBytes, nodePart, threadPart, recordBytes, nodeIn, keptIn, threadIn, recordIn}
 
@@ -76,7 +76,7 @@ module _ (s : List ℕ) (bytes : (i : ℕ) → getD s i 0 < 256) where
   long-there i = le8-parts (at4 s i) (at4 s (i + 4)) (omega (arith, bytes i, bytes (i + 1), bytes (i + 2), bytes (i + 3)))
 
   head-there : headBytes (recordIn s) ≡ tab (λ j. getD s (0 + j) 0) 20
-  unfolding recordIn tab
+  unfolding recordIn noHeads tab
   head-there =
       let long = long-there 8 ∙ ap₂ (λ (x y : List ℕ). x ++ y) (word-there 8) (word-there 12) in
       λ t. at1 s 0 ∷ at1 s 1 ∷ at1 s 2 ∷ (word-there 3 t ++ (at1 s 7 ∷ (long t ++ word-there 16 t)))

@@ -1,9 +1,9 @@
--- A machine record as 1,412 bytes, little-endian, every field of it: 20 for what stands alone, 20 for each of the 64 nodes with its
--- persisted copy, 14 for each of the 8 threads.
+-- A machine record as 1,412 bytes, little-endian, every field of it: 20 for what stands alone, Head's index among it and its persisted
+-- copy, 20 for each of the 64 nodes with its persisted copy, 14 for each of the 8 threads.
 use Prim.Native.Nat.{ℕ, _+_, _*_, _/_, _%_}
 use mathlib.Core.Bool.{Bool, true, false, not}
 use mathlib.Core.List.{List, [], _∷_, _++_}
-use lib.ListN.{length}
+use lib.ListN.{length, set}
 use lib.Dec.{eqb, ltb}
 use Rattle.lists.specs.Find.{pick}
 use Rattle.lists.specs.Tab.{joined, front, over}
@@ -11,9 +11,9 @@ use Rattle.answer.specs.Answers.{check}
 use Rattle.answer.specs.declared.Answer.{Answer}
 use Rattle.answer.specs.declared.Answer.the-variants.{Taken, Length, Room}
 use Rattle.image.specs.Bytes.{at1, at4, le4}
-use Rattle.image.specs.Layout.{noContents}
+use Rattle.image.specs.Layout.{noContents, noHeads}
 use Rattle.image.specs.declared.Content.{Content}
-use Rattle.machine.specs.Record.{node, kept, thread, blankNodes, idleThreads}
+use Rattle.machine.specs.Record.{node, kept, headAt, keptHead, thread, blankNodes, idleThreads}
 use Rattle.machine.specs.Start.{blankMachine}
 use Rattle.machine.specs.declared.Machine.{Machine}
 use Rattle.machine.specs.declared.Node.{Node}
@@ -34,7 +34,7 @@ at8 s i = at4 s i + at4 s (i + 4) * 4294967296
 
 abbrev pub headBytes : Machine → List ℕ
 headBytes m =
-    m .n ∷ m .t ∷ m .head ∷ (le4 (m .index) ++ (m .tail ∷ (le8 (m .free) ++ le4 (m .«kept_head»))))
+    m .n ∷ m .t ∷ m .head ∷ (le4 (headAt m 0) ++ (m .tail ∷ (le8 (m .free) ++ le4 (keptHead m 0))))
 
 abbrev pub nodeBytes : Node → Content → List ℕ
 nodeBytes v p =
@@ -94,11 +94,11 @@ recordIn s = record {
   n = at1 s 0;
   t = at1 s 1;
   head = at1 s 2;
-  index = at4 s 3;
+  heads = set noHeads 0 (at4 s 3);
   tail = at1 s 7;
   free = at8 s 8;
   nodes = front (nodeIn s) 64 blankNodes;
-  «kept_head» = at4 s 16;
+  «kept_heads» = set noHeads 0 (at4 s 16);
   kept = front (keptIn s) 64 noContents;
   threads = front (threadIn s) 8 idleThreads;
 }

@@ -9,6 +9,7 @@ ghost use Rattle.machine.specs.Record.{blankNodes, idleThreads};
 ghost use Rattle.record.specs.Layout.{at8, readNode, readKept, readThread, nodeIn, keptIn, threadIn, recordIn};
 use image::Content;
 use image::no_contents;
+use image::no_heads;
 use machine::Machine;
 use machine::Node;
 use machine::Thread;
@@ -135,9 +136,11 @@ pub fn record_in(s: &[u8]) -> Machine
     requires { ⌜ 1412 ≤ length (now s) ⌝ }
     ensures { λ r. ⌜ r ≡ recordIn (now (s .entry)) ⌝ }
 {
-    let index = word_at(s, 3);
+    let mut heads = no_heads();
+    heads[0] = word_at(s, 3);
     let free = long_at(s, 8);
-    let kept_head = word_at(s, 16);
+    let mut kept_heads = no_heads();
+    kept_heads[0] = word_at(s, 16);
     let nodes = nodes_in(s);
     let kept = kept_in(s);
     let threads = threads_in(s);
@@ -145,11 +148,11 @@ pub fn record_in(s: &[u8]) -> Machine
         n: s[0],
         t: s[1],
         head: s[2],
-        index,
+        heads,
         tail: s[7],
         free,
         nodes,
-        kept_head,
+        kept_heads,
         kept,
         threads,
     }

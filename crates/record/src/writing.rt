@@ -72,14 +72,16 @@ fn thread_bytes(v: Thread) -> [u8; 14]
 fn head_bytes(m: Machine) -> [u8; 20]
     ensures { λ r. ⌜ r ≡ headBytes m ⌝ }
 {
+    let h = m.heads[0];
+    let p = m.kept_heads[0];
     [
         m.n,
         m.t,
         m.head,
-        (m.index % 256) as u8,
-        (m.index / 256 % 256) as u8,
-        (m.index / 65536 % 256) as u8,
-        (m.index / 16777216 % 256) as u8,
+        (h % 256) as u8,
+        (h / 256 % 256) as u8,
+        (h / 65536 % 256) as u8,
+        (h / 16777216 % 256) as u8,
         m.tail,
         (m.free % 256) as u8,
         (m.free / 256 % 256) as u8,
@@ -89,10 +91,10 @@ fn head_bytes(m: Machine) -> [u8; 20]
         (m.free / 1099511627776 % 256) as u8,
         (m.free / 281474976710656 % 256) as u8,
         (m.free / 72057594037927936 % 256) as u8,
-        (m.kept_head % 256) as u8,
-        (m.kept_head / 256 % 256) as u8,
-        (m.kept_head / 65536 % 256) as u8,
-        (m.kept_head / 16777216 % 256) as u8,
+        (p % 256) as u8,
+        (p / 256 % 256) as u8,
+        (p / 65536 % 256) as u8,
+        (p / 16777216 % 256) as u8,
     ]
 }
 

@@ -60,8 +60,8 @@ fit-kept m i c f b = record {
   threads = f .threads;
 }
 
-pub fit-kept-head : (m : Machine) (x : ℕ) → Fit m → Fit (putKeptHead m x)
-fit-kept-head m x f = record { sizes = f .sizes; nodes = f .nodes; threads = f .threads }
+pub fit-kept-head : (m : Machine) (k x : ℕ) → Fit m → Fit (putKeptHead m k x)
+fit-kept-head m k x f = record { sizes = f .sizes; nodes = f .nodes; threads = f .threads }
 
 pub fit-tail : (m : Machine) (x : ℕ) → Fit m → x < m .n → Fit (putTail m x)
 fit-tail m x f h =

@@ -9,7 +9,7 @@ use Rattle.lists.specs.Find.{pick, both}
 use Rattle.lists.specs.Word.{with, without}
 use Rattle.lists.proofs.WordLaws as words
 use Rattle.answer.specs.declared.Answer.the-variants.{Full, WornOut}
-use Rattle.machine.specs.Record.{none, top, node, thread, contentOf, ownNode, readTail, readNext, readItem, readHead, atStep, withItem, withNext, withLinked, withIndex, putNode, putTail, putFree, putHead}
+use Rattle.machine.specs.Record.{none, top, node, thread, headAt, contentOf, ownNode, readTail, readNext, readItem, readHead, atStep, withItem, withNext, withLinked, withIndex, putNode, putTail, putFree, putHead}
 use Rattle.machine.specs.Stage.{Stage, noStep, A1, A2, A3, A4, A5, A6, A7, A8, A9, A10, A11, A12, D1, D2, D3, D4, D5, D6, D7, stage}
 use Rattle.machine.specs.Line.{Line, ofHead, ofNode, persist}
 use Rattle.machine.specs.Retire.{moving, going, answering, nextFree, freed, left, retired}
@@ -172,18 +172,18 @@ module _ (m : Machine) (k : ℕ) (f : Fit m) (u : Used m k) (l : k < m .t) where
   fit-step A11 e = A11-by (u .own-in (rw e)) (eqb (m .tail) (thread m k .tail))
   fit-step A12 e =
       A12-by (eqb (m .tail) (thread m k .tail)) (f .nodes (thread m k .tail) (u .t-in (rw e)) .next-link (u .t-next (step-number (thread m k .step) A12 e (omega arith))))
-  fit-step D1 e = fit-moving m k (readHead (thread m k) (m .head) (m .index)) 14 f (read-head (thread m k) (m .head) (m .index) (f .threads k l) (link (f .sizes .head-in))) (omega arith)
+  fit-step D1 e = fit-moving m k (readHead (thread m k) (m .head) (headAt m 0)) 14 f (read-head (thread m k) (m .head) (headAt m 0) (f .threads k l) (link (f .sizes .head-in))) (omega arith)
   fit-step D2 e =
       let x = node m (thread m k .head) .next in
       let b = eqb x none in
       fit-moving m k (readNext (thread m k) x) (pick b 15 16) f (read-next (thread m k) x (f .threads k l) (f .nodes (thread m k .head) (u .head-in (rw e)) .next-link))
       (pick-le b 15 16 (omega arith) (omega arith))
-  fit-step D3 e = fit-left (persist m (ofHead 0)) k (thread m k .held) (fit-kept-head m (m .index) f) (f .threads k l .held-link)
-  fit-step D4 e = D4-by (u .next-in (rw e)) (both (eqb (m .head) (thread m k .head)) (eqb (m .index) (thread m k .index)))
+  fit-step D3 e = fit-left (persist m (ofHead 0)) k (thread m k .held) (fit-kept-head m 0 (headAt m 0) f) (f .threads k l .held-link)
+  fit-step D4 e = D4-by (u .next-in (rw e)) (both (eqb (m .head) (thread m k .head)) (eqb (headAt m 0) (thread m k .index)))
   fit-step D5 e =
       let x = node m (thread m k .next) .item in
       fit-moving m k (readItem (thread m k) x) 18 f (read-item (thread m k) x (f .threads k l)) (omega arith)
-  fit-step D6 e = fit-going (persist m (ofHead 0)) k 19 (fit-kept-head m (m .index) f) l (omega arith)
+  fit-step D6 e = fit-going (persist m (ofHead 0)) k 19 (fit-kept-head m 0 (headAt m 0) f) l (omega arith)
   fit-step D7 e = D7-by (u .head-in (rw e)) (eqb (thread m k .held) none) refl
 
 -- ---- the laws
@@ -201,8 +201,7 @@ kept-begun m k s v h l q =
     (record { step-in = q; node-link = none-link; tail-link = none-link; head-link = none-link; next-link = none-link; held-link = f .threads k l .held-link }))
 
 fit-persist : (m : Machine) (l : Line) → Fit m → LineIn (m .n) l → Fit (persist m l)
-fit-persist m (ofHead zero) f h = fit-kept-head m (m .index) f
-fit-persist m (ofHead (suc k)) f h = f
+fit-persist m (ofHead k) f h = fit-kept-head m k (headAt m k) f
 fit-persist m (ofNode i) f h = fit-kept m i (contentOf (node m i)) f (f .nodes i (omega arith) .flag)
 
 -- a write-back

@@ -9,7 +9,7 @@ use lib.Pow.{pow-mono}
 use Rattle.lists.specs.Find.{pick, least}
 use Rattle.lists.specs.Word.{has, with, without, wordOf}
 use Rattle.lists.proofs.WordLaws as words
-use Rattle.machine.specs.Record.{node, contentOf, withWaits, putNode, putFree, putKept, putKeptHead}
+use Rattle.machine.specs.Record.{node, headAt, contentOf, withWaits, putNode, putFree, putKept, putKeptHead}
 use Rattle.machine.specs.Line.{lineAt, persist}
 use Rattle.machine.specs.Retire.{others, nextFree, lastWait, releasedAt, released}
 use Rattle.machine.specs.declared.Machine.{Machine}
@@ -57,7 +57,7 @@ released-next m r k i e w f rest free =
 
 -- ---- a line by its number
 
-pub persist-head : (m : Machine) (l : ℕ) → l ≡ 0 → putKeptHead m (m .index) ≡ persist m (lineAt (m .n) l)
+pub persist-head : (m : Machine) (l : ℕ) → l ≡ 0 → putKeptHead m 0 (headAt m 0) ≡ persist m (lineAt (m .n) l)
 persist-head m l e = rw (e, line-zero (m .n))
 
 pub persist-node : (m : Machine) (l : ℕ) → 0 < l → putKept m (l - 1) (contentOf (node m (l - 1))) ≡ persist m (lineAt (m .n) l)

@@ -18,7 +18,7 @@ pub fn d1(m: Machine, k: usize) -> Out
     let mut r = m;
     let mut th = r.threads[k];
     th.head = r.head;
-    th.index = r.index;
+    th.index = r.heads[0];
     th.step = 14;
     r.threads[k] = th;
     Out {
@@ -75,11 +75,11 @@ pub fn d4(m: Machine, k: usize) -> Out
     let mut r = m;
     let th = r.threads[k];
     if r.head == th.head {
-        if r.index == th.index {
+        if r.heads[0] == th.index {
             let x = th.next as usize;
             let v = r.nodes[x];
             r.head = th.next;
-            r.index = v.index;
+            r.heads[0] = v.index;
             r.threads[k].step = 17;
             return Out {
                 answer: Answer::Taken,

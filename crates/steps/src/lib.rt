@@ -24,7 +24,7 @@ pub fn persist_line(m: Machine, l: usize) -> Machine
 {
     let mut r = m;
     if l == 0 {
-        r.kept_head = r.index;
+        r.kept_heads[0] = r.heads[0];
         return r;
     }
     let v = r.nodes[l - 1];

@@ -12,7 +12,8 @@ use Rattle.machine.specs.Line as memory
 use Rattle.machine.specs.Line.{cachedAt, persistedAt}
 use Rattle.machine.specs.Start.{blankMachine, startWith, startOf}
 use Rattle.machine.specs.declared.Machine.{Machine}
-use Rattle.machine.proofs.LineLaws.{LineIn, one-head}
+use Rattle.image.proofs.HeadLaws.{one-head}
+use Rattle.machine.proofs.LineLaws.{LineIn}
 use Rattle.schedule.specs.Run.{begins}
 use Rattle.page.specs.Contents.{joins, gathered, contentsOf}
 use Rattle.model.specs.Core.{hd}

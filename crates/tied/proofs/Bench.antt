@@ -13,6 +13,7 @@ use Rattle.machine.specs.Record.{top}
 use Rattle.machine.specs.Line.{cachedAt, persistedAt}
 use Rattle.machine.specs.Start.{blankMachine}
 use Rattle.machine.specs.declared.Machine.{Machine}
+use Rattle.image.proofs.HeadLaws.{one-head}
 use Rattle.machine.proofs.LineLaws as lines
 use Rattle.machine.proofs.LineLaws.{LineIn}
 use Rattle.schedule.specs.Run as run
@@ -42,22 +43,22 @@ use Rattle.tied.proofs.Contents.{gathered-snoc, Small, joins-old}
 
 pub shown-cached : (p : memory.Line → Content) (m : Machine) (c : Core) → Tied p m c → (l : memory.Line) → LineIn (m .n) l → content c (lineShown l) ≡ shownContent (cachedAt m l)
 shown-cached p m c d (memory.ofHead zero) h = ap (λ z. hd (lineIx (z .engine) (c .hidx) (c .marks) 0)) (d .conf) ∙ ap hd (d .hidx)
-shown-cached p m c d (memory.ofHead (suc k)) h = absurd (omega (arith, lines.one-head (m .n)))
+shown-cached p m c d (memory.ofHead (suc k)) h = absurd (omega (arith, one-head (m .n)))
 shown-cached p m c d (memory.ofNode i) h = d .nodes .at i h .content
 
 pub cached-flag : (p : memory.Line → Content) (m : Machine) (c : Core) → Tied p m c → (l : memory.Line) → LineIn (m .n) l → Small (cachedAt m l)
 cached-flag p m c d (memory.ofHead zero) h = (omega arith, d .narrow)
-cached-flag p m c d (memory.ofHead (suc k)) h = absurd (omega (arith, lines.one-head (m .n)))
+cached-flag p m c d (memory.ofHead (suc k)) h = absurd (omega (arith, one-head (m .n)))
 cached-flag p m c d (memory.ofNode i) h = (d .nodes .at i h .flag, d .nodes .at i h .narrow)
 
 pub kept-is : (p : memory.Line → Content) (m : Machine) (c : Core) → Tied p m c → (l : memory.Line) → LineIn (m .n) l → persistedAt m l ≡ p l
 kept-is p m c d (memory.ofHead zero) h = sym (d .kept .head)
-kept-is p m c d (memory.ofHead (suc k)) h = absurd (omega (arith, lines.one-head (m .n)))
+kept-is p m c d (memory.ofHead (suc k)) h = absurd (omega (arith, one-head (m .n)))
 kept-is p m c d (memory.ofNode i) h = sym (d .kept .at i h)
 
 pub kept-flag : (p : memory.Line → Content) (m : Machine) (c : Core) → Tied p m c → (l : memory.Line) → LineIn (m .n) l → Small (persistedAt m l)
 kept-flag p m c d (memory.ofHead zero) h = (omega arith, subst (λ z. z .index ≤ top) (d .kept .head) (d .kept .narrow-head))
-kept-flag p m c d (memory.ofHead (suc k)) h = absurd (omega (arith, lines.one-head (m .n)))
+kept-flag p m c d (memory.ofHead (suc k)) h = absurd (omega (arith, one-head (m .n)))
 kept-flag p m c d (memory.ofNode i) h = subst Small (d .kept .at i h) (d .kept .flag i h, d .kept .narrow i h)
 
 -- any account of the persisted copies that is right may stand in
@@ -68,12 +69,14 @@ own-kept p m c d = record {
   hnode = d .hnode;
   hidx = d .hidx;
   narrow = d .narrow;
+  heads = d .heads;
   tail = d .tail;
   nodes = d .nodes;
   free = d .free;
   threads = d .threads;
   kept = record {
     size = d .kept .size;
+    heads = d .kept .heads;
     head = refl;
     at = λ i h. refl;
     flag = λ i h. kept-flag p m c d (memory.ofNode i) h .0;

@@ -8,12 +8,14 @@ use Prim.Native.Nat.{ℕ, zero, suc, _≤_, _<_}
 use native.Mathlib.Omega.{arith}
 use native.Mathlib.Decide.{ℕ-discrete}
 use lib.Dec.{eqb}
-use lib.ListN.{getD}
+use lib.ListN.{getD, set, length-set}
+use lib.Seq.{getD-set-same}
 use Rattle.lists.specs.Word.{has, with, without}
 use Rattle.image.specs.declared.Content.{Content}
 use Rattle.machine.specs.Line as memory
-use Rattle.machine.specs.Record.{top, node, thread, contentOf, withNext, putNode, putTail, putHead, putFree, putThread}
+use Rattle.machine.specs.Record.{top, node, thread, contentOf, withNext, putNode, putTail, putHead, putFree, putThread, headAt}
 use Rattle.machine.specs.Line.{putLine, cachedAt, persist, headContent}
+use Rattle.image.proofs.HeadLaws.{one-head}
 use Rattle.machine.proofs.LineLaws as lines
 use Rattle.machine.proofs.LineLaws.{LineIn}
 use Rattle.machine.specs.declared.Machine.{Machine}
@@ -58,6 +60,7 @@ module _ (p : memory.Line → Content) (m : Machine) (c : Core) (d : Tied p m c)
     hnode = d .hnode;
     hidx = d .hidx;
     narrow = d .narrow;
+    heads = d .heads;
     tail = d .tail;
     nodes = d .nodes;
     free = d .free;
@@ -75,6 +78,7 @@ module _ (p : memory.Line → Content) (m : Machine) (c : Core) (d : Tied p m c)
     hnode = d .hnode;
     hidx = d .hidx;
     narrow = d .narrow;
+    heads = d .heads;
     tail = d .tail;
     free = d .free;
     threads = d .threads;
@@ -99,6 +103,7 @@ module _ (p : memory.Line → Content) (m : Machine) (c : Core) (d : Tied p m c)
     hnode = d .hnode;
     hidx = d .hidx;
     narrow = d .narrow;
+    heads = d .heads;
     tail = d .tail;
     free = d .free;
     threads = d .threads;
@@ -122,6 +127,7 @@ module _ (p : memory.Line → Content) (m : Machine) (c : Core) (d : Tied p m c)
     hnode = d .hnode;
     hidx = d .hidx;
     narrow = d .narrow;
+    heads = d .heads;
     tail = e;
     nodes = d .nodes;
     free = d .free;
@@ -134,14 +140,18 @@ module _ (p : memory.Line → Content) (m : Machine) (c : Core) (d : Tied p m c)
     conf = d .conf;
     sizes = d .sizes;
     hnode = e;
-    hidx = f;
-    narrow = nr;
+    hidx = f ∙ sym stored;
+    narrow = subst (λ y. y ≤ top) (sym stored) nr;
+    heads = length-set (m .heads) 0 i ∙ d .heads;
     tail = d .tail;
     nodes = d .nodes;
     free = d .free;
     threads = d .threads;
     kept = d .kept;
   }
+    where
+      stored : getD (set (m .heads) 0 i) 0 0 ≡ i
+      stored = getD-set-same (m .heads) 0 i 0 (omega (arith, d .heads))
 
   -- the free set, and what waits: the same below N
   pub freeT : (w : ℕ) (f : ℕ → Bool) → FreeT (m .n) w f → Tied p (putFree m w) (setFree c f (c .wait))
@@ -151,6 +161,7 @@ module _ (p : memory.Line → Content) (m : Machine) (c : Core) (d : Tied p m c)
     hnode = d .hnode;
     hidx = d .hidx;
     narrow = d .narrow;
+    heads = d .heads;
     tail = d .tail;
     nodes = d .nodes;
     free = r;
@@ -165,6 +176,7 @@ module _ (p : memory.Line → Content) (m : Machine) (c : Core) (d : Tied p m c)
     hnode = d .hnode;
     hidx = d .hidx;
     narrow = d .narrow;
+    heads = d .heads;
     tail = d .tail;
     nodes = record { size = d .nodes .size; at = λ j h. subst (NodeAt (m .n) (m .t) (node m j) (c .node j) (c .next j)) (sym (ew j h)) (d .nodes .at j h) };
     free = record { bits = λ j h. ef j h ∙ d .free .bits j h; fits = d .free .fits };
@@ -180,34 +192,37 @@ module _ (p : memory.Line → Content) (m : Machine) (c : Core) (d : Tied p m c)
     hnode = d .hnode;
     hidx = d .hidx;
     narrow = d .narrow;
+    heads = d .heads;
     tail = d .tail;
     nodes = d .nodes;
     free = d .free;
     threads = d .threads;
     kept = record {
       size = d .kept .size;
-      head = lines.put-same p (memory.ofHead 0) (headContent (m .index));
+      heads = length-set (m .«kept_heads») 0 (headAt m 0) ∙ d .kept .heads;
+      head = lines.put-same p (memory.ofHead 0) (headContent (headAt m 0)) ∙ ap headContent (sym (getD-set-same (m .«kept_heads») 0 (headAt m 0) 0 (omega (arith, d .kept .heads))));
       at = λ i l. other i ∙ d .kept .at i l;
       flag = λ i l. subst (λ y. y .linked ≤ 1) (sym (other i)) (d .kept .flag i l);
-      narrow-head = subst (λ y. y .index ≤ top) (sym (lines.put-same p (memory.ofHead 0) (headContent (m .index)))) (d .narrow);
+      narrow-head = subst (λ y. y .index ≤ top) (sym (lines.put-same p (memory.ofHead 0) (headContent (headAt m 0)))) (d .narrow);
       narrow = λ i l. subst (λ y. y .index ≤ top) (sym (other i)) (d .kept .narrow i l);
     };
   }
     where
-      other : (i : ℕ) → putLine p (memory.ofHead 0) (headContent (m .index)) (memory.ofNode i) ≡ p (memory.ofNode i)
-      other i = lines.put-other p (memory.ofHead 0) (headContent (m .index)) (memory.ofNode i) (λ e. lines.head-not-node 0 i (sym e))
-  persistT (memory.ofHead (suc k)) h = absurd (omega (arith, lines.one-head (m .n)))
+      other : (i : ℕ) → putLine p (memory.ofHead 0) (headContent (headAt m 0)) (memory.ofNode i) ≡ p (memory.ofNode i)
+      other i = lines.put-other p (memory.ofHead 0) (headContent (headAt m 0)) (memory.ofNode i) (λ e. lines.head-not-node 0 i (sym e))
+  persistT (memory.ofHead (suc k)) h = absurd (omega (arith, one-head (m .n)))
   persistT (memory.ofNode i) h = record {
     conf = d .conf;
     sizes = d .sizes;
     hnode = d .hnode;
     hidx = d .hidx;
     narrow = d .narrow;
+    heads = d .heads;
     tail = d .tail;
     nodes = d .nodes;
     free = d .free;
     threads = d .threads;
-    kept = putKepts (m .n) p (m .«kept_head») (m .kept) (d .kept) (d .sizes .nodes-hi) i h (contentOf (node m i)) (d .nodes .at i h .flag) (d .nodes .at i h .narrow);
+    kept = putKepts (m .n) p (m .«kept_heads») (m .kept) (d .kept) (d .sizes .nodes-hi) i h (contentOf (node m i)) (d .nodes .at i h .flag) (d .nodes .at i h .narrow);
   }
 
   -- the shape

@@ -8,9 +8,9 @@ use lib.Dec.{eqb}
 use Rattle.lists.specs.Find.{pick, both}
 use Rattle.image.specs.declared.Content.{Content}
 use Rattle.machine.specs.Line as memory
-use Rattle.machine.specs.Record.{node, thread, atStep, readHead, readNext, readItem, putHead}
+use Rattle.machine.specs.Record.{node, thread, atStep, readHead, readNext, readItem, putHead, headAt}
 use Rattle.machine.specs.Line.{persist}
-use Rattle.machine.proofs.LineLaws.{one-head}
+use Rattle.image.proofs.HeadLaws.{one-head}
 use Rattle.machine.specs.Stage.{stage, D1, D2, D3, D4, D5, D6, D7}
 use Rattle.machine.specs.Retire.{moving, going}
 use Rattle.machine.specs.Event.{stepped}
@@ -36,7 +36,7 @@ same-both false b = refl
 module _ (p : memory.Line → Content) (m : Machine) (c : Core) (d : Tied p m c) (r : InRange c) (k : ℕ) (hk : k < m .t) where
   pub sD1 : stage m k ≡ D1 → StepT p m noLine (stepped m k D1) (step c k (threadOf D1 (thread m k)))
   sD1 e = record {
-    tied = moveT p m c d k hk (atStep (readHead (thread m k) (m .head) (m .index)) 14) (d2 (c .hnode) (c .hidx))
+    tied = moveT p m c d k hk (atStep (readHead (thread m k) (m .head) (headAt m 0)) 14) (d2 (c .hnode) (c .hidx))
         (record {
           stage = ap (λ h. d2 h (c .hidx)) (d .hnode) ∙ ap (d2 (m .head)) (d .hidx);
           holds = d .threads .at k hk .holds;
@@ -98,8 +98,8 @@ module _ (p : memory.Line → Content) (m : Machine) (c : Core) (d : Tied p m c)
       (sym (ap (λ E. sameHead E (eqb (c .hnode) (thread m k .head)) (eqb (c .hidx) (thread m k .index))) (engine-is p m c d k hk)
       ∙ ap (λ x. bothb (eqb x (thread m k .head)) (eqb (c .hidx) (thread m k .index))) (d .hnode)
       ∙ ap (λ x. bothb (eqb (m .head) (thread m k .head)) (eqb x (thread m k .index))) (d .hidx)
-      ∙ same-both (eqb (m .head) (thread m k .head)) (eqb (m .index) (thread m k .index))))
-      (eD4 (h .1) (both (eqb (m .head) (thread m k .head)) (eqb (m .index) (thread m k .index))))
+      ∙ same-both (eqb (m .head) (thread m k .head)) (eqb (headAt m 0) (thread m k .index))))
+      (eD4 (h .1) (both (eqb (m .head) (thread m k .head)) (eqb (headAt m 0) (thread m k .index))))
 
   pub sD5 : stage m k ≡ D5 → StepT p m noLine (stepped m k D5) (step c k (threadOf D5 (thread m k)))
   sD5 e = let h = used p m c d k hk r D5 e in record {

@@ -11,8 +11,9 @@ use Rattle.lists.specs.Find.{pick, both, least}
 use Rattle.lists.proofs.BoolLaws.{no-way}
 use Rattle.image.specs.declared.Content.{Content}
 use Rattle.image.specs.declared.Image.{Image}
-use Rattle.image.specs.Layout.{contentAt}
-use Rattle.image.specs.Recovered.{recovered, recoveredAt, dummyOf}
+use Rattle.image.specs.Layout.{contentAt, headIn}
+use Rattle.image.proofs.HeadLaws.{head-one}
+use Rattle.image.specs.Recovered.{headOf, recovered, recoveredAt, dummyOf}
 use Rattle.machine.specs.Record.{top}
 use Rattle.machine.specs.Start as start
 use Rattle.machine.specs.Start.{risen}
@@ -30,10 +31,10 @@ use Rattle.tied.proofs.Relation.{Sizes}
 pub record ImageT (g : Image) (t : ℕ) (G : recovery.Image) : Type 0 where
   pub conf : G .conf ≡ confOf (g .n) t
   pub sizes : Sizes (g .n) t
-  pub head : G .heads 0 ≡ g .head
+  pub head : G .heads 0 ≡ headIn g 0
   pub at : (i : ℕ) → i < g .n → G .at i ≡ shownContent (contentAt (g .nodes) i)
   pub flag : (i : ℕ) → i < g .n → contentAt (g .nodes) i .linked ≤ 1
-  pub narrow-head : g .head ≤ top
+  pub narrow-head : headIn g 0 ≤ top
   pub narrow : (i : ℕ) → i < g .n → contentAt (g .nodes) i .index ≤ top
 
 -- numbers below n only
@@ -60,15 +61,15 @@ under-risen g n (suc k) h = by (recoveredAt g k) (under-risen g n k (omega arith
     by false r = r
 
 module _ (g : Image) (t : ℕ) (G : recovery.Image) (d : ImageT g t G) where
-  pub head-is : recovery.headOf G ≡ g .head
+  pub head-is : recovery.headOf G ≡ headOf g
   unfolding recovery.headOf recovery.largest
-  head-is = ap (λ c. recovery.largest (headLines c) (G .heads)) (d .conf) ∙ zero-max (G .heads 0) ∙ d .head
+  head-is = ap (λ c. recovery.largest (headLines c) (G .heads)) (d .conf) ∙ zero-max (G .heads 0) ∙ d .head ∙ sym (head-one g)
 
   pub rec-is : (i : ℕ) → i < g .n → recovery.recovered (recovery.headOf G) (G .at i) ≡ recoveredAt g i
   unfolding recovered
-  rec-is i h = ap (λ y. recovery.recovered y (G .at i)) head-is ∙ ap (recovery.recovered (g .head)) (d .at i h) ∙ by (eqb (contentAt (g .nodes) i .linked) 1)
+  rec-is i h = ap (λ y. recovery.recovered y (G .at i)) head-is ∙ ap (recovery.recovered (headOf g)) (d .at i h) ∙ by (eqb (contentAt (g .nodes) i .linked) 1)
     where
-      by : (b : Bool) → bothb b (ltb (g .head) (contentAt (g .nodes) i .index)) ≡ both b (ltb (g .head) (contentAt (g .nodes) i .index))
+      by : (b : Bool) → bothb b (ltb (headOf g) (contentAt (g .nodes) i .index)) ≡ both b (ltb (headOf g) (contentAt (g .nodes) i .index))
       by true = refl
       by false = refl
 

@@ -80,6 +80,7 @@ releasedAtT p m c d k hk i hi = record {
   hnode = d .hnode;
   hidx = d .hidx;
   narrow = d .narrow;
+  heads = d .heads;
   tail = d .tail;
   threads = d .threads;
   kept = d .kept;
@@ -161,6 +162,7 @@ module _ (p : memory.Line → Content) (m : Machine) (c : Core) (d : Tied p m c)
     hnode = s .hnode;
     hidx = s .hidx;
     narrow = s .narrow;
+    heads = s .heads;
     tail = s .tail;
     nodes = s .nodes;
     free = s .free;

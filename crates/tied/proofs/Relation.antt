@@ -12,7 +12,7 @@ use lib.Seq.{getD-set-same, getD-set-other}
 use Rattle.lists.specs.Word.{has, with, without}
 use Rattle.image.specs.declared.Content.{Content}
 use Rattle.image.specs.Layout.{noContent}
-use Rattle.machine.specs.Record.{top, zeroNode, zeroThread, contentOf}
+use Rattle.machine.specs.Record.{top, zeroNode, zeroThread, headAt, contentOf}
 use Rattle.machine.specs.Line.{Line, ofHead, ofNode, putLine, headContent}
 use Rattle.machine.specs.declared.Machine.{Machine}
 use Rattle.machine.specs.declared.Node.{Node}
@@ -92,18 +92,20 @@ putThreads n t l thr held r h i hi v thr′ held′ a en ex = record { size = le
 
 -- ---- the persisted copies: p is what each line holds
 
-pub record KeptT (n : ℕ) (p : Line → Content) (h : ℕ) (l : List Content) : Type 0 where
+pub record KeptT (n : ℕ) (p : Line → Content) (h : List ℕ) (l : List Content) : Type 0 where
   pub size : length l ≡ 64
-  pub head : p (ofHead 0) ≡ headContent h
+  pub heads : length h ≡ 8
+  pub head : p (ofHead 0) ≡ headContent (getD h 0 0)
   pub at : (i : ℕ) → i < n → p (ofNode i) ≡ getD l i noContent
   pub flag : (i : ℕ) → i < n → p (ofNode i) .linked ≤ 1
   pub narrow-head : p (ofHead 0) .index ≤ top
   pub narrow : (i : ℕ) → i < n → p (ofNode i) .index ≤ top
 
-pub putKepts : (n : ℕ) (p : Line → Content) (h : ℕ) (l : List Content) → KeptT n p h l → n ≤ 64 → (i : ℕ) → i < n → (v : Content) → v .linked ≤ 1 → v .index ≤ top
+pub putKepts : (n : ℕ) (p : Line → Content) (h : List ℕ) (l : List Content) → KeptT n p h l → n ≤ 64 → (i : ℕ) → i < n → (v : Content) → v .linked ≤ 1 → v .index ≤ top
     → KeptT n (putLine p (ofNode i) v) h (set l i v)
 putKepts n p h l r hn i hi v fl nr = record {
   size = length-set l i v ∙ r .size;
+  heads = r .heads;
   head = lines.put-other p (ofNode i) v (ofHead 0) (λ e. lines.head-not-node 0 i e) ∙ r .head;
   at = λ j hj. by j hj (ℕ-discrete j i);
   flag = λ j hj. lines.put-ind p (ofNode i) v (λ k c. c .linked ≤ 1) (ofNode j) fl (λ ne. r .flag j hj);
@@ -127,10 +129,11 @@ pub record Tied (p : Line → Content) (m : Machine) (c : Core) : Type 0 where
   pub conf : c .conf ≡ confOf (m .n) (m .t)
   pub sizes : Sizes (m .n) (m .t)
   pub hnode : c .hnode ≡ m .head
-  pub hidx : c .hidx ≡ m .index
-  pub narrow : m .index ≤ top
+  pub hidx : c .hidx ≡ headAt m 0
+  pub narrow : headAt m 0 ≤ top
+  pub heads : length (m .heads) ≡ 8
   pub tail : c .tail ≡ m .tail
   pub nodes : NodesT (m .n) (m .t) (m .nodes) (c .node) (c .next) (c .wait)
   pub free : FreeT (m .n) (m .free) (c .free)
   pub threads : ThreadsT (m .n) (m .t) (m .threads) (c .thr) (c .held)
-  pub kept : KeptT (m .n) p (m .«kept_head») (m .kept)
+  pub kept : KeptT (m .n) p (m .«kept_heads») (m .kept)

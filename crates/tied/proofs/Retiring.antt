@@ -125,6 +125,7 @@ module _ (p : memory.Line → Content) (m : Machine) (c : Core) (d : Tied p m c)
     hnode = d .hnode;
     hidx = d .hidx;
     narrow = d .narrow;
+    heads = d .heads;
     tail = d .tail;
     threads = d .threads;
     kept = d .kept;

@@ -20,7 +20,8 @@ use Rattle.machine.specs.Event.{deedOf, eventAnswer, eventAt, done}
 use Rattle.machine.specs.declared.Machine.{Machine}
 use Rattle.machine.specs.declared.Event.{Event}
 use Rattle.machine.specs.declared.Out.{Out}
-use Rattle.machine.proofs.LineLaws.{one-head}
+use Rattle.image.proofs.HeadLaws.{one-head}
+use Rattle.machine.proofs.LineLaws.{LineIn}
 use Rattle.schedule.specs.Run as schedule
 use Rattle.schedule.specs.Run.{Ran, run, andBefore, turned, begins}
 use Rattle.model.specs.Core.{Ans, nothing, full, worn, empty, item}
@@ -183,7 +184,7 @@ bench-in-range b B r = tied-in-range _ (b .machine) (B .mach .core) (r .tied) (r
 pub bench-rises : (b : schedule.Bench) (B : Bench) → BenchT b B → Steady (B .mach) → Rises b
 bench-rises b B r s i j le lt =
     let one : 0 < headLines (B .mach .core .conf) = subst (λ c. 0 < headLines c) (sym (r .tied .conf)) (omega arith) in
-    let there : 0 < memory.headLines (b .machine .n) = omega (arith, one-head (b .machine .n)) in
+    let there : LineIn (b .machine .n) (memory.ofHead 0) = omega (arith, one-head (b .machine .n)) in
     let h = s .heads 0 one (suc i) (suc j) (omega arith) (omega (arith, r .lists .now)) in
     let x = ap (λ c. c .index) (r .lists .times (memory.ofHead 0) there i (omega arith)) in
     let y = ap (λ c. c .index) (r .lists .times (memory.ofHead 0) there j lt) in

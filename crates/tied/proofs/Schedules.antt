@@ -13,7 +13,8 @@ use Rattle.answer.specs.Answers.{check, accepted}
 use Rattle.answer.specs.declared.Answer.{Answer}
 use Rattle.answer.specs.declared.Answer.the-variants.{Taken, Length, Mark, Nodes, Threads, Events}
 use Rattle.image.specs.Bytes.{at1, at4, num4}
-use Rattle.image.specs.Layout.{contentAt, noContent, noContents, isImage, nodePlace, readContent, readNodes, imageIn}
+use Rattle.image.specs.Layout.{contentAt, noContent, noContents, isImage, nodePlace, readContent, readNodes, imageIn, readHeads}
+use Rattle.image.proofs.HeadLaws.{one-head, heads-at}
 use Rattle.image.specs.Refusals.{nodesFit, sound, imageAnswer}
 use Rattle.machine.specs.Record.{top}
 use Rattle.machine.specs.Start.{threadsFit, startAnswer}
@@ -36,9 +37,9 @@ narrow4 : (s : List ℕ) → Bytes s → (i : ℕ) → at4 s i ≤ top
 narrow4 s b i = omega (arith, b i, b (i + 1), b (i + 2), b (i + 3))
 
 pub narrow-image : (s : List ℕ) → Bytes s → Narrow (imageIn s)
-unfolding imageIn readNodes
+unfolding imageIn readHeads readNodes
 narrow-image s b = record {
-  head = narrow4 s b 6;
+  head = subst (λ x. x ≤ top) (sym (heads-at (at1 s 5) (λ k. at4 s (6 + k * 4)) 0 (omega (arith, one-head (at1 s 5))))) (narrow4 s b 6);
   at = λ i h. subst (λ c. c .index ≤ top) (sym (front-at (λ i. readContent s (nodePlace i)) (at1 s 5) noContents i noContent h)) (narrow4 s b (nodePlace i + 1));
 }
 

@@ -9,15 +9,16 @@ use native.Mathlib.Omega.{arith}
 use lib.Pow.{pow-pos}
 use native.Mathlib.Decide.{ℕ-discrete}
 use lib.Dec.{eqb, eqb-refl, ltb}
-use lib.ListN.{replicate, getD-replicate}
+use lib.ListN.{getD, replicate, getD-replicate}
 use Rattle.lists.specs.Find.{pick, both}
 use Rattle.lists.specs.Word.{has, wordOf}
 use Rattle.lists.proofs.BoolLaws.{no-way}
 use Rattle.lists.proofs.TabLaws.{front-at, front-size}
 use Rattle.image.specs.declared.Content.{Content}
 use Rattle.image.specs.declared.Image.{Image}
-use Rattle.image.specs.Layout.{contentAt, noContent, noContents}
-use Rattle.image.specs.Recovered.{recoveredAt, dummyOf}
+use Rattle.image.specs.Layout.{contentAt, noContent, noContents, headIn, headsOf}
+use Rattle.image.proofs.HeadLaws.{one-head, heads-at, heads-length, head-one}
+use Rattle.image.specs.Recovered.{headOf, recoveredAt, dummyOf}
 use Rattle.machine.specs.Record.{top, zeroNode, zeroThread, blankNodes, idleThread, idleThreads, contentOf}
 use Rattle.machine.specs.Line.{Line, ofHead, ofNode, headContent}
 use Rattle.machine.specs.Start as machine
@@ -73,7 +74,7 @@ last-is d (k ∷ q) = last-is k q
 
 -- what the lines hold persisted
 abbrev pub imageLine : Image → Line → Content
-imageLine g (ofHead k) = headContent (g .head)
+imageLine g (ofHead k) = headContent (headIn g k)
 imageLine g (ofNode i) = contentAt (g .nodes) i
 
 module _ (g : Image) (t : ℕ) (G : recovery.Image) (r : ImageT g t G) where
@@ -91,13 +92,13 @@ module _ (g : Image) (t : ℕ) (G : recovery.Image) (r : ImageT g t G) where
     where
       by : Dec (i ≡ d) → upd (G .at) d (core.withIndex (G .at d) (recovery.headOf G)) i ≡ shownContent (contentOf (startNode g d (queueOf g) i))
       by (yes e) = upd-at (G .at) d _ e ∙ ap (λ x. core.withIndex (G .at x) (recovery.headOf G)) (sym e) ∙ ap (core.withIndex (G .at i)) (head-is g t G r)
-          ∙ ap (λ z. core.withIndex z (g .head)) (r .at i h)
-          ∙ ap (λ b. shownContent (record { linked = contentAt (g .nodes) i .linked; index = pick b (g .head) (contentAt (g .nodes) i .index); item = contentAt (g .nodes) i .item })) (sym (ap (λ y. eqb i y) (sym e) ∙ yes-of (eqb i i) (eqb-refl i)))
+          ∙ ap (λ z. core.withIndex z (headOf g)) (r .at i h)
+          ∙ ap (λ b. shownContent (record { linked = contentAt (g .nodes) i .linked; index = pick b (headOf g) (contentAt (g .nodes) i .index); item = contentAt (g .nodes) i .item })) (sym (ap (λ y. eqb i y) (sym e) ∙ yes-of (eqb i i) (eqb-refl i)))
       by (no ne) = upd-other (G .at) d _ ne ∙ r .at i h
-          ∙ ap (λ b. shownContent (record { linked = contentAt (g .nodes) i .linked; index = pick b (g .head) (contentAt (g .nodes) i .index); item = contentAt (g .nodes) i .item })) (sym (eq-no i d ne))
+          ∙ ap (λ b. shownContent (record { linked = contentAt (g .nodes) i .linked; index = pick b (headOf g) (contentAt (g .nodes) i .index); item = contentAt (g .nodes) i .item })) (sym (eq-no i d ne))
 
-      low : (b : Bool) → pick b (g .head) (contentAt (g .nodes) i .index) ≤ top
-      low true = r .narrow-head
+      low : (b : Bool) → pick b (headOf g) (contentAt (g .nodes) i .index) ≤ top
+      low true = subst (λ x. x ≤ top) (sym (head-one g)) (r .narrow-head)
       low false = r .narrow i h
 
   spare-is : (d i : ℕ) → i < g .n
@@ -120,8 +121,9 @@ module _ (g : Image) (t : ℕ) (G : recovery.Image) (r : ImageT g t G) where
         conf = r .conf;
         sizes = r .sizes;
         hnode = refl;
-        hidx = head-is g t G r;
-        narrow = r .narrow-head;
+        hidx = head-is g t G r ∙ head-one g ∙ sym first;
+        narrow = subst (λ x. x ≤ top) (sym first) (r .narrow-head);
+        heads = heads-length (g .n) (headIn g);
         tail = last-is d (queueOf g);
         nodes = record {
           size = front-size (startNode g d (queueOf g)) (g .n) (replicate 64 _) (r .sizes .nodes-hi);
@@ -139,13 +141,17 @@ module _ (g : Image) (t : ℕ) (G : recovery.Image) (r : ImageT g t G) where
         };
         kept = record {
           size = front-size (contentAt (g .nodes)) (g .n) (replicate 64 noContent) (r .sizes .nodes-hi);
-          head = refl;
+          heads = heads-length (g .n) (headIn g);
+          head = ap headContent (sym first);
           at = λ i h. sym (front-at (contentAt (g .nodes)) (g .n) (replicate 64 noContent) i noContent h);
           flag = λ i h. r .flag i h;
           narrow-head = r .narrow-head;
           narrow = λ i h. r .narrow i h;
         };
       }
+    where
+      first : getD (headsOf (g .n) (headIn g)) 0 0 ≡ headIn g 0
+      first = heads-at (g .n) (headIn g) 0 (omega (arith, one-head (g .n)))
 
   -- a start from an image with a dummy
   pub startT : dummyOf g < g .n → Tied (imageLine g) (startOf g t) (start G)

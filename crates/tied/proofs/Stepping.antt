@@ -73,6 +73,7 @@ lastT p m c d n = record {
   hnode = d .hnode;
   hidx = d .hidx;
   narrow = d .narrow;
+  heads = d .heads;
   tail = d .tail;
   nodes = d .nodes;
   free = d .free;

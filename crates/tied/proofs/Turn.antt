@@ -16,6 +16,7 @@ use Rattle.machine.specs.Stage as stage
 use Rattle.machine.specs.Start.{startOf}
 use Rattle.machine.specs.Event.{Deed, unknown, enqueues, dequeues, steps, writesBack, crashes, eventAnswer, threadTooLarge, lineTooLarge, itemNotZero, done}
 use Rattle.machine.specs.declared.Machine.{Machine}
+use Rattle.image.proofs.HeadLaws.{one-head}
 use Rattle.machine.proofs.LineLaws as lines
 use Rattle.machine.proofs.LineLaws.{LineIn}
 use Rattle.machine.specs.declared.Event.{Event}
@@ -67,7 +68,7 @@ module _ (b : run.Bench) (B : Bench) (r : BenchT b B) where
   persistedT = record {
     conf = r .tied .conf;
     sizes = r .tied .sizes;
-    head = ap (λ z. z .index) (r .lists .kept (memory.ofHead 0) (omega (arith, lines.one-head (m .n))));
+    head = ap (λ z. z .index) (r .lists .kept (memory.ofHead 0) (omega (arith, one-head (m .n))));
     at = λ i h. r .lists .kept (memory.ofNode i) h;
     flag = λ i h. kept-flag _ m c (r .tied) (memory.ofNode i) h .0;
     narrow-head = r .tied .kept .narrow-head;
@@ -103,7 +104,7 @@ module _ (b : run.Bench) (B : Bench) (r : BenchT b B) where
     takes writesBack a = let x = pass (lineTooLarge m e) (Number q) _ refl a in by (line-of e) (line-there (x .0))
       where
         by : (l : memory.Line) → LineIn (m .n) l → Within (c .conf) (lineShown l)
-        by (memory.ofHead k) h = subst (λ z. k < headLines z) (sym (r .tied .conf)) (omega (arith, lines.one-head (m .n)))
+        by (memory.ofHead k) h = subst (λ z. k < headLines z) (sym (r .tied .conf)) (omega (arith, one-head (m .n)))
         by (memory.ofNode i) h = omega (arith, count-n _ m c (r .tied))
     takes crashes a = tt
 

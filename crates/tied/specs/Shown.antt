@@ -9,7 +9,7 @@ use Rattle.answer.specs.declared.Answer.{Answer}
 use Rattle.answer.specs.declared.Answer.the-variants.{Taken, Done, Full, WornOut, Item, Empty}
 use Rattle.image.specs.declared.Content.{Content}
 use Rattle.image.specs.declared.Image.{Image}
-use Rattle.image.specs.Layout.{contentAt}
+use Rattle.image.specs.Layout.{contentAt, headIn}
 use Rattle.machine.specs.Record.{top}
 use Rattle.machine.specs.Line as memory
 use Rattle.machine.specs.Stage.{Stage, noStep, A1, A2, A3, A4, A5, A6, A7, A8, A9, A10, A11, A12, D1, D2, D3, D4, D5, D6, D7, stageOf}
@@ -90,7 +90,7 @@ lineShown (memory.ofNode i) = ofNode i
 unfoldable pub imageShown : Image → ℕ → recovery.Image
 imageShown g t = record {
   conf = confOf (g .n) t;
-  heads = λ k. g .head;
+  heads = headIn g;
   at = λ i. sel (ltb i (g .n)) (shownContent (contentAt (g .nodes) i)) core.zeroNode;
 }
 
@@ -117,5 +117,5 @@ answerOf (core.item v) = Item v
 
 -- every index of an image is one of 32 bits, as those of the code's type are
 pub record Narrow (g : Image) : Type 0 where
-  pub head : g .head ≤ top
+  pub head : headIn g 0 ≤ top
   pub at : (i : ℕ) → i < g .n → contentAt (g .nodes) i .index ≤ top

@@ -1,6 +1,6 @@
 use mathlib.Core.Path.{_∙_}
-use Rattle.image.specs.Layout.{headBytes}
-use Rattle.lists.specs.Tab.{over}
+use Rattle.image.specs.Layout.{headLines, headBytes}
+use Rattle.lists.specs.Tab.{over, joined}
 use lib.ListN.{length-set}
 use native.Mathlib.Omega.{arith}
 use borrow.Author.Needs.{needs}
@@ -25,6 +25,9 @@ slice-write-b-5 c = simp length-set (omega arith)
 slice-write-b-6 : tie.Need-slice-write-b-6
 slice-write-b-6 c = simp length-set (omega arith)
 
+array-read-put-word : tie.Need-array-read-put-word
+array-read-put-word c = search needs
+
 put-word-requires : tie.Need-put-word-requires
 put-word-requires c κs = search needs
 
@@ -32,7 +35,7 @@ same-length : tie.Need-same-length
 same-length c = c .before .before .put-word .kept .0 ∙ simp length-set
 
 returns : tie.Need-returns
-unfolding over headBytes
+unfolding over headBytes headLines joined
 returns c = c .before .before .put-word .ensures
 
 pub put-head-spec : {M : Type 1} → statement M
@@ -45,6 +48,7 @@ put-head-spec =
     slice-write-b-4
     slice-write-b-5
     slice-write-b-6
+    array-read-put-word
     put-word-requires
     same-length
     returns)

@@ -1,4 +1,4 @@
-use Rattle.image.specs.Layout.{imageBytes}
+use Rattle.image.specs.Layout.{headIn, imageBytes}
 use Rattle.codec.proofs.Laws as laws
 use borrow.Author.Needs.{needs}
 use Rattle.codec.proofs.images.put_image.Statement.{statement}
@@ -19,8 +19,8 @@ same-length c = search needs
 returns : tie.Need-returns
 unfolding imageBytes
 returns c =
-    let a = c .before .before .before .before .before .before .before .before .before .before .before .args in
-    rw (c .before .before .put-nodes .ensures, c .before .before .before .before .before .before .before .before .put-head .ensures) (laws.image-over (a .b .now) (a .g .n) (a .g .head) (a .g .nodes))
+    let a = c .before .before .before .before .before .before .before .before .before .before .before .before .args in
+    rw (c .before .before .put-nodes .ensures, c .before .before .before .before .before .before .before .before .put-head .ensures) (laws.image-over (a .b .now) (a .g .n) (headIn (a .g)) (a .g .nodes))
 
 pub put-image-spec : {M : Type 1} → statement M
 put-image-spec =

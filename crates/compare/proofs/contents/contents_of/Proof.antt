@@ -42,6 +42,9 @@ byte-requires c κs = tt
 word-requires : tie.Need-word-requires Inv-loop μ-loop
 word-requires c κs = omega arith
 
+array-write-heads : tie.Need-array-write-heads Inv-loop μ-loop
+array-write-heads c = omega arith
+
 returns : tie.Need-returns Inv-loop μ-loop
 returns c = tt
 
@@ -62,4 +65,5 @@ contents-of-spec =
     loop-again
     byte-requires
     word-requires
+    array-write-heads
     returns)

@@ -1,4 +1,6 @@
-use Rattle.image.specs.Layout.{noContents}
+use mathlib.Core.List.{[]}
+use lib.ListN.{getD}
+use Rattle.image.specs.Layout.{noContents, contentAt}
 use Rattle.lists.specs.Tab.{front}
 use Rattle.lists.proofs.TabLaws as tabs
 use Rattle.endtable.specs.Picks.{pickedImage, pickedAt, pickedNode}
@@ -6,7 +8,7 @@ use Rattle.endtable.proofs.Openings as laws
 use Prim.Native.Nat.{_+_, _-_, _≤_}
 use mathlib.Core.Path.{_≡_, _∙_}
 use native.Mathlib.Omega.{arith}
-use Rattle.machine.proofs.LineLaws.{one-head}
+use Rattle.image.proofs.HeadLaws.{one-head, heads-one}
 use borrow.Author.Needs.{needs}
 use Rattle.endtable.proofs.ending.ending_image.Statement.{statement}
 use Rattle.endtable.proofs.ending.ending_image.Tie as tie
@@ -82,12 +84,19 @@ index-1-head c = omega arith
 index-2-head : tie.Need-index-2-head Inv-loop μ-loop
 index-2-head c = c .before .before .before .pre .1 0 (omega (arith, one-head (c .before .before .before .args .n)))
 
+no-heads-requires : tie.Need-no-heads-requires Inv-loop μ-loop
+no-heads-requires c κs = tt
+
+array-write-heads : tie.Need-array-write-heads Inv-loop μ-loop
+array-write-heads c = omega arith
+
 returns : tie.Need-returns Inv-loop μ-loop
 unfolding pickedImage pickedAt
 returns c =
-    let p = c .before .before .loop in
-    let e : p .i ≡ c .before .before .before .before .args .n = omega arith in
-    rw (p .inv .1, e)
+    let p = c .before .before .before .loop in
+    let a = c .before .before .before .before .before .args in
+    let e : p .i ≡ a .n = omega arith in
+    rw (p .inv .1, e, c .no-heads .ensures, heads-one (a .n) (λ k. contentAt (getD (a .t1) k []) (getD (a .t2) k 0) .index))
 
 pub ending-image-spec : {M : Type 1} → statement M
 ending-image-spec =
@@ -115,4 +124,6 @@ ending-image-spec =
     mul-head
     index-1-head
     index-2-head
+    no-heads-requires
+    array-write-heads
     returns)

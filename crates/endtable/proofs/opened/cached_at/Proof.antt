@@ -4,11 +4,14 @@ use borrow.Author.Needs.{needs}
 use Rattle.endtable.proofs.opened.cached_at.Statement.{statement}
 use Rattle.endtable.proofs.opened.cached_at.Tie as tie
 
+element-copy-out-head-content : tie.Need-element-copy-out-head-content
+element-copy-out-head-content c = search needs
+
 head-content-requires : tie.Need-head-content-requires
 head-content-requires c κs = search needs
 
 returns : tie.Need-returns
-returns c = c .head-content .ensures ∙ laws.cached-head (c .before .before .args .t1) (c .before .before .args .l) (c .before .if1 .taken)
+returns c = c .head-content .ensures ∙ laws.cached-head (c .before .before .before .args .t1) (c .before .before .before .args .l) (c .before .before .if1 .taken)
 
 sub-v : tie.Need-sub-v
 sub-v c = search needs
@@ -31,6 +34,7 @@ pub cached-at-spec : {M : Type 1} → statement M
 cached-at-spec =
     tie.close
     (tie.spec
+    element-copy-out-head-content
     head-content-requires
     returns
     sub-v

@@ -1,4 +1,4 @@
-use Rattle.machine.proofs.LineLaws.{one-head}
+use Rattle.image.proofs.HeadLaws.{one-head}
 use Rattle.endtable.specs.Opened.{openedCounts}
 use Rattle.endtable.proofs.Openings as laws
 use Prim.Native.Nat.{_+_, _-_, _≤_}
@@ -17,8 +17,14 @@ abbrev μ-loop : tie.MeasureT-loop
 blank-counts-requires : tie.Need-blank-counts-requires Inv-loop μ-loop
 blank-counts-requires c κs = tt
 
+element-copy-out-head-content : tie.Need-element-copy-out-head-content Inv-loop μ-loop
+element-copy-out-head-content c = omega arith
+
 head-content-requires : tie.Need-head-content-requires Inv-loop μ-loop
 head-content-requires c κs = tt
+
+element-copy-out-head-content-2 : tie.Need-element-copy-out-head-content-2 Inv-loop μ-loop
+element-copy-out-head-content-2 c = omega arith
 
 head-content-requires-2 : tie.Need-head-content-requires-2 Inv-loop μ-loop
 head-content-requires-2 c κs = tt
@@ -35,7 +41,7 @@ cast-n c = search needs
 loop-holds : tie.Need-loop-holds Inv-loop μ-loop
 loop-holds c =
     let b = c .before in
-    (omega arith, rw (c .opened-count .ensures, b .head-content2 .ensures, b .before .head-content .ensures, b .before .before .blank-counts .ensures) (laws.counts-first (b .before .before .before .args .t1)))
+    (omega arith, rw (c .opened-count .ensures, b .head-content2 .ensures, b .before .before .head-content .ensures, b .before .before .before .before .blank-counts .ensures) (laws.counts-first (b .before .before .before .before .before .args .t1)))
 
 mul-p : tie.Need-mul-p Inv-loop μ-loop
 mul-p c = omega arith
@@ -67,13 +73,13 @@ loop-less c = omega arith
 loop-again : tie.Need-loop-again Inv-loop μ-loop
 loop-again c =
     let b = c .before .before .before .before .before in
-    let a = b .before .before .before .before .before .args in
+    let a = b .before .before .before .before .before .before .before .args in
     (omega arith, rw (c .opened-count2 .ensures, c .before .content-of .ensures, b .loop .inv .1) (laws.counts-next (a .t1) (b .loop .i) (omega arith)))
 
 returns : tie.Need-returns Inv-loop μ-loop
 returns c =
     let p = c .before .loop in
-    let m = c .before .before .before .before .before .before .args .t1 in
+    let m = c .before .before .before .before .before .before .before .before .args .t1 in
     p .inv .1 ∙ ap (openedCounts m) (omega (arith, one-head (m .n)))
 
 pub opened-counts-spec : {M : Type 1} → statement M
@@ -83,7 +89,9 @@ opened-counts-spec =
     Inv-loop
     μ-loop
     blank-counts-requires
+    element-copy-out-head-content
     head-content-requires
+    element-copy-out-head-content-2
     head-content-requires-2
     opened-count-requires
     array-write-counts

@@ -1,5 +1,5 @@
+use Rattle.image.specs.Layout.{headLines}
 use Rattle.machine.specs.Record.{zeroThread}
-use Rattle.machine.specs.Line.{headLines}
 use lib.ListN.{length, List·getD-eq-default}
 use mathlib.Core.Path.{_≡_}
 use native.Mathlib.Omega.{arith}

@@ -5,7 +5,7 @@ use borrow.Author.Needs.{needs}
 use Rattle.answer.specs.declared.Answer.the-variants.{Taken, Number, NotZero}
 use Rattle.machine.specs.Line.{lineCount}
 use Rattle.machine.specs.Event.{writesBack}
-use Rattle.machine.proofs.LineLaws.{one-head}
+use Rattle.image.proofs.HeadLaws.{one-head}
 use Rattle.events.proofs.ByAnswer as by
 use Rattle.range.proofs.InRange as range
 use Rattle.events.proofs.arms.write_back.Statement.{statement}

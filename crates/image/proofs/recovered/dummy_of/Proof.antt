@@ -7,6 +7,7 @@ use borrow.Author.Needs.{needs}
 use Rattle.lists.specs.Find.{least}
 use Rattle.lists.proofs.FindLaws as find
 use Rattle.image.specs.Recovered.{dummyOf}
+use Rattle.image.proofs.HeadLaws.{head-largest}
 use Rattle.image.proofs.RecoveredLaws.{unrecovered, unrecovered-is}
 use Rattle.image.proofs.recovered.dummy_of.Statement.{statement}
 use Rattle.image.proofs.recovered.dummy_of.Tie as tie
@@ -20,8 +21,11 @@ abbrev μ-loop : tie.MeasureT-loop
 cast-n : tie.Need-cast-n Inv-loop μ-loop
 cast-n c = search needs
 
+largest-of-requires : tie.Need-largest-of-requires Inv-loop μ-loop
+largest-of-requires c κs = omega arith
+
 loop-holds : tie.Need-loop-holds Inv-loop μ-loop
-loop-holds c = (omega arith, unrecovered-is (c .args .t1) ∙ rw sub-zero)
+loop-holds c = (omega arith, unrecovered-is (c .before .before .args .t1) ∙ rw sub-zero)
 
 mul-v : tie.Need-mul-v Inv-loop μ-loop
 mul-v c = omega arith
@@ -36,8 +40,9 @@ returns : tie.Need-returns Inv-loop μ-loop
 unfolding unrecovered
 returns c =
     let p = c .before .before .before .before .loop in
-    let g = c .before .before .before .before .before .args .t1 in
-    sym (p .inv .1 ∙ find.least-hit (unrecovered g) (g .n) (p .i) (omega arith) (rw (← c .before .is-recovered .ensures, not-true (c .before .is-recovered .result) (c .if1 .taken))))
+    let g = c .before .before .before .before .before .before .before .args .t1 in
+    let h = c .before .before .before .before .before .largest-of .ensures ∙ head-largest g in
+    sym (p .inv .1 ∙ find.least-hit (unrecovered g) (g .n) (p .i) (omega arith) (rw (← h, ← c .before .is-recovered .ensures, not-true (c .before .is-recovered .result) (c .if1 .taken))))
 
 add-i : tie.Need-add-i Inv-loop μ-loop
 add-i c = omega arith
@@ -49,12 +54,13 @@ loop-again : tie.Need-loop-again Inv-loop μ-loop
 unfolding unrecovered
 loop-again c =
     let p = c .before .before .before .before .loop in
-    let g = c .before .before .before .before .before .args .t1 in
-    (omega arith, p .inv .1 ∙ find.least-next (unrecovered g) (g .n) (p .i) (omega arith) (rw (← c .before .is-recovered .ensures, not-false (c .before .is-recovered .result) (c .if1 .left))))
+    let g = c .before .before .before .before .before .before .before .args .t1 in
+    let h = c .before .before .before .before .before .largest-of .ensures ∙ head-largest g in
+    (omega arith, p .inv .1 ∙ find.least-next (unrecovered g) (g .n) (p .i) (omega arith) (rw (← h, ← c .before .is-recovered .ensures, not-false (c .before .is-recovered .result) (c .if1 .left))))
 
 returns-2 : tie.Need-returns-2 Inv-loop μ-loop
 returns-2 c =
-    let g = c .before .before .args .t1 in
+    let g = c .before .before .before .before .args .t1 in
     sym (c .before .loop .inv .1 ∙ find.least-end (unrecovered g) (g .n) (c .before .loop .i) (omega arith))
 
 pub dummy-of-spec : {M : Type 1} → statement M
@@ -64,6 +70,7 @@ dummy-of-spec =
     Inv-loop
     μ-loop
     cast-n
+    largest-of-requires
     loop-holds
     mul-v
     element-copy-out-v

@@ -1,11 +1,12 @@
 use Prim.Native.Nat.{_≤_, _-_}
 use mathlib.Core.Path.{_≡_, refl, sym, _∙_}
-use mathlib.Core.Bool.{false}
+use mathlib.Core.Bool.{true, false}
 use native.Mathlib.Nat.{sub-zero}
 use native.Mathlib.Omega.{arith}
 use borrow.Author.Needs.{needs}
 use Rattle.lists.specs.Find.{least, any}
 use Rattle.lists.proofs.FindLaws as find
+use Rattle.image.proofs.HeadLaws.{head-largest}
 use Rattle.image.specs.Recovered.{twins, hasTwin, firstTwin}
 use Rattle.image.proofs.recovered.first_twin.Statement.{statement}
 use Rattle.image.proofs.recovered.first_twin.Tie as tie
@@ -26,6 +27,9 @@ abbrev μ-pairs : tie.MeasureT-pairs
 
 cast-n : tie.Need-cast-n Inv-loop μ-loop Inv-pairs μ-pairs
 cast-n c = search needs
+
+largest-of-requires : tie.Need-largest-of-requires Inv-loop μ-loop Inv-pairs μ-pairs
+largest-of-requires c κs = omega arith
 
 pairs-holds : tie.Need-pairs-holds Inv-loop μ-loop Inv-pairs μ-pairs
 unfolding firstTwin
@@ -60,9 +64,10 @@ loop-again : tie.Need-loop-again Inv-loop μ-loop Inv-pairs μ-pairs
 unfolding twins
 loop-again c =
     let p = c .before .before .before .before .before in
-    let g = p .before .before .before .args .t1 in
+    let g = p .before .before .before .before .before .args .t1 in
+    let h = p .before .before .before .largest-of .ensures ∙ head-largest g in
     let i = p .before .before .pairs .i in
-    (omega arith, find.any-more (twins g i) (p .loop .j) (p .loop .inv .1) (sym (c .before .are-twins .ensures) ∙ c .if1 .left))
+    (omega arith, find.any-more (twins g i) (p .loop .j) (p .loop .inv .1) (rw (← h) (sym (c .before .are-twins .ensures) ∙ c .if1 .left)))
 
 add-i : tie.Need-add-i Inv-loop μ-loop Inv-pairs μ-pairs
 add-i c = omega arith
@@ -74,14 +79,14 @@ pairs-again : tie.Need-pairs-again Inv-loop μ-loop Inv-pairs μ-pairs
 unfolding hasTwin
 pairs-again c =
     let p = c .before .before .before in
-    let g = p .before .args .t1 in
+    let g = p .before .before .before .args .t1 in
     let e : c .before .loop .j ≡ p .pairs .i = omega arith in
     let none : any (twins g (p .pairs .i)) (p .pairs .i) ≡ false = rw e at (c .before .loop .inv .1) in
     (omega arith, p .pairs .inv .1 ∙ find.least-next (hasTwin g) (g .n) (p .pairs .i) (omega arith) none)
 
 returns : tie.Need-returns Inv-loop μ-loop Inv-pairs μ-pairs
 returns c =
-    let g = c .before .before .args .t1 in
+    let g = c .before .before .before .before .args .t1 in
     sym (c .before .pairs .inv .1 ∙ find.least-end (hasTwin g) (g .n) (c .before .pairs .i) (omega arith))
 
 returns-2 : tie.Need-returns-2 Inv-loop μ-loop Inv-pairs μ-pairs
@@ -89,9 +94,10 @@ unfolding hasTwin twins
 returns-2 c =
     let l = c .before .before .before .before .before in
     let p = l .before .before in
-    let g = p .before .args .t1 in
+    let g = p .before .before .before .args .t1 in
+    let h = p .before .largest-of .ensures ∙ head-largest g in
     let i = p .pairs .i in
-    let hit = sym (c .before .are-twins .ensures) ∙ c .if1 .taken in
+    let hit : twins g i (l .loop .j) ≡ true = rw (← h) (sym (c .before .are-twins .ensures) ∙ c .if1 .taken) in
     sym (p .pairs .inv .1 ∙ find.least-hit (hasTwin g) (g .n) i (omega arith) (find.any-hit (twins g i) i (l .loop .j) (omega arith) hit))
 
 pub first-twin-spec : {M : Type 1} → statement M
@@ -103,6 +109,7 @@ first-twin-spec =
     Inv-pairs
     μ-pairs
     cast-n
+    largest-of-requires
     pairs-holds
     loop-holds
     mul-a

@@ -1,4 +1,6 @@
+use mathlib.Core.Path.{_∙_}
 use borrow.Author.Tests.{eq-eqb, ne-eqb}
+use Rattle.image.proofs.HeadLaws.{head-largest}
 use Rattle.machine.proofs.QueueLaws as queues
 use native.Mathlib.Omega.{arith}
 use borrow.Author.Needs.{needs}
@@ -16,10 +18,13 @@ link-of-requires c κs =
     let s = c .before in
     omega (arith, queues.queue-count (s .args .t1) (s .args .q) (s .args .t1 .n) (s .pre .2))
 
+largest-of-requires : tie.Need-largest-of-requires
+largest-of-requires c κs = omega arith
+
 returns : tie.Need-returns
 returns c =
-    let s = c .before .before .before in
-    rw (c .before .link-of .ensures, queues.queue-take (s .args .t1) (s .args .q) (s .args .t1 .n) (s .pre .2), eq-eqb _ _ (c .if1 .taken))
+    let s = c .before .before .before .before .before in
+    rw (c .largest-of .ensures ∙ head-largest (s .args .t1), c .before .before .before .link-of .ensures, queues.queue-take (s .args .t1) (s .args .q) (s .args .t1 .n) (s .pre .2), eq-eqb _ _ (c .before .before .if1 .taken))
 
 returns-2 : tie.Need-returns-2
 returns-2 c =
@@ -27,4 +32,4 @@ returns-2 c =
     rw (c .before .link-of .ensures, queues.queue-take (s .args .t1) (s .args .q) (s .args .t1 .n) (s .pre .2), ne-eqb _ _ (c .if1 .left))
 
 pub node-of-spec : {M : Type 1} → statement M
-node-of-spec = tie.close (tie.spec mul-v element-copy-out-v link-of-requires returns returns-2)
+node-of-spec = tie.close (tie.spec mul-v element-copy-out-v link-of-requires largest-of-requires returns returns-2)

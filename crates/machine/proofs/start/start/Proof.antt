@@ -25,6 +25,12 @@ free-of-requires c κs = search needs
 nodes-of-requires : tie.Need-nodes-of-requires
 nodes-of-requires c κs = search needs
 
+heads-of-requires : tie.Need-heads-of-requires
+heads-of-requires c κs = search needs
+
+heads-of-requires-2 : tie.Need-heads-of-requires-2
+heads-of-requires-2 c κs = search needs
+
 kept-of-requires : tie.Need-kept-of-requires
 kept-of-requires c κs = search needs
 
@@ -34,16 +40,19 @@ idle-threads-requires c κs = search needs
 returns : tie.Need-returns
 unfolding startWith startNodes startKept startFree
 returns c =
-    let g = c .before .before .before .before .before .before .before .args .g in
+    let b = c .before .before .before .before in
+    let g = b .before .before .before .before .before .args .g in
     rw (
       c .idle-threads .ensures,
       c .before .kept-of .ensures,
-      c .before .before .nodes-of .ensures,
-      c .before .before .before .free-of .ensures,
-      c .before .before .before .before .last-of .ensures,
-      c .before .before .before .before .before .queue-of .ensures,
+      c .before .before .heads-of2 .ensures,
+      c .before .before .before .heads-of .ensures,
+      b .nodes-of .ensures,
+      b .before .free-of .ensures,
+      b .before .before .last-of .ensures,
+      b .before .before .before .queue-of .ensures,
       queues.laid-take (queueOf g),
-      c .before .before .before .before .before .before .dummy-of .ensures,
+      b .before .before .before .before .dummy-of .ensures,
     )
 
 pub start-spec : {M : Type 1} → statement M
@@ -56,6 +65,8 @@ start-spec =
     last-of-requires
     free-of-requires
     nodes-of-requires
+    heads-of-requires
+    heads-of-requires-2
     kept-of-requires
     idle-threads-requires
     returns)

@@ -1,5 +1,6 @@
 use mathlib.Core.Path.{sym, _∙_}
 use Rattle.machine.proofs.TableLaws as tables
+use Rattle.image.proofs.HeadLaws.{recovered-by}
 use Rattle.lists.proofs.WordLaws.{one-shifted}
 use borrow.Author.Needs.{needs}
 use Rattle.machine.proofs.start.with_spare.Statement.{statement}
@@ -16,13 +17,13 @@ mul-v c = search needs
 element-copy-out-v : tie.Need-element-copy-out-v
 element-copy-out-v c = search needs
 
-is-recovered-requires : tie.Need-is-recovered-requires
-is-recovered-requires c κs = search needs
+recovered-in-requires : tie.Need-recovered-in-requires
+recovered-in-requires c κs = search needs
 
 returns-2 : tie.Need-returns-2
 returns-2 c =
-    let s = c .before .before .before .before in
-    s .pre .1 ∙ tables.free-recovered (s .args .t1) (s .args .d) (s .args .i) (c .before .before .before .if1 .left) (sym (c .before .is-recovered .ensures) ∙ c .if2 .taken)
+    let s = c .before .before .before .before .before in
+    s .pre .1 ∙ tables.free-recovered (s .args .t1) (s .args .d) (s .args .i) (c .before .before .before .before .if1 .left) (recovered-by (s .args .t1) (s .args .i) ∙ sym (c .before .recovered-in .ensures) ∙ c .if2 .taken)
 
 cast-k : tie.Need-cast-k
 cast-k c = search needs
@@ -35,14 +36,14 @@ shl-result c = search needs
 
 add-result : tie.Need-add-result
 add-result c =
-    let s = c .before .before .before .before in
+    let s = c .before .before .before .before .before in
     record { fits = rw (one-shifted 64 (s .args .i) (s .pre .0), s .pre .1) (tables.free-fits (s .args .t1) (s .args .d) (s .args .i) (s .pre .0)) }
 
 returns-3 : tie.Need-returns-3
 returns-3 c =
-    let s = c .before .before .before .before in
+    let s = c .before .before .before .before .before in
     rw (one-shifted 64 (s .args .i) (s .pre .0), s .pre .1)
-    (tables.free-spare (s .args .t1) (s .args .d) (s .args .i) (c .before .before .before .if1 .left) (sym (c .before .is-recovered .ensures) ∙ c .if2 .left))
+    (tables.free-spare (s .args .t1) (s .args .d) (s .args .i) (c .before .before .before .before .if1 .left) (recovered-by (s .args .t1) (s .args .i) ∙ sym (c .before .recovered-in .ensures) ∙ c .if2 .left))
 
 pub with-spare-spec : {M : Type 1} → statement M
 with-spare-spec =
@@ -51,7 +52,7 @@ with-spare-spec =
     returns
     mul-v
     element-copy-out-v
-    is-recovered-requires
+    recovered-in-requires
     returns-2
     cast-k
     cast-result

@@ -5,7 +5,7 @@ use Rattle.lists.specs.Tab.{over, front}
 use Rattle.lists.proofs.TabLaws as tabs
 use Rattle.image.specs.Layout.{noContents}
 use Rattle.machine.specs.Line.{lineCount}
-use Rattle.machine.proofs.LineLaws.{one-head}
+use Rattle.image.proofs.HeadLaws.{one-head}
 use Rattle.page.specs.Filled.{linesOn, fitting}
 use Rattle.endtable.specs.Picks.{picksOf, pickedNode, turnedOf}
 use Rattle.endtable.proofs.Turns as turns
@@ -108,33 +108,39 @@ index-1-head c = omega arith
 index-2-head : tie.Need-index-2-head Inv-loop2 μ-loop2 Inv-loop μ-loop
 index-2-head c = picked.picks-filled (c .before .before .before .before .before .before .before .args .counts) (c .before .before .before .before .before .before .before .args .n) (c .before .before .before .before .loop .k) (c .before .before .before .before .loop .picks) (c .before .before .before .before .before .before .before .pre .1) (c .before .before .before .before .loop .inv .6) 0 (omega (arith, one-head (c .before .before .before .before .before .before .before .args .n)))
 
+no-heads-requires : tie.Need-no-heads-requires Inv-loop2 μ-loop2 Inv-loop μ-loop
+no-heads-requires c κs = tt
+
+array-write-heads : tie.Need-array-write-heads Inv-loop2 μ-loop2 Inv-loop μ-loop
+array-write-heads c = omega arith
+
 fit-ending-requires : tie.Need-fit-ending-requires Inv-loop2 μ-loop2 Inv-loop μ-loop
 fit-ending-requires c κs =
-    let a = c .before .before .before .before .before .before .before .before .before .args in
-    let p = c .before .before .before .before .before .before .loop in
+    let a = c .before .before .before .before .before .before .before .before .before .before .args in
+    let p = c .before .before .before .before .before .before .before .loop in
     (omega arith, omega arith, omega (arith, written.same-room (a .b .now) (a .at) (linesOn (lineFrom (a .t3) (a .counts) (a .n)) (a .from) (p .k - a .from)) (p .inv .4)))
 
 same-length : tie.Need-same-length Inv-loop2 μ-loop2 Inv-loop μ-loop
 same-length c =
-    let a = c .before .before .before .before .before .before .before .before .before .before .before .before .before .args in
-    let p = c .before .before .before .before .before .before .before .before .before .before .loop in
+    let a = c .before .before .before .before .before .before .before .before .before .before .before .before .before .before .args in
+    let p = c .before .before .before .before .before .before .before .before .before .before .before .loop in
     c .before .before .before .fit-ending .kept .0 ∙ written.same-room (a .b .now) (a .at) (linesOn (lineFrom (a .t3) (a .counts) (a .n)) (a .from) (p .k - a .from)) (p .inv .4)
 
 returns : tie.Need-returns Inv-loop2 μ-loop2 Inv-loop μ-loop
 returns c =
-    let a = c .before .before .before .before .before .before .before .before .before .before .before .before .before .args in
-    let p = c .before .before .before .before .before .before .before .before .before .before .loop in
-    let i = c .before .before .before .before .before .before .before .loop2 in
+    let a = c .before .before .before .before .before .before .before .before .before .before .before .before .before .before .args in
+    let p = c .before .before .before .before .before .before .before .before .before .before .before .loop in
+    let i = c .before .before .before .before .before .before .before .before .loop2 in
     let w = c .before .before .before .fit-ending in
     let f = lineFrom (a .t3) (a .counts) (a .n) in
     let m = written.same-room (a .b .now) (a .at) (linesOn (lineFrom (a .t3) (a .counts) (a .n)) (a .from) (p .k - a .from)) (p .inv .4) in
-    let e = picked.picked-line (a .t3) (a .counts) (a .n) (p .k) (p .picks) (i .nodes) (i .i) (omega arith) (i .inv .1) (p .inv .6) in
+    let e = picked.picked-line (a .t3) (a .counts) (a .n) (p .k) (p .picks) (i .nodes) (i .i) (omega arith) (i .inv .1) (p .inv .6) (c .before .before .before .before .before .no-heads .result) (c .before .before .before .before .before .no-heads .ensures) in
     let l = laws.put-left (p .b) (p .p) (length (p .b) - p .p) _ (w .ensures .0, w .ensures .1 .0) (c .if1 .taken) (picked.line-some (p .k) _) in
     let h : length (f (p .k)) ≤ 721 = omega (arith, w .ensures .1 .1, ap length e) in
     (omega (arith, p .inv .5, laws.fit-full f (p .k) (a .to) (length (a .b .now) - p .p) (omega arith) (omega (arith, l .0, m, ap length e))), (p .inv .3, (l .1 ∙ p .inv .4, λ q. picked.first-known (λ j. length (f j) ≤ 721) (a .from) (p .k) (p .inv .7) (omega arith) h (omega arith))))
 
 turned-requires : tie.Need-turned-requires Inv-loop2 μ-loop2 Inv-loop μ-loop
-turned-requires c κs = (c .before .before .before .before .before .before .before .before .before .before .before .before .before .pre .0, c .before .before .before .before .before .before .before .before .before .before .before .before .before .pre .1 .0)
+turned-requires c κs = (c .before .before .before .before .before .before .before .before .before .before .before .before .before .before .pre .0, c .before .before .before .before .before .before .before .before .before .before .before .before .before .before .pre .1 .0)
 
 add-k : tie.Need-add-k Inv-loop2 μ-loop2 Inv-loop μ-loop
 add-k c = omega arith
@@ -144,14 +150,14 @@ loop-less c = omega arith
 
 loop-again : tie.Need-loop-again Inv-loop2 μ-loop2 Inv-loop μ-loop
 loop-again c =
-    let z = c .before .before .before .before .before .before .before .before .before .before .before .before .before .before in
+    let z = c .before .before .before .before .before .before .before .before .before .before .before .before .before .before .before in
     let a = z .args in
-    let p = c .before .before .before .before .before .before .before .before .before .before .before .loop in
-    let i = c .before .before .before .before .before .before .before .before .loop2 in
+    let p = c .before .before .before .before .before .before .before .before .before .before .before .before .loop in
+    let i = c .before .before .before .before .before .before .before .before .before .loop2 in
     let w = c .before .before .before .before .fit-ending in
     let f = lineFrom (a .t3) (a .counts) (a .n) in
     let m = written.same-room (a .b .now) (a .at) (linesOn (lineFrom (a .t3) (a .counts) (a .n)) (a .from) (p .k - a .from)) (p .inv .4) in
-    let e = picked.picked-line (a .t3) (a .counts) (a .n) (p .k) (p .picks) (i .nodes) (i .i) (omega arith) (i .inv .1) (p .inv .6) in
+    let e = picked.picked-line (a .t3) (a .counts) (a .n) (p .k) (p .picks) (i .nodes) (i .i) (omega arith) (i .inv .1) (p .inv .6) (c .before .before .before .before .before .before .no-heads .result) (c .before .before .before .before .before .before .no-heads .ensures) in
     let l = laws.put-taken (p .b) (p .p) (length (p .b) - p .p) _ (w .ensures .0, w .ensures .1 .0) (c .before .if1 .left) in
     let y = subst (λ s. written.Put (p .b) (p .p) s (w .last .0) (w .result)) e (l .1) in
     let s = laws.on-put f (a .from) (p .k) (a .b .now) (a .at) (omega arith) (p .inv .3, p .inv .4) y in
@@ -210,6 +216,8 @@ write-endings-spec =
     mul-head
     index-1-head
     index-2-head
+    no-heads-requires
+    array-write-heads
     fit-ending-requires
     same-length
     returns

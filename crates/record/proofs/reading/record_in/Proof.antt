@@ -3,14 +3,26 @@ use Rattle.record.specs.Layout.{recordIn}
 use Rattle.record.proofs.reading.record_in.Statement.{statement}
 use Rattle.record.proofs.reading.record_in.Tie as tie
 
+no-heads-requires : tie.Need-no-heads-requires
+no-heads-requires c κs = search needs
+
 word-at-requires : tie.Need-word-at-requires
 word-at-requires c κs = search needs
+
+array-write-heads : tie.Need-array-write-heads
+array-write-heads c = search needs
 
 long-at-requires : tie.Need-long-at-requires
 long-at-requires c κs = search needs
 
+no-heads-requires-2 : tie.Need-no-heads-requires-2
+no-heads-requires-2 c κs = search needs
+
 word-at-requires-2 : tie.Need-word-at-requires-2
 word-at-requires-2 c κs = search needs
+
+array-write-kept-heads : tie.Need-array-write-kept-heads
+array-write-kept-heads c = search needs
 
 nodes-in-requires : tie.Need-nodes-in-requires
 nodes-in-requires c κs = search needs
@@ -21,34 +33,49 @@ kept-in-requires c κs = search needs
 threads-in-requires : tie.Need-threads-in-requires
 threads-in-requires c κs = search needs
 
-shared-slice-read-t9 : tie.Need-shared-slice-read-t9
-shared-slice-read-t9 c = search needs
-
-shared-slice-read-t11 : tie.Need-shared-slice-read-t11
-shared-slice-read-t11 c = search needs
-
-shared-slice-read-t13 : tie.Need-shared-slice-read-t13
-shared-slice-read-t13 c = search needs
-
 shared-slice-read-t15 : tie.Need-shared-slice-read-t15
 shared-slice-read-t15 c = search needs
 
+shared-slice-read-t17 : tie.Need-shared-slice-read-t17
+shared-slice-read-t17 c = search needs
+
+shared-slice-read-t19 : tie.Need-shared-slice-read-t19
+shared-slice-read-t19 c = search needs
+
+shared-slice-read-t21 : tie.Need-shared-slice-read-t21
+shared-slice-read-t21 c = search needs
+
 returns : tie.Need-returns
 unfolding recordIn
-returns c = rw (c .before .before .before .before .before .before .before .before .before .word-at .ensures, c .before .before .before .before .before .before .before .before .long-at .ensures, c .before .before .before .before .before .before .before .word-at2 .ensures, c .before .before .before .before .before .before .nodes-in .ensures, c .before .before .before .before .before .kept-in .ensures, c .before .before .before .before .threads-in .ensures)
+returns c =
+    let b = c .before .before .before .before in
+    rw (
+      b .threads-in .ensures,
+      b .before .kept-in .ensures,
+      b .before .before .nodes-in .ensures,
+      b .before .before .before .word-at2 .ensures,
+      b .before .before .before .before .no-heads2 .ensures,
+      b .before .before .before .before .before .long-at .ensures,
+      b .before .before .before .before .before .before .word-at .ensures,
+      b .before .before .before .before .before .before .before .no-heads .ensures,
+    )
 
 pub record-in-spec : {M : Type 1} → statement M
 record-in-spec =
     tie.close
     (tie.spec
+    no-heads-requires
     word-at-requires
+    array-write-heads
     long-at-requires
+    no-heads-requires-2
     word-at-requires-2
+    array-write-kept-heads
     nodes-in-requires
     kept-in-requires
     threads-in-requires
-    shared-slice-read-t9
-    shared-slice-read-t11
-    shared-slice-read-t13
     shared-slice-read-t15
+    shared-slice-read-t17
+    shared-slice-read-t19
+    shared-slice-read-t21
     returns)
