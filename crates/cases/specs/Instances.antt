@@ -8,6 +8,7 @@ use native.Mathlib.Omega.{arith}
 use Rattle.lists.specs.Find.{least, any}
 use Rattle.lists.specs.Tab.{tab, front}
 use Rattle.lists.specs.Word.{has, with, without, wordOf}
+use Rattle.image.specs.Bytes.{atW}
 use Rattle.image.specs.Layout.{noContents, marked, readNodes, imageIn, sameContent, headLines, noHeads, headsOf, readHeads}
 use Rattle.image.specs.Recovered.{largest, headOf, recovered, twins, hasTwin, firstTwin, dummyOf, firstUnclear}
 use Rattle.image.specs.Refusals.{startable, sound}
@@ -82,7 +83,7 @@ lawful-five-six = record { order = 0 ∷ 1 ∷ []; within = within; once = (diff
 
 -- every ending of P6
 pub P6-recovers : (k : ℕ) → k < 3 → Recovers P6 (endingIn P6 k)
-unfolding P6 P7 p6 four enqueue step zeroNodes schedule least any tab front has with without wordOf noContents marked readNodes imageIn
+unfolding P6 P7 p6 four enqueue step zeroNodes schedule least any tab front has with without wordOf noContents atW marked readNodes imageIn
     recovered twins hasTwin firstTwin dummyOf firstUnclear startable sound blankNodes idleThreads insert risen behind lastOf startWith startAnswer
     nextFree releasedAt released others retired eventAt scheduleIn eventsIn run ran headLines noHeads headsOf readHeads largest headOf lineAt putLine sameContent joins gathered contentsOf tableOf
     choices imageOf ending tableIn endingIn operations serveAll itemsFrom
@@ -93,7 +94,7 @@ P6-recovers (suc (suc (suc k))) h = absurd (omega arith)
 
 -- and of P7, whose fourth has both items
 pub P7-recovers : (k : ℕ) → k < 4 → Recovers P7 (endingIn P7 k)
-unfolding P6 P7 p6 four enqueue step zeroNodes schedule least any tab front has with without wordOf noContents marked readNodes imageIn
+unfolding P6 P7 p6 four enqueue step zeroNodes schedule least any tab front has with without wordOf noContents atW marked readNodes imageIn
     recovered twins hasTwin firstTwin dummyOf firstUnclear startable sound blankNodes idleThreads insert risen behind lastOf startWith startAnswer
     nextFree releasedAt released others retired eventAt scheduleIn eventsIn run ran headLines noHeads headsOf readHeads largest headOf lineAt putLine sameContent joins gathered contentsOf tableOf
     choices imageOf ending tableIn endingIn operations serveAll itemsFrom

@@ -1,6 +1,5 @@
 pub mod Accepted
 pub mod Laws
-pub mod Numbers
 pub mod ReadWrite
 pub mod Same
 pub mod Unique

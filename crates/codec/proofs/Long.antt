@@ -4,6 +4,7 @@ use mathlib.Core.Path.{_≡_, refl, sym, ap, _∙_}
 use mathlib.Core.Bool.{Bool, true, false, not}
 use mathlib.Core.List.{List}
 use native.Mathlib.Omega.{arith}
+use native.Mathlib.Nat.{zero-add}
 use borrow.Author.Tests.{eqb-true, ltb-false, le-ltb, not-false}
 use lib.ListN.{length, getD, take, drop, length-drop}
 use lib.Seq.{getD-take, getD-drop, length-take-le}
@@ -12,6 +13,7 @@ use Rattle.answer.specs.Answers.{check, accepted}
 use Rattle.answer.specs.declared.Answer.{Answer}
 use Rattle.answer.specs.declared.Answer.the-variants.{Taken, Length, Mark, Nodes, Threads, Events}
 use Rattle.image.specs.Bytes.{at1}
+use Rattle.image.proofs.ByteLaws.{at-same}
 use Rattle.image.specs.Layout.{marked, isImage, nodePlace, imageIn}
 use Rattle.image.specs.Refusals.{nodesFit, sound, imageAnswer}
 use Rattle.machine.specs.Start.{threadsFit}
@@ -77,9 +79,12 @@ long-refused s h =
     (not (nodesFit (at1 (imagePart s) 5)))
 
 -- two inputs whose first 14 bytes are the same
-module _ (s p : List ℕ) (h : (i : ℕ) → i < 14 → at1 p i ≡ at1 s i) where
+module _ (s p : List ℕ) (long : 14 ≤ length s) (long′ : 14 ≤ length p) (h : (i : ℕ) → i < 14 → at1 p i ≡ at1 s i) where
   part : (i : ℕ) → i < 6 → at1 (imagePart p) i ≡ at1 (imagePart s) i
   part i l = getD-drop 8 p i 0 ∙ h (8 + i) (omega arith) ∙ sym (getD-drop 8 s i 0)
+
+  count : countIn p ≡ countIn s
+  count = at-same 2 p s 0 6 14 (λ k l. ap (at1 p) (zero-add k) ∙ h k l) (omega arith) (omega arith) (omega arith)
 
   front-same : frontAnswer p ≡ frontAnswer s
   unfolding marked frontAnswer
@@ -91,8 +96,7 @@ module _ (s p : List ℕ) (h : (i : ℕ) → i < 14 → at1 p i ≡ at1 s i) whe
         h 3 (omega arith),
         h 4 (omega arith),
         h 5 (omega arith),
-        h 6 (omega arith),
-        h 7 (omega arith),
+        count,
         part 0 (omega arith),
         part 1 (omega arith),
         part 2 (omega arith),
@@ -105,5 +109,5 @@ module _ (s p : List ℕ) (h : (i : ℕ) → i < 14 → at1 p i ≡ at1 s i) whe
 pub long-same : (s : List ℕ) (room : ℕ) → 25170 < room → room ≤ length s → scheduleAnswer (take room s) ≡ scheduleAnswer s
 long-same s room h l =
     front-is (take room s) (omega (arith, length-take-le room s l))
-    ∙ front-same s (take room s) (λ i q. getD-take room s i 0 (omega arith))
+    ∙ front-same s (take room s) (omega arith) (omega (arith, length-take-le room s l)) (λ i q. getD-take room s i 0 (omega arith))
     ∙ sym (front-is s (omega arith))

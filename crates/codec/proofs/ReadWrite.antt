@@ -19,7 +19,11 @@ use Rattle.image.specs.Layout as im
 use Rattle.image.proofs.HeadLaws.{heads-at}
 use Rattle.image.specs.Refusals.{imageAnswer, readImage, writeAnswer, written}
 use Rattle.codec.proofs.Accepted as acc
-use Rattle.codec.proofs.Numbers as num
+use Rattle.image.proofs.ByteLaws as num
+
+-- four bytes
+word-there : (s : List ℕ) (i : ℕ) → num.Bytes s → i + 4 ≤ length s → le4 (at4 s i) ≡ getD s i 0 ∷ getD s (i + 1) 0 ∷ getD s (i + 2) 0 ∷ getD s (i + 3) 0 ∷ []
+word-there s i b h = num.le-at 4 s i b h ∙ num.four-at s i h
 
 -- a node's nine bytes
 node-there : (s : List ℕ) (p : ℕ) → num.Bytes s → p + 9 ≤ length s → im.nodeBytes (im.readContent s p) ≡ take 9 (drop p s)
@@ -27,7 +31,7 @@ unfolding tab
 node-there s p b h =
     let t : take 9 (drop p s) ≡ getD s p 0 ∷ getD s (p + 1) 0 ∷ getD s (p + 2) 0 ∷ getD s (p + 3) 0 ∷ getD s (p + 4) 0 ∷ getD s (p + 5) 0 ∷ getD s (p + 6) 0 ∷ getD s (p + 7) 0 ∷ getD s (p + 8) 0 ∷ [] =
     tabs.take-drop-tab s 0 p 9 h ∙ simp add-zero in
-    ap₂ (λ (u v : List ℕ). getD s p 0 ∷ (u ++ v)) (num.byte4 s (p + 1) b) (num.byte4 s (p + 5) b) ∙ simp add-assoc (sym t)
+    ap₂ (λ (u v : List ℕ). getD s p 0 ∷ (u ++ v)) (word-there s (p + 1) b (omega arith)) (word-there s (p + 5) b (omega arith)) ∙ simp add-assoc (sym t)
 
 head-there : (s : List ℕ) → num.Bytes s → im.isImage s ≡ true → 10 ≤ length s → im.headBytes (at1 s 5) (λ k. at4 s (6 + k * 4)) ≡ take 10 s
 unfolding im.marked im.headBytes im.headLines joined tab
@@ -41,7 +45,7 @@ head-there s b m h =
     let e2 : getD s 2 0 ≡ 73 = eqb-true _ _ (m2 .0) in
     let e3 : getD s 3 0 ≡ 1 = eqb-true _ _ (m3 .0) in
     let e4 : getD s 4 0 ≡ 0 = eqb-true _ _ (m3 .1) in
-    ap (λ (l : List ℕ). 85 ∷ 81 ∷ 73 ∷ 1 ∷ 0 ∷ getD s 5 0 ∷ l) (num.byte4 s 6 b)
+    ap (λ (l : List ℕ). 85 ∷ 81 ∷ 73 ∷ 1 ∷ 0 ∷ getD s 5 0 ∷ l) (word-there s 6 b (omega arith))
     ∙ sym (rw (e0, e1, e2, e3, e4) at (tabs.take-drop-tab s 0 0 10 h))
 
 -- the indices of the head lines that are read

@@ -13,7 +13,7 @@ use Rattle.lists.specs.Tab.{tab, joined, front}
 use Rattle.lists.proofs.TabLaws as tabs
 use Rattle.answer.specs.Answers.{accepted}
 use Rattle.answer.specs.declared.Answer.the-variants.{Taken}
-use Rattle.image.specs.Bytes.{at1, at4}
+use Rattle.image.specs.Bytes.{atW, at1, at4}
 use Rattle.image.specs.Layout as im
 use Rattle.image.proofs.HeadLaws.{heads-at, heads-same, head-same}
 use Rattle.image.specs.Refusals.{sound, imageAnswer, readImage, writeAnswer, written}
@@ -21,7 +21,7 @@ use Rattle.image.specs.declared.Content.{Content}
 use Rattle.image.specs.declared.Image.{Image}
 use Rattle.codec.proofs.Accepted as acc
 use Rattle.codec.proofs.Laws as laws
-use Rattle.codec.proofs.Numbers as num
+use Rattle.image.proofs.ByteLaws as num
 use Rattle.codec.proofs.ReadWrite as there
 use Rattle.codec.proofs.Same as same
 
@@ -69,21 +69,20 @@ module _ (g : Image) where
       ∙ getD-append-add (im.headBytes (g .n) (im.headIn g)) (im.bodyBytes (g .nodes) (g .n)) (i * 9 + j) 0
       ∙ tabs.getD-joined nodeOf 9 (g .n) i j 0 (λ k. refl) p q
 
-  at-node₂ : (i j k : ℕ) → i < g .n → j + k < 9 → getD (im.imageBytes g) (im.nodePlace i + j + k) 0 ≡ getD (nodeOf i) (j + k) 0
-  at-node₂ i j k p q = ap (λ (x : ℕ). getD (im.imageBytes g) x 0) (add-assoc (im.nodePlace i) j k) ∙ at-node i (j + k) p q
+  pub size-back : length (im.imageBytes g) ≡ im.nodePlace (g .n)
+  unfolding im.imageBytes im.headBytes im.headLines joined
+  size-back = length-append (im.headBytes (g .n) (im.headIn g)) (im.bodyBytes (g .nodes) (g .n)) ∙ ap (λ (k : ℕ). 10 + k) (laws.length-body (g .nodes) (g .n))
 
   node-back : Fits g → (i : ℕ) → i < g .n → im.readContent (im.imageBytes g) (im.nodePlace i) ≡ im.contentAt (g .nodes) i
-  unfolding nodeOf
+  unfolding nodeOf atW
   node-back w i p =
       let v = im.contentAt (g .nodes) i in
       let b = im.imageBytes g in
       let l : at1 b (im.nodePlace i) ≡ v .linked = ap (λ (k : ℕ). getD b k 0) (sym (add-zero (im.nodePlace i))) ∙ at-node i 0 p (omega arith) in
       let x : at4 b (im.nodePlace i + 1) ≡ v .index =
-      num.num4-of _ _ _ _ _ _ _ _ (at-node i 1 p (omega arith)) (at-node₂ i 1 1 p (omega arith)) (at-node₂ i 1 2 p (omega arith)) (at-node₂ i 1 3 p (omega arith))
-      ∙ num.num4-le4 (v .index) (w .index i p) in
+      num.at-same 4 b (nodeOf i) (im.nodePlace i) 1 9 (λ j h. at-node i j p h) (omega arith) (omega (arith, size-back)) (omega arith) ∙ num.num-le 4 (v .index) (w .index i p) in
       let y : at4 b (im.nodePlace i + 5) ≡ v .item =
-      num.num4-of _ _ _ _ _ _ _ _ (at-node i 5 p (omega arith)) (at-node₂ i 5 1 p (omega arith)) (at-node₂ i 5 2 p (omega arith)) (at-node₂ i 5 3 p (omega arith))
-      ∙ num.num4-le4 (v .item) (w .item i p) in
+      num.at-same 4 b (nodeOf i) (im.nodePlace i) 5 9 (λ j h. at-node i j p h) (omega arith) (omega (arith, size-back)) (omega arith) ∙ num.num-le 4 (v .item) (w .item i p) in
       λ k. record { linked = l k; index = x k; item = y k }
 
   nodes-back : Fits g → im.readNodes (im.imageBytes g) (g .n) ≡ trimmed g .nodes
@@ -92,17 +91,13 @@ module _ (g : Image) where
       ap (λ (x : List Content). x ++ drop (g .n) im.noContents)
       (tabs.tab-same (λ i. im.readContent (im.imageBytes g) (im.nodePlace i)) (im.contentAt (g .nodes)) (g .n) (λ i p. node-back w i p))
 
-  pub size-back : length (im.imageBytes g) ≡ im.nodePlace (g .n)
-  unfolding im.imageBytes im.headBytes im.headLines joined
-  size-back = length-append (im.headBytes (g .n) (im.headIn g)) (im.bodyBytes (g .nodes) (g .n)) ∙ ap (λ (k : ℕ). 10 + k) (laws.length-body (g .nodes) (g .n))
-
   count-back : at1 (im.imageBytes g) 5 ≡ g .n
   unfolding im.imageBytes im.headBytes
   count-back = refl
 
   heads-back : Fits g → (k : ℕ) → k < im.headLines (g .n) → at4 (im.imageBytes g) (6 + k * 4) ≡ im.headIn g k
-  unfolding im.imageBytes im.headBytes im.headLines joined
-  heads-back w k h = let z : k ≡ 0 = omega arith in rw z (num.num4-le4 (im.headIn g 0) (w .head 0 (omega arith)))
+  unfolding im.imageBytes im.headBytes im.headLines joined atW
+  heads-back w k h = let z : k ≡ 0 = omega arith in rw z (num.num-le 4 (im.headIn g 0) (w .head 0 (omega arith)))
 
   heads-again : Fits g → im.readHeads (im.imageBytes g) (g .n) ≡ trimmed g .heads
   unfolding im.readHeads

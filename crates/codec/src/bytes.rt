@@ -1,13 +1,14 @@
 // Numbers and marks as bytes, read and written.
 ghost use mathlib.Core.Path.{_≡_};
 ghost use Prim.Native.Nat.{_+_, _*_, _≤_};
+ghost use mathlib.Core.List.{[], _∷_};
 ghost use lib.ListN.{length};
 ghost use Rattle.lists.specs.Tab.{over};
-ghost use Rattle.image.specs.Bytes.{num4, le4, at2, at4};
+ghost use Rattle.image.specs.Bytes.{numOf, le4, at2, at4};
 ghost use Rattle.image.specs.Layout.{marked};
 
 fn num(a: u8, b: u8, c: u8, d: u8) -> u32
-    ensures { λ r. ⌜ r ≡ num4 a b c d ⌝ }
+    ensures { λ r. ⌜ r ≡ numOf (a ∷ b ∷ c ∷ d ∷ []) ⌝ }
 {
     (a as u32) + (b as u32) * 256 + (c as u32) * 65536 + (d as u32) * 16777216
 }
@@ -21,7 +22,7 @@ pub fn word_at(s: &[u8], at: usize) -> u32
 }
 
 fn half(a: u8, b: u8) -> u16
-    ensures { λ r. ⌜ r ≡ a + b * 256 ⌝ }
+    ensures { λ r. ⌜ r ≡ numOf (a ∷ b ∷ []) ⌝ }
 {
     (a as u16) + (b as u16) * 256
 }
@@ -40,8 +41,8 @@ pub fn put_word(b: &mut [u8], at: usize, x: u32)
 {
     b[at] = (x % 256) as u8;
     b[at + 1] = (x / 256 % 256) as u8;
-    b[at + 2] = (x / 65536 % 256) as u8;
-    b[at + 3] = (x / 16777216 % 256) as u8;
+    b[at + 2] = (x / 256 / 256 % 256) as u8;
+    b[at + 3] = (x / 256 / 256 / 256 % 256) as u8;
 }
 
 // Whether the bytes begin with these three letters and version 1.

@@ -17,6 +17,7 @@ use Rattle.image.specs.declared.Image.{Image}
 use Rattle.machine.specs.Line.{Line, ofHead, ofNode, lineCount, lineAt, cachedAt, persistedAt}
 use Rattle.machine.specs.Event.{Deed, unknown, enqueues, dequeues, steps, writesBack, crashes, deedOf}
 use Rattle.machine.specs.declared.Machine.{Machine}
+use Rattle.image.proofs.ByteLaws.{at-small}
 use Rattle.image.proofs.HeadLaws.{one-head, heads-at, head-one}
 use Rattle.machine.specs.declared.Event.{Event}
 use Rattle.machine.proofs.AnswerLaws as starts
@@ -81,7 +82,7 @@ small-run (e ∷ l) p b i g h =
 -- ---- what the bytes hold
 
 word-small : (s : List ℕ) → Bytes s → (i : ℕ) → at4 s i < 4294967296
-word-small s y i = omega (arith, y i, y (i + 1), y (i + 2), y (i + 3))
+word-small s y i = omega (arith, at-small 4 s i y)
 
 items-append : (l : List Event) (e : Event) → SmallItems l → e .item < 4294967296 → SmallItems (l ++ (e ∷ []))
 items-append [] e h p = (p, tt)

@@ -1,2 +1,3 @@
 pub mod RecoveredLaws
 pub mod HeadLaws
+pub mod ByteLaws

@@ -14,6 +14,7 @@ use Rattle.lists.proofs.TabLaws.{length-tab, getD-tab}
 use Rattle.answer.specs.Answers.{accepted, check}
 use Rattle.answer.specs.declared.Answer.the-variants.{Taken, Length, Kind, NotZero}
 use Rattle.image.specs.Bytes.{at1, at4}
+use Rattle.image.proofs.ByteLaws.{at-small}
 use Rattle.lawful.specs.Operation.{Operation, says}
 use Rattle.lawful.specs.Lawful.{at, noOperation}
 use Rattle.lawful.specs.Demand3.{Bytes}
@@ -90,5 +91,4 @@ says-reply (suc (suc (suc (suc (suc (suc a)))))) v h = absurd (omega arith)
 
 -- a number of 64 bits
 pub at8-le : (s : List ℕ) → Bytes s → (p : ℕ) → at8 s p ≤ top
-at8-le s b p =
-    omega (arith, b p, b (p + 1), b (p + 2), b (p + 3), b (p + 4), b (p + 4 + 1), b (p + 4 + 2), b (p + 4 + 3))
+at8-le s b p = omega (arith, at-small 8 s p b)

@@ -10,12 +10,12 @@ use Rattle.lists.specs.Tab.{tab}
 use Rattle.answer.specs.Answers.{check}
 use Rattle.answer.specs.declared.Answer.{Answer}
 use Rattle.answer.specs.declared.Answer.the-variants.{Taken, Length, Kind, NotZero}
-use Rattle.image.specs.Bytes.{at1, at4}
+use Rattle.image.specs.Bytes.{atW, at1, at4}
 use Rattle.lawful.specs.Operation.{Operation, Reply, nothing, done, full, wornOut, empty, gave, Call, puts, takes}
 
 -- a number of 64 bits
 abbrev pub at8 : List ℕ → ℕ → ℕ
-at8 s i = at4 s i + at4 s (i + 4) * 4294967296
+at8 = atW 8
 
 -- how many operations there are, items in the queue at the start, items in the recovered queue
 abbrev pub countIn : List ℕ → ℕ

@@ -1,13 +1,14 @@
 // A history's bytes: its numbers, and the parts of an operation.
 ghost use mathlib.Core.Path.{_≡_};
 ghost use Prim.Native.Nat.{_+_, _*_, _≤_, _<_};
+ghost use mathlib.Core.List.{[], _∷_};
 ghost use lib.ListN.{length};
-ghost use Rattle.image.specs.Bytes.{num4, at4};
+ghost use Rattle.image.specs.Bytes.{numOf, at4};
 ghost use Rattle.judging.specs.History.{at8, countIn, operationPlace, kindAt, beganAt, endedAt, answerAt, itemAt};
 ghost use Rattle.judging.specs.Place.{Whole};
 
 fn num(a: u8, b: u8, c: u8, d: u8) -> u32
-    ensures { λ r. ⌜ r ≡ num4 a b c d ⌝ }
+    ensures { λ r. ⌜ r ≡ numOf (a ∷ b ∷ c ∷ d ∷ []) ⌝ }
 {
     (a as u32) + (b as u32) * 256 + (c as u32) * 65536 + (d as u32) * 16777216
 }

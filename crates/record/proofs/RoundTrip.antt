@@ -1,16 +1,17 @@
 -- A record written as bytes and read again is the record. Assumes nothing.
-use Prim.Native.Nat.{ℕ, _+_, _*_, _/_, _%_, _^_, _<_}
+use Prim.Native.Nat.{ℕ, _+_, _*_, _^_, _≤_, _<_}
 use mathlib.Core.Path.{_≡_, refl, sym, ap, _∙_}
 use mathlib.Core.List.{List, _++_}
 use native.Mathlib.Omega.{arith}
-use native.Mathlib.Nat.{div-div-eq-div-mul, div-add-mod', add-assoc, add-zero}
+use native.Mathlib.Nat.{add-assoc, add-zero}
 use borrow.Author.Tests.{eq-eqb}
 use lib.ListN.{length, getD, set, length-append, List·getD-append}
 use lib.Seq.{ext-getD, getD-append-add}
 use Rattle.lists.specs.Tab.{joined, front}
 use Rattle.lists.proofs.TabLaws as tabs
 use Rattle.answer.specs.declared.Answer.the-variants.{Taken}
-use Rattle.image.specs.Bytes.{num4, at1, at4}
+use Rattle.image.specs.Bytes.{atW, at1, at4}
+use Rattle.image.proofs.ByteLaws as num
 use Rattle.image.specs.Layout.{noContent, noContents, noHeads}
 use Rattle.machine.specs.Record.{node, kept, headAt, keptHead, thread, zeroNode, zeroThread, blankNodes, idleThreads}
 use Rattle.machine.specs.Retire.{out}
@@ -35,49 +36,16 @@ pub record Whole (m : Machine) : Type 0 where
   pub thread-item : (k : ℕ) → thread m k .item < 2 ^ 32
   pub thread-index : (k : ℕ) → thread m k .index < 2 ^ 32
 
--- ---- numbers
-
-sum4 : (x y z w v r s t u : ℕ) → y * 256 + r ≡ x → z * 256 + s ≡ y → w * 256 + t ≡ z → v * 256 + u ≡ w
-    → r + s * 256 + t * 65536 + u * 16777216 + v * 4294967296 ≡ x
-sum4 x y z w v r s t u p q e f = omega arith
-
--- four bytes, and what is left above them
-low4 : (x : ℕ) → num4 (x % 256) (x / 256 % 256) (x / 65536 % 256) (x / 16777216 % 256) + x / 4294967296 * 4294967296 ≡ x
-low4 x =
-    let e : x / 65536 ≡ x / 256 / 256 = sym (div-div-eq-div-mul x 256 256) in
-    let f : x / 16777216 ≡ x / 256 / 256 / 256 = sym (div-div-eq-div-mul (x / 256) 256 256 ∙ div-div-eq-div-mul x 256 65536) in
-    let g : x / 4294967296 ≡ x / 256 / 256 / 256 / 256 = sym (ap (λ (y : ℕ). y / 256) (sym f) ∙ div-div-eq-div-mul x 16777216 256) in
-    rw (e, f, g)
-    (sum4 x (x / 256) (x / 256 / 256) (x / 256 / 256 / 256) (x / 256 / 256 / 256 / 256) (x % 256) (x / 256 % 256) (x / 256 / 256 % 256) (x / 256 / 256 / 256 % 256)
-    (div-add-mod' x 256) (div-add-mod' (x / 256) 256) (div-add-mod' (x / 256 / 256) 256) (div-add-mod' (x / 256 / 256 / 256) 256))
-
-word-back : (x : ℕ) → x < 2 ^ 32 → num4 (x % 256) (x / 256 % 256) (x / 65536 % 256) (x / 16777216 % 256) ≡ x
-word-back x h = let z : x / 4294967296 ≡ 0 = omega arith in omega (arith, low4 x)
-
-long-back : (x : ℕ) → x < 2 ^ 64
-    → num4 (x % 256) (x / 256 % 256) (x / 65536 % 256) (x / 16777216 % 256)
-    + num4 (x / 4294967296 % 256) (x / 1099511627776 % 256) (x / 281474976710656 % 256) (x / 72057594037927936 % 256) * 4294967296
-    ≡ x
-long-back x h =
-    let y = x / 4294967296 in
-    let e : x / 1099511627776 ≡ y / 256 = sym (div-div-eq-div-mul x 4294967296 256) in
-    let f : x / 281474976710656 ≡ y / 65536 = sym (div-div-eq-div-mul x 4294967296 65536) in
-    let g : x / 72057594037927936 ≡ y / 16777216 = sym (div-div-eq-div-mul x 4294967296 16777216) in
-    rw (e, f, g, word-back y (omega arith)) (low4 x)
-
 -- ---- a part of the bytes: s has at place p the c bytes of q
 
-module _ (s q : List ℕ) (p c : ℕ) (same : (j : ℕ) → j < c → getD s (p + j) 0 ≡ getD q j 0) where
+module _ (s q : List ℕ) (p c : ℕ) (same : (j : ℕ) → j < c → getD s (p + j) 0 ≡ getD q j 0) (long : p + c ≤ length s) (whole : length q ≡ c) where
   at-first : 0 < c → at1 s p ≡ at1 q 0
   at-first h = ap (at1 s) (sym (add-zero p)) ∙ same 0 h
 
-  at-more : (j k : ℕ) → j + k < c → at1 s (p + j + k) ≡ at1 q (j + k)
-  at-more j k h = ap (at1 s) (add-assoc p j k) ∙ same (j + k) h
+  word-at : (j : ℕ) → j + 4 ≤ c → at4 s (p + j) ≡ at4 q j
+  word-at j h = num.at-same 4 s q p j c same h (omega arith) (omega arith)
 
-  word-at : (j : ℕ) → j + 3 < c → at4 s (p + j) ≡ at4 q j
-  word-at j h = rw (same j (omega arith), at-more j 1 (omega arith), at-more j 2 (omega arith), at-more j 3 h)
-
-  word-first : 3 < c → at4 s p ≡ at4 q 0
+  word-first : 4 ≤ c → at4 s p ≡ at4 q 0
   word-first h = ap (at4 s) (sym (add-zero p)) ∙ word-at 0 h
 
 -- ---- a table filled whole
@@ -115,39 +83,50 @@ module _ (m : Machine) where
       ∙ getD-append-add (joined (nodePart m) 64) (joined (threadPart m) 8) (i * 14 + j) 0
       ∙ tabs.getD-joined (threadPart m) 14 8 i j 0 (laws.thread-length m) p q
 
+  pub record-length : length (recordBytes m) ≡ 1412
+  unfolding recordBytes
+  record-length =
+      length-append (headBytes m) (joined (nodePart m) 64 ++ joined (threadPart m) 8)
+      ∙ omega (
+        arith,
+        length-append (joined (nodePart m) 64) (joined (threadPart m) 8),
+        tabs.length-joined (nodePart m) 20 64 (laws.node-length m),
+        tabs.length-joined (threadPart m) 14 8 (laws.thread-length m),
+      )
+
   module _ (w : Whole m) where
     node-back : (i : ℕ) → i < 64 → nodeIn (recordBytes m) i ≡ node m i
-    unfolding nodeIn nodePart
+    unfolding nodeIn nodePart atW
     node-back i p =
         let s = recordBytes m in
         let q = nodePart m i in
         let at = 20 + i * 20 in
         let same : (j : ℕ) → j < 20 → getD s (at + j) 0 ≡ getD q j 0 = λ j h. node-byte i j p h in
-        let a : at4 s at ≡ node m i .item = word-first s q at 20 same (omega arith) ∙ word-back (node m i .item) (w .node-item i) in
-        let b : at4 s (at + 6) ≡ node m i .index = word-at s q at 20 same 6 (omega arith) ∙ word-back (node m i .index) (w .node-index i) in
+        let a : at4 s at ≡ node m i .item = word-first s q at 20 same (omega (arith, record-length)) (laws.node-length m i) (omega arith) ∙ num.num-le 4 (node m i .item) (w .node-item i) in
+        let b : at4 s (at + 6) ≡ node m i .index = word-at s q at 20 same (omega (arith, record-length)) (laws.node-length m i) 6 (omega arith) ∙ num.num-le 4 (node m i .index) (w .node-index i) in
         λ k. record { item = a k; next = same 4 (omega arith) k; linked = same 5 (omega arith) k; index = b k; waits = same 10 (omega arith) k }
 
     kept-back : (i : ℕ) → i < 64 → keptIn (recordBytes m) i ≡ kept m i
-    unfolding keptIn nodePart
+    unfolding keptIn nodePart atW
     kept-back i p =
         let s = recordBytes m in
         let q = nodePart m i in
         let at = 20 + i * 20 in
         let same : (j : ℕ) → j < 20 → getD s (at + j) 0 ≡ getD q j 0 = λ j h. node-byte i j p h in
-        let a : at4 s (at + 12) ≡ kept m i .index = word-at s q at 20 same 12 (omega arith) ∙ word-back (kept m i .index) (w .kept-index i) in
-        let b : at4 s (at + 16) ≡ kept m i .item = word-at s q at 20 same 16 (omega arith) ∙ word-back (kept m i .item) (w .kept-item i) in
+        let a : at4 s (at + 12) ≡ kept m i .index = word-at s q at 20 same (omega (arith, record-length)) (laws.node-length m i) 12 (omega arith) ∙ num.num-le 4 (kept m i .index) (w .kept-index i) in
+        let b : at4 s (at + 16) ≡ kept m i .item = word-at s q at 20 same (omega (arith, record-length)) (laws.node-length m i) 16 (omega arith) ∙ num.num-le 4 (kept m i .item) (w .kept-item i) in
         λ k. record { linked = same 11 (omega arith) k; index = a k; item = b k }
 
     thread-back : (i : ℕ) → i < 8 → threadIn (recordBytes m) i ≡ thread m i
-    unfolding threadIn threadPart
+    unfolding threadIn threadPart atW
     thread-back i p =
         let s = recordBytes m in
         let q = threadPart m i in
         let at = 1300 + i * 14 in
         let same : (j : ℕ) → j < 14 → getD s (at + j) 0 ≡ getD q j 0 = λ j h. thread-byte i j p h in
-        let a : at4 s (at + 4) ≡ thread m i .index = word-at s q at 14 same 4 (omega arith) ∙ word-back (thread m i .index) (w .thread-index i) in
-        let b : at4 s (at + 9) ≡ thread m i .item = word-at s q at 14 same 9 (omega arith) ∙ word-back (thread m i .item) (w .thread-item i) in
-        let c : at1 s at ≡ thread m i .step = at-first s q at 14 same (omega arith) in
+        let a : at4 s (at + 4) ≡ thread m i .index = word-at s q at 14 same (omega (arith, record-length)) (laws.thread-length m i) 4 (omega arith) ∙ num.num-le 4 (thread m i .index) (w .thread-index i) in
+        let b : at4 s (at + 9) ≡ thread m i .item = word-at s q at 14 same (omega (arith, record-length)) (laws.thread-length m i) 9 (omega arith) ∙ num.num-le 4 (thread m i .item) (w .thread-item i) in
+        let c : at1 s at ≡ thread m i .step = at-first s q at 14 same (omega (arith, record-length)) (laws.thread-length m i) (omega arith) in
         λ k. record {
           step = c k;
           node = same 1 (omega arith) k;
@@ -172,16 +151,16 @@ module _ (m : Machine) where
     threads-back = filled zeroThread (threadIn (recordBytes m)) 8 idleThreads (m .threads) refl (w .threads) thread-back
 
     index-back : at4 (recordBytes m) 3 ≡ headAt m 0
-    unfolding recordBytes
-    index-back = word-back (headAt m 0) (w .index)
+    unfolding recordBytes atW
+    index-back = num.num-le 4 (headAt m 0) (w .index)
 
     free-back : at8 (recordBytes m) 8 ≡ m .free
-    unfolding recordBytes
-    free-back = long-back (m .free) (w .free)
+    unfolding recordBytes atW
+    free-back = num.num-le 8 (m .free) (w .free)
 
     head-back : at4 (recordBytes m) 16 ≡ keptHead m 0
-    unfolding recordBytes
-    head-back = word-back (keptHead m 0) (w .head)
+    unfolding recordBytes atW
+    head-back = num.num-le 4 (keptHead m 0) (w .head)
 
     record-back : recordIn (recordBytes m) ≡ m
     unfolding recordIn recordBytes
@@ -197,17 +176,6 @@ module _ (m : Machine) where
       kept = copies-back k;
       threads = threads-back k;
     }
-
-  pub record-length : length (recordBytes m) ≡ 1412
-  unfolding recordBytes
-  record-length =
-      length-append (headBytes m) (joined (nodePart m) 64 ++ joined (threadPart m) 8)
-      ∙ omega (
-        arith,
-        length-append (joined (nodePart m) 64) (joined (threadPart m) 8),
-        tabs.length-joined (nodePart m) 20 64 (laws.node-length m),
-        tabs.length-joined (threadPart m) 14 8 (laws.thread-length m),
-      )
 
   -- what is written and read again
   pub back-again : Whole m → readRecord (recordBytes m) ≡ out Taken m

@@ -1,6 +1,6 @@
 -- A machine record as 1,412 bytes, little-endian, every field of it: 20 for what stands alone, Head's index among it and its persisted
 -- copy, 20 for each of the 64 nodes with its persisted copy, 14 for each of the 8 threads.
-use Prim.Native.Nat.{ℕ, _+_, _*_, _/_, _%_}
+use Prim.Native.Nat.{ℕ, _+_, _*_}
 use mathlib.Core.Bool.{Bool, true, false, not}
 use mathlib.Core.List.{List, [], _∷_, _++_}
 use lib.ListN.{length, set}
@@ -10,7 +10,7 @@ use Rattle.lists.specs.Tab.{joined, front, over}
 use Rattle.answer.specs.Answers.{check}
 use Rattle.answer.specs.declared.Answer.{Answer}
 use Rattle.answer.specs.declared.Answer.the-variants.{Taken, Length, Room}
-use Rattle.image.specs.Bytes.{at1, at4, le4}
+use Rattle.image.specs.Bytes.{le, atW, at1, at4, le4}
 use Rattle.image.specs.Layout.{noContents, noHeads}
 use Rattle.image.specs.declared.Content.{Content}
 use Rattle.machine.specs.Record.{node, kept, headAt, keptHead, thread, blankNodes, idleThreads}
@@ -23,12 +23,10 @@ use Rattle.machine.specs.declared.Out.{Out}
 -- ---- numbers of 64 bits
 
 abbrev pub le8 : ℕ → List ℕ
-le8 x =
-    x % 256 ∷ x / 256 % 256 ∷ x / 65536 % 256 ∷ x / 16777216 % 256 ∷ x / 4294967296 % 256 ∷ x / 1099511627776 % 256
-    ∷ x / 281474976710656 % 256 ∷ x / 72057594037927936 % 256 ∷ []
+le8 = le 8
 
 abbrev pub at8 : List ℕ → ℕ → ℕ
-at8 s i = at4 s i + at4 s (i + 4) * 4294967296
+at8 = atW 8
 
 -- ---- to bytes
 

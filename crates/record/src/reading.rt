@@ -1,9 +1,10 @@
 // A record read from bytes that are long enough.
 ghost use mathlib.Core.Path.{_≡_};
 ghost use Prim.Native.Nat.{_+_, _*_, _≤_};
+ghost use mathlib.Core.List.{[], _∷_};
 ghost use lib.ListN.{length};
 ghost use Rattle.lists.specs.Tab.{front};
-ghost use Rattle.image.specs.Bytes.{num4, at4};
+ghost use Rattle.image.specs.Bytes.{numOf, at4};
 ghost use Rattle.image.specs.Layout.{noContents};
 ghost use Rattle.machine.specs.Record.{blankNodes, idleThreads};
 ghost use Rattle.record.specs.Layout.{at8, readNode, readKept, readThread, nodeIn, keptIn, threadIn, recordIn};
@@ -17,7 +18,7 @@ use machine::blank::blank_nodes;
 use machine::blank::idle_threads;
 
 fn num(a: u8, b: u8, c: u8, d: u8) -> u32
-    ensures { λ r. ⌜ r ≡ num4 a b c d ⌝ }
+    ensures { λ r. ⌜ r ≡ numOf (a ∷ b ∷ c ∷ d ∷ []) ⌝ }
 {
     (a as u32) + (b as u32) * 256 + (c as u32) * 65536 + (d as u32) * 16777216
 }

@@ -12,9 +12,10 @@ use Rattle.lists.proofs.TabLaws.{front-at}
 use Rattle.answer.specs.Answers.{check, accepted}
 use Rattle.answer.specs.declared.Answer.{Answer}
 use Rattle.answer.specs.declared.Answer.the-variants.{Taken, Length, Mark, Nodes, Threads, Events}
-use Rattle.image.specs.Bytes.{at1, at4, num4}
+use Rattle.image.specs.Bytes.{at1, at4}
 use Rattle.image.specs.Layout.{contentAt, noContent, noContents, isImage, nodePlace, readContent, readNodes, imageIn, readHeads}
 use Rattle.image.proofs.HeadLaws.{one-head, heads-at}
+use Rattle.image.proofs.ByteLaws.{at-small}
 use Rattle.image.specs.Refusals.{nodesFit, sound, imageAnswer}
 use Rattle.machine.specs.Record.{top}
 use Rattle.machine.specs.Start.{threadsFit, startAnswer}
@@ -34,7 +35,7 @@ check-no : (b : Bool) (w rest : Answer) → b ≡ false → accepted rest ≡ tr
 check-no b w rest e a = rw e a
 
 narrow4 : (s : List ℕ) → Bytes s → (i : ℕ) → at4 s i ≤ top
-narrow4 s b i = omega (arith, b i, b (i + 1), b (i + 2), b (i + 3))
+narrow4 s b i = omega (arith, at-small 4 s i b)
 
 pub narrow-image : (s : List ℕ) → Bytes s → Narrow (imageIn s)
 unfolding imageIn readHeads readNodes
