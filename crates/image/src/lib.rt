@@ -5,19 +5,18 @@ pub mod blank;
 pub mod heads;
 pub mod recovered;
 pub mod same;
+pub mod sound;
 
 pub use blank::blank_image;
 pub use blank::no_contents;
 pub use blank::no_heads;
 pub use heads::largest_of;
 pub use recovered::dummy_of;
-pub use recovered::first_twin;
-pub use recovered::first_unclear;
 pub use recovered::is_recovered;
 pub use recovered::recovered_in;
-pub use recovered::sound_of;
 pub use recovered::startable_of;
 pub use same::is_same;
+pub use sound::sound_of;
 
 // The content of a node's line.
 pub struct Content {

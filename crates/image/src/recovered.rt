@@ -1,4 +1,4 @@
-// The tests on an image by value: unclear linked bytes (6), twins (7), the dummy (8).
+// Which nodes of an image by value are recovered; twins (7) and the dummy (8).
 use super::Content;
 use super::Image;
 use super::heads::largest_of;
@@ -8,8 +8,8 @@ ghost use Prim.Native.Nat.{_≤_};
 ghost use lib.Dec.{eqb};
 ghost use Rattle.lists.specs.Find.{both};
 ghost use Rattle.answer.specs.declared.Answer.the-variants.{Taken};
-ghost use Rattle.image.specs.Recovered.{largest, recovered, firstUnclear, firstTwin, dummyOf};
-ghost use Rattle.image.specs.Refusals.{startable, sound};
+ghost use Rattle.image.specs.Recovered.{largest, recovered, dummyOf};
+ghost use Rattle.image.specs.Refusals.{startable};
 
 // A node is recovered when its linked flag is 1 and its index is above the head index.
 pub fn is_recovered(c: Content, h: u32) -> bool
@@ -30,7 +30,7 @@ pub fn recovered_in(c: Content, heads: [u32; 8]) -> bool
 }
 
 // Both are recovered, with one index.
-fn are_twins(a: Content, b: Content, h: u32) -> bool
+pub fn are_twins(a: Content, b: Content, h: u32) -> bool
     ensures { λ r. ⌜ r ≡ both (recovered h a) (both (recovered h b) (eqb (a .index) (b .index))) ⌝ }
 {
     if is_recovered(a, h) {
@@ -40,47 +40,6 @@ fn are_twins(a: Content, b: Content, h: u32) -> bool
         return false;
     }
     false
-}
-
-// The first node whose linked byte is above 1, and N where none is.
-pub fn first_unclear(g: Image) -> usize
-    requires { ⌜ g .n ≤ 64 ⌝ }
-    ensures { λ r. ⌜ r ≡ firstUnclear g ⌝ }
-{
-    let n = g.n as usize;
-    let mut i = 0;
-    while i < n {
-        let v = g.nodes[i];
-        if v.linked > 1 {
-            return i;
-        }
-        i += 1;
-    }
-    i
-}
-
-// The smallest node number that has a lower-numbered twin, and N where none has.
-pub fn first_twin(g: Image) -> usize
-    requires { ⌜ g .n ≤ 64 ⌝ }
-    ensures { λ r. ⌜ r ≡ firstTwin g ⌝ }
-{
-    let n = g.n as usize;
-    let heads = g.heads;
-    let h = largest_of(heads, 1);
-    let mut i = 0;
-    'pairs: while i < n {
-        let mut j = 0;
-        while j < i {
-            let a = g.nodes[i];
-            let b = g.nodes[j];
-            if are_twins(a, b, h) {
-                break 'pairs;
-            }
-            j += 1;
-        }
-        i += 1;
-    }
-    i
 }
 
 // The lowest-numbered node that is not recovered, and N where every node is.
@@ -102,31 +61,37 @@ pub fn dummy_of(g: Image) -> usize
     i
 }
 
-// 7, then 8: what a start asks of an image.
+// 7, then 8: what a start asks of an image. The image is read where the call has it: what is passed by value is copied, so no call inside is handed it.
 pub fn startable_of(g: Image) -> Answer
     requires { ⌜ g .n ≤ 64 ⌝ }
     ensures { λ r. ⌜ r ≡ startable g Taken ⌝ }
 {
     let n = g.n as usize;
-    let i = first_twin(g);
+    let heads = g.heads;
+    let h = largest_of(heads, 1);
+    let mut i = 0;
+    'pairs: while i < n {
+        let mut j = 0;
+        while j < i {
+            let a = g.nodes[i];
+            let b = g.nodes[j];
+            if are_twins(a, b, h) {
+                break 'pairs;
+            }
+            j += 1;
+        }
+        i += 1;
+    }
     if i < n {
         return Answer::Twin(i as u32);
     }
-    if dummy_of(g) == n {
-        return Answer::NoDummy;
+    let mut k = 0;
+    while k < n {
+        let v = g.nodes[k];
+        if !is_recovered(v, h) {
+            return Answer::Taken;
+        }
+        k += 1;
     }
-    Answer::Taken
-}
-
-// 6, 7, 8.
-pub fn sound_of(g: Image) -> Answer
-    requires { ⌜ g .n ≤ 64 ⌝ }
-    ensures { λ r. ⌜ r ≡ sound g Taken ⌝ }
-{
-    let n = g.n as usize;
-    let i = first_unclear(g);
-    if i < n {
-        return Answer::Linked(i as u32);
-    }
-    startable_of(g)
+    Answer::NoDummy
 }

@@ -4,7 +4,8 @@ use borrow.Author.Tests.{lt-ltb, le-ltb, eq-eqb, ne-eqb}
 use borrow.Author.Needs.{needs}
 use Rattle.image.specs.Layout.{imageIn}
 use Rattle.image.specs.Recovered.{firstTwin, dummyOf}
-use Rattle.codec.proofs.Lying.{nodes-in, sound-by}
+use Rattle.image.proofs.RecoveredLaws.{sound-by}
+use Rattle.codec.proofs.Lying.{nodes-in}
 use Rattle.codec.proofs.sound.sound_at.Statement.{statement}
 use Rattle.codec.proofs.sound.sound_at.Tie as tie
 
