@@ -5,23 +5,21 @@ ghost use Rattle.page.specs.Refusals.{endingWritten};
 ghost use Rattle.library.specs.Calls.{imageChecked, scheduleChecked, endingsCounted, endingGiven};
 use crate::packing::packed_of;
 
-// Whether the bytes are an image.
+// Whether the bytes are an image. None is built.
 #[no_mangle]
 pub extern "C" fn uq_check_image(image: &[u8]) -> u64
     ensures { λ r. ⌜ r ≡ imageChecked (now (image .entry)) ⌝ }
 {
-    let read = codec::read_image(image);
-    let a = read.answer;
+    let a = codec::check_part(image, 0);
     packed_of(a, 0)
 }
 
-// Whether the bytes are a schedule, up to its events.
+// Whether the bytes are a schedule, up to its events. None is built.
 #[no_mangle]
 pub extern "C" fn uq_check_schedule(schedule: &[u8]) -> u64
     ensures { λ r. ⌜ r ≡ scheduleChecked (now (schedule .entry)) ⌝ }
 {
-    let opened = codec::read_schedule(schedule);
-    let b = opened.answer;
+    let b = codec::check_schedule(schedule);
     packed_of(b, 0)
 }
 
