@@ -1,6 +1,7 @@
 // The verdict on one history: its bytes on standard input; on standard output the verdict with its tries and the order that shows it, or the refusal's line.
 use judging::Judgement;
 use judging::Verdict;
+use libc::STDERR_FILENO;
 use libc::STDIN_FILENO;
 use libc::STDOUT_FILENO;
 
@@ -45,6 +46,13 @@ fn main() {
     // The longest history has 859 bytes: what is longer than this is refused as its first part is.
     let mut h = [0u8; 1024];
     let got = io::read_full(STDIN_FILENO, &mut h);
+    if got < 1024 && !stream::at_end() {
+        io::write_all(
+            STDERR_FILENO,
+            b"judge: standard input could not be read to its end, no verdict is printed\n",
+        );
+        return;
+    }
     let r = judging::judge_history(&h[..got]);
     let a = r.answer;
     if !answer::is_taken(a) {

@@ -6,3 +6,4 @@ pub mod Renamed
 pub mod InTime
 pub mod Written
 pub mod Never
+pub mod Long

@@ -5,6 +5,7 @@ use mathlib.Core.Bool.{true}
 use mathlib.Core.List.{List, map}
 use lib.ListN.{length}
 use Rattle.answer.specs.Answers.{accepted}
+use Rattle.answer.specs.declared.Answer.the-variants.{Taken}
 use Rattle.lawful.specs.Operation.{Operation}
 use Rattle.lawful.specs.Lawful.{Lawful}
 use Rattle.judging.specs.History.{historyAnswer, firstIn, lastIn, operationsIn}
@@ -26,7 +27,7 @@ module _ (ops : List Operation) (first last : List ℕ) (w : Lawful ops first la
       (subst (λ (q : List ℕ). Lawful (map (renamed low) ops) q (lastIn h)) (sym (first-back ops first last))
       (subst (Lawful (map (renamed low) ops) (map low first)) (sym (last-back ops first last)) (lawful-renamed low ops first last w)))
 
-  pub written-taken : length ops ≤ 16 → length first ≤ 63 → length last ≤ 63 → accepted (historyAnswer h) ≡ true
+  pub written-taken : length ops ≤ 16 → length first ≤ 63 → length last ≤ 63 → historyAnswer h ≡ Taken
   written-taken = taken-back ops first last o
 
   pub never-unlawful : accepted (historyAnswer h) ≡ true → judgedIn h .verdict ≡ unlawful → ⊥

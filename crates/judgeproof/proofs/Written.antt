@@ -14,7 +14,7 @@ use Rattle.lists.specs.Tab.{tab}
 use Rattle.lists.proofs.BoolLaws.{both-of, false-true}
 use Rattle.lists.proofs.FindLaws.{least-none}
 use Rattle.lists.proofs.TabLaws.{length-joined, getD-joined, getD-tab, tab-same, map-tab, take-drop-tab}
-use Rattle.answer.specs.Answers.{accepted, check}
+use Rattle.answer.specs.Answers.{check}
 use Rattle.answer.specs.declared.Answer.the-variants.{Taken, Length}
 use Rattle.image.specs.Bytes.{le, le4, numOf, atW, at1, at4}
 use Rattle.image.proofs.ByteLaws.{num-le, at-same}
@@ -223,9 +223,9 @@ module _ (ops : List Operation) (first last : List ℕ) where
       ∙ zero-add (length ops)
 
   -- at most 16 operations, at most 63 items in each queue: it is taken
-  pub taken-back : Ordinary → length ops ≤ 16 → length first ≤ 63 → length last ≤ 63 → accepted (historyAnswer h) ≡ true
+  pub taken-back : Ordinary → length ops ≤ 16 → length first ≤ 63 → length last ≤ 63 → historyAnswer h ≡ Taken
   unfolding historyAnswer historyBytes
   taken-back w n a b =
-      ap₂ (λ (x y : Bool). accepted (check (not x) Length (check y (faultAt h (firstOdd h)) Taken)))
+      ap₂ (λ (x y : Bool). check (not x) Length (check y (faultAt h (firstOdd h)) Taken))
       (sized-back n a b)
       (le-ltb (firstOdd h) (length ops) (omega (arith, none-odd w)))
