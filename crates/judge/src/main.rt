@@ -5,6 +5,16 @@ use libc::STDERR_FILENO;
 use libc::STDIN_FILENO;
 use libc::STDOUT_FILENO;
 
+// The line's end; that standard output did not take it is told.
+fn end_line() {
+    if !io::write_all(STDOUT_FILENO, b"\n") {
+        io::write_all(
+            STDERR_FILENO,
+            b"judge: standard output took no more, the line is not whole\n",
+        );
+    }
+}
+
 fn print_tries(tries: u32) {
     io::print_decimal(STDOUT_FILENO, tries as u64);
     io::write_all(STDOUT_FILENO, b" tries");
@@ -39,7 +49,7 @@ fn print_judged(r: Judgement) {
             print_tries(r.tries);
         }
     }
-    io::write_all(STDOUT_FILENO, b"\n");
+    end_line();
 }
 
 fn main() {
@@ -61,7 +71,7 @@ fn main() {
         io::print_decimal(STDOUT_FILENO, t.number as u64);
         io::write_all(STDOUT_FILENO, b" at ");
         io::print_decimal(STDOUT_FILENO, t.place as u64);
-        io::write_all(STDOUT_FILENO, b"\n");
+        end_line();
         return;
     }
     print_judged(r);
