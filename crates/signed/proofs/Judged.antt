@@ -33,7 +33,8 @@ use Rattle.judgeproof.proofs.InTime.{InTime, AllInTime, run-in-time, in-time-at
 use Rattle.judgeproof.proofs.Written.{Ordinary}
 use Rattle.judgeproof.proofs.Never.{written-taken, never-unlawful}
 use Rattle.library.specs.Packed.{packed}
-use Rattle.library.specs.Judging.{judgeAnswered, judgeGiven}
+use Rattle.library.specs.Judging.{judgeValue, judgeAnswered, judgeGiven}
+use Rattle.library.proofs.Apart.{number-back}
 use Rattle.library.proofs.Laws.{judge-taken}
 use Rattle.library.proofs.Whole.{given-verdict}
 use Rattle.tied.proofs.Schedules.{schedule-starts, schedule-narrow}
@@ -104,7 +105,8 @@ module _ (s : List ℕ) (bytes : Bytes s) (a : accepted (pageAnswer s) ≡ true)
 
         there : (b z : List ℕ) (q : ℕ) → 16 ≤ length b → JudgesC h b q z → (q % 256 ≡ 0) × (q / 256 / 16777216 % 256 ≢ 0)
         there b z q l (κs, x, y, y′, e, f, g, c) = (
-          is ∙ ap (λ (t : Answer). packed (told t) _ % 256) ok ∙ omega arith,
+          ap (λ (v : ℕ). v % 256) is ∙ ap (λ (t : Answer). packed (told t) (judgeValue (judgedIn h)) % 256) ok
+              ∙ number-back (told Taken) (judgeValue (judgedIn h)) (omega arith),
           λ u. not-zero (sym (given-verdict h (length b) (ap accepted ok)) ∙ ap (λ (v : ℕ). v / 256 / 16777216 % 256) (sym is) ∙ u),
         )
           where
