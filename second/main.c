@@ -316,7 +316,8 @@ static const struct {
     {"images", mode_images}, {"images-again", mode_images_again}, {"schedules", mode_schedules},
     {"contents", mode_contents}, {"contents-many", mode_contents_many}, {"generate", mode_generate},
     {"counts", mode_counts}, {"plain", mode_plain}, {"judge", mode_judge}, {"places", mode_places},
-    {"judged", mode_judged}, {"drawn", mode_drawn}, {"histories", mode_histories}, {"wrong", mode_wrong}, {"search", mode_search}, {"frame", mode_frame}, {"frames", mode_frames},
+    {"judged", mode_judged}, {"drawn", mode_drawn}, {"histories", mode_histories},
+    {"wrong", mode_wrong}, {"search", mode_search}, {"frame", mode_frame}, {"frames", mode_frames},
     {"cuts", mode_cuts}, {"values", mode_values}, {"sequence", mode_sequence}, {"sequences", mode_sequences},
 };
 
