@@ -1,7 +1,7 @@
 /* The library's calls beside the second program's functions. */
 #include "fuzz.h"
 
-u64 numbers_seen[NUMBERS];
+u64 numbers_seen[NUMBERS], history_numbers_seen[NUMBERS], verdicts_seen[VERDICTS];
 
 enum { ROOM = 2048 };
 
@@ -190,4 +190,20 @@ int agree_on_record(u64 seed, u64 number)
     u64 value = v.number == TAKEN ? reply.value + 4294967296u * (u64)reply.number : 0;
     return same_number("uq_event", uq_event(item, length, (uint8_t)event.kind, (uint8_t)event.number, event.item), packed(v, value))
         && same_bytes("uq_event, the record", item, theirs, RECORD_BYTES);
+}
+
+/* The verdict on a history, with a buffer about as long as the order may be. */
+int agree_on_history(u64 seed, u64 number)
+{
+    static u8 bytes[LONGEST + 16];
+    u8 ours[40], theirs[40];
+    u64 length = some_history(seed, number, bytes), value;
+    u64 room = chance(80) || length == 0 ? 16 + below(25) : chance(50) ? bytes[0] % 32 : below(17);
+    fill_both(ours, theirs, 40);
+    Verdict v = judge_into(bytes, length, theirs, room, &value);
+    history_numbers_seen[v.number]++;
+    if (v.number == TAKEN)
+        verdicts_seen[value >> 24 & 255]++;
+    return same_number("uq_judge", uq_judge(bytes, length, ours, room), packed(v, value))
+        && same_bytes("uq_judge, the order", ours, theirs, 40);
 }

@@ -8,6 +8,7 @@ enum { LONGEST = 70000 };
 
 /* inputs.c: input `number` of a run; gives its length, at most LONGEST. The random numbers go on from there. */
 u64 some_input(u64 seed, u64 number, u8 *bytes);
+u64 some_history(u64 seed, u64 number, u8 *bytes);
 void spoil(u8 *bytes, u64 *length, u64 room);
 
 /* calls.c: each answers 1 where the library and the second program agree, and 0 and says what differs where they do not. */
@@ -16,6 +17,11 @@ int agree_on_ending(const u8 *bytes, u64 length);
 int agree_on_lines(const u8 *bytes, u64 length);
 int agree_on_record(u64 seed, u64 number);
 int agree_on_start(const u8 *bytes, u64 length);
+int agree_on_history(u64 seed, u64 number);
 extern u64 numbers_seen[NUMBERS];
+
+/* of the histories alone: how often each number was given back, and each verdict (0 unlawful, 1 lawful, 2 undecided) */
+enum { VERDICTS = 3 };
+extern u64 history_numbers_seen[NUMBERS], verdicts_seen[VERDICTS];
 
 #endif

@@ -73,6 +73,25 @@ void spoil(u8 *bytes, u64 *length, u64 room)
     }
 }
 
+/* A history of request 110: generated, generated and spoilt, raw behind three right counts, or raw. */
+u64 some_history(u64 seed, u64 number, u8 *bytes)
+{
+    u64 length = generate_history(seed, number, bytes);
+    u32 kind = below(10);
+    if (kind < 5)
+        return length;
+    if (kind < 8)
+        return spoil(bytes, &length, LONGEST), length;
+    length = raw(bytes, below(kind == 8 ? 900 : 20));
+    if (kind == 8 && length >= 3) {
+        bytes[0] = (u8)below(17);
+        bytes[1] = (u8)below(64);
+        bytes[2] = (u8)below(64);
+        length = raw(bytes + 3, 4 * ((u64)bytes[1] + bytes[2]) + 22 * (u64)bytes[0]) + 3;
+    }
+    return length;
+}
+
 u64 some_input(u64 seed, u64 number, u8 *bytes)
 {
     static const char *const shapes[] = {"tiny", "small", "deep", "bursts", "worn", "valid", "refused", "wild"};

@@ -178,6 +178,22 @@ int mode_judged(int count, char **words)
     return 0;
 }
 
+/* The verdict as uq_judge gives it: tries + 2^24 * verdict + 2^32 * length of the order, which goes into a buffer of `room` bytes; 17 last. */
+Verdict judge_into(const u8 *bytes, u64 length, u8 *to, u64 room, u64 *value)
+{
+    Verdict v = read_history(bytes, length);
+    *value = 0;
+    if (v.number == TAKEN && room < act_count)
+        v = verdict(BUFFER_TOO_SHORT, 0);
+    if (v.number != TAKEN)
+        return v;
+    u32 said = judge_history(TRIES), numbers = said == LAWFUL ? order_count : 0;
+    for (u32 i = 0; i < numbers; i++)
+        to[i] = (u8)order[i];
+    *value = tries + ((u64)said << 24) + ((u64)numbers << 32);
+    return v;
+}
+
 /* ---- another way: every set of operations with every queue that some order of them leaves */
 
 static struct {
@@ -318,6 +334,31 @@ static u64 hard_history(u8 *to)
         to[at] = chance(80) ? 1 : 2;
         put8(to + at + 1, below(4));
         put4(to + at + 18, below(3));
+    }
+    return at;
+}
+
+/* A search that ends undecided, for bench/judge: by turns short queues, two queues of 63 equal items that differ in the last, and operations answered late. */
+u64 generate_search(u64 seed, u64 number, u8 *to)
+{
+    Line from = {0, {0}}, into = {1, {77}};
+    seed_random(seed, number);
+    if (number % 3 == 0)
+        return hard_history(to);
+    if (number % 3 == 1) {
+        from.count = into.count = QUEUED;
+        for (u32 i = 0; i < QUEUED; i++)
+            from.items[i] = into.items[i] = 5;
+        into.items[QUEUED - 1] = 6;
+    }
+    u64 at = lay_out(to, MOST, &from, &into);
+    for (u32 i = 0; i < MOST; i++, at += OPERATION) {
+        u32 answered = number % 3 == 2 && i % 4 == 0;
+        to[at] = (u8)(1 + (i % 2 && number % 3 == 1));
+        put8(to + at + 1, below(9));
+        put8(to + at + 9, answered ? 100 + below(9) : 0);
+        to[at + 17] = answered ? DONE : NOTHING;
+        put4(to + at + 18, 5);
     }
     return at;
 }

@@ -243,3 +243,50 @@ Finding judge(const u8 *bytes, u64 length)
         return finding(TOO_LARGE, 0, "too many operations");
     return judge_endings(count);
 }
+
+/* ---- the same operations and queues as histories of request 110 */
+
+/* Runs a schedule; 0 where it has no page, or more operations than a history may have. */
+int run_for_histories(const u8 *bytes, u64 length, u64 *endings)
+{
+    Schedule s;
+    return read_schedule(bytes, length, &s).number == TAKEN && record_operations(&s).number == TAKEN
+        && count_endings(&the_bench, endings).number == TAKEN && !too_large && operation_count <= 16;
+}
+
+static u64 put_number_of(u8 *to, u64 value, u32 bytes)
+{
+    for (u32 i = 0; i < bytes; i++, value >>= 8)
+        to[i] = (u8)value;
+    return bytes;
+}
+
+/* The history that ending k is: its length, or 0 where its queue is too long to be looked at here. */
+u64 history_of_ending(u64 k, u8 *to)
+{
+    Image image;
+    Queue last;
+    u32 nodes[MAX_NODES];
+    u64 at = 3;
+    ending_image(&the_bench, k, &image);
+    if (recovered_in_order(&image, nodes) > LONGEST_QUEUE)
+        return 0;
+    queue_of_image(&image, &last);
+    to[0] = (u8)operation_count;
+    to[1] = (u8)first_queue.count;
+    to[2] = (u8)last.count;
+    for (u32 i = 0; i < first_queue.count; i++)
+        at += put_number_of(to + at, first_queue.items[i], 4);
+    for (u32 i = 0; i < last.count; i++)
+        at += put_number_of(to + at, last.items[i], 4);
+    for (u32 i = 0; i < operation_count; i++) {
+        const Operation *op = &operations[i];
+        int answered = op->answered != NEVER;
+        at += put_number_of(to + at, op->enqueues ? 1 : 2, 1);
+        at += put_number_of(to + at, op->begun, 8);
+        at += put_number_of(to + at, answered ? op->answered : 0, 8);
+        at += put_number_of(to + at, answered ? op->reply : NOTHING, 1);
+        at += put_number_of(to + at, op->enqueues ? op->item : answered && op->reply == AN_ITEM ? op->value : 0, 4);
+    }
+    return at;
+}

@@ -158,7 +158,8 @@ static int mode_generate(int count, char **words)
             put_bytes(item, sizeof item);
             continue;
         }
-        u64 length = same_text(words[2], "histories") ? generate_history(seed, i, input) : generate_input(seed, i, words[2], input);
+        u64 length = same_text(words[2], "histories") ? generate_history(seed, i, input)
+            : same_text(words[2], "searches") ? generate_search(seed, i, input) : generate_input(seed, i, words[2], input);
         put4(head, (u32)length);
         put_bytes(head, 4);
         put_bytes(input, length);
@@ -315,7 +316,8 @@ static const struct {
     {"images", mode_images}, {"images-again", mode_images_again}, {"schedules", mode_schedules},
     {"contents", mode_contents}, {"contents-many", mode_contents_many}, {"generate", mode_generate},
     {"counts", mode_counts}, {"plain", mode_plain}, {"judge", mode_judge}, {"places", mode_places},
-    {"judged", mode_judged}, {"histories", mode_histories}, {"wrong", mode_wrong}, {"search", mode_search}, {"frame", mode_frame}, {"frames", mode_frames},
+    {"judged", mode_judged}, {"drawn", mode_drawn}, {"histories", mode_histories},
+    {"wrong", mode_wrong}, {"search", mode_search}, {"frame", mode_frame}, {"frames", mode_frames},
     {"cuts", mode_cuts}, {"values", mode_values}, {"sequence", mode_sequence}, {"sequences", mode_sequences},
 };
 

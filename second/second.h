@@ -318,9 +318,16 @@ int mode_frames(int count, char **words);
 int mode_cuts(int count, char **words);
 int mode_values(int count, char **words);
 
-/* histories.c */
+/* judge.c: the histories that a run's endings are */
+int run_for_histories(const u8 *bytes, u64 length, u64 *endings);
+u64 history_of_ending(u64 k, u8 *to);
+
+/* histories.c, drawn.c */
+int mode_drawn(int count, char **words);
 int mode_judged(int count, char **words);
+Verdict judge_into(const u8 *bytes, u64 length, u8 *to, u64 room, u64 *value);
 Finding hold_history(const u8 *bytes, u64 length);
+u64 generate_search(u64 seed, u64 number, u8 *to);
 u64 generate_history(u64 seed, u64 number, u8 *to);
 
 #endif

@@ -1,8 +1,19 @@
 // The verdict on one history: its bytes on standard input; on standard output the verdict with its tries and the order that shows it, or the refusal's line.
 use judging::Judgement;
 use judging::Verdict;
+use libc::STDERR_FILENO;
 use libc::STDIN_FILENO;
 use libc::STDOUT_FILENO;
+
+// The line's end; that standard output did not take it is told.
+fn end_line() {
+    if !io::write_all(STDOUT_FILENO, b"\n") {
+        io::write_all(
+            STDERR_FILENO,
+            b"judge: standard output took no more, the line is not whole\n",
+        );
+    }
+}
 
 fn print_tries(tries: u32) {
     io::print_decimal(STDOUT_FILENO, tries as u64);
@@ -38,13 +49,20 @@ fn print_judged(r: Judgement) {
             print_tries(r.tries);
         }
     }
-    io::write_all(STDOUT_FILENO, b"\n");
+    end_line();
 }
 
 fn main() {
     // The longest history has 859 bytes: what is longer than this is refused as its first part is.
     let mut h = [0u8; 1024];
     let got = io::read_full(STDIN_FILENO, &mut h);
+    if got < 1024 && !stream::at_end() {
+        io::write_all(
+            STDERR_FILENO,
+            b"judge: standard input could not be read to its end, no verdict is printed\n",
+        );
+        return;
+    }
     let r = judging::judge_history(&h[..got]);
     let a = r.answer;
     if !answer::is_taken(a) {
@@ -53,7 +71,7 @@ fn main() {
         io::print_decimal(STDOUT_FILENO, t.number as u64);
         io::write_all(STDOUT_FILENO, b" at ");
         io::print_decimal(STDOUT_FILENO, t.place as u64);
-        io::write_all(STDOUT_FILENO, b"\n");
+        end_line();
         return;
     }
     print_judged(r);

@@ -14,7 +14,6 @@ use Rattle.lists.proofs.BoolLaws.{both-true, no-way}
 use Rattle.answer.specs.Answers.{accepted}
 use Rattle.lawful.specs.Operation.{Operation, says}
 use Rattle.lawful.specs.Lawful.{at, Earlier}
-use Rattle.lawful.specs.Demand3.{Bytes}
 use Rattle.judging.specs.History.{countIn, kindAt, beganAt, endedAt, answerAt, itemAt, firstIn, lastIn, operationAt, operationsIn, kindFits, timeFits, fits, historyAnswer}
 use Rattle.judging.specs.Search.{Verdict, lawful, unlawful, undecided, Judged, judged, enough, judgedOf, wholeSearch}
 use Rattle.judging.specs.Judged.{judgedIn}
@@ -45,7 +44,7 @@ sane s c k h w =
     in-time s k (c k l) (answer-le (kindAt s k) (answerAt s k) (kind-fits s k (c k l))) (v .0) (v .1)
 
 pub every-verdict : EveryVerdict
-every-verdict s b t = record {
+every-verdict s t = record {
   shown = λ e. (orders.sound (operationsIn s) (firstIn s) (lastIn s) enough (back e), orders.sound-order (operationsIn s) (firstIn s) (lastIn s) enough (back e) ∙ ap (λ (r : Judged). r .order) (sym j));
   unlawful-exactly = (λ e. exactly.unlawful-exactly (operationsIn s) (lastIn s) (firstIn s) z .0 (back e), λ p. there (exactly.unlawful-exactly (operationsIn s) (lastIn s) (firstIn s) z .1 p));
   undecided-exactly = (

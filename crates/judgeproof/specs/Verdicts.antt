@@ -6,7 +6,6 @@ use mathlib.Core.List.{List}
 use mathlib.Core.Logic.{_↔_}
 use Rattle.answer.specs.Answers.{accepted}
 use Rattle.lawful.specs.Lawful as L
-use Rattle.lawful.specs.Demand3.{Bytes}
 use Rattle.judging.specs.History.{firstIn, lastIn, operationsIn, historyAnswer}
 use Rattle.judging.specs.Search.{Verdict, lawful, unlawful, undecided, Judged, wholeSearch}
 use Rattle.judging.specs.Judged.{judgedIn}
@@ -31,4 +30,4 @@ pub record Verdicts (s : List ℕ) : Type 0 where
   pub decided : wholeIn s .tries ≤ 1000000 → judgedIn s ≡ wholeIn s
 
 abbrev pub EveryVerdict : Type 0
-EveryVerdict = (s : List ℕ) → Bytes s → accepted (historyAnswer s) ≡ true → Verdicts s
+EveryVerdict = (s : List ℕ) → accepted (historyAnswer s) ≡ true → Verdicts s

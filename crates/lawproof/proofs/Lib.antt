@@ -7,3 +7,4 @@ pub mod Books
 pub mod Choices
 pub mod Endings
 pub mod Lawful3
+pub mod Short
