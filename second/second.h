@@ -248,6 +248,7 @@ void put_sum(u64 sum);
 void contents_from_bytes(const u8 *bytes, Image *image);
 void print_trace(const u8 *bytes, u64 length);
 void print_trace_sums(const u8 *bytes, u64 length);
+void print_soak(const u8 *bytes, u64 length);
 void print_record_item(const u8 *item);
 void print_place_counts(const u8 *bytes, u64 length);
 void print_saved(const u8 *bytes, u64 length);
