@@ -249,6 +249,8 @@ void contents_from_bytes(const u8 *bytes, Image *image);
 void print_trace(const u8 *bytes, u64 length);
 void print_trace_sums(const u8 *bytes, u64 length);
 void print_soak(const u8 *bytes, u64 length);
+void count_once(const u8 *bytes, u64 length);
+int print_once(void);
 void print_record_item(const u8 *item);
 void print_place_counts(const u8 *bytes, u64 length);
 void print_saved(const u8 *bytes, u64 length);
