@@ -118,7 +118,7 @@ uint64_t uq_refusal_line(uint32_t number, uint32_t place, uint8_t *buffer, size_
 uint64_t uq_start(const uint8_t *image, size_t length, uint8_t threads, uint8_t *record, size_t room);
 
 /* One event on a record of exactly 1,412 bytes. The value where it is taken: uq_reply says what an operation answered, uq_item which item.
-   The record is changed in place.
+   The record is changed in place: this is the call for a rig that keeps its own record, one event at a time, and it needs no other memory.
    A refusal has number 1, 18, 9, 10, 13, 11, 12, and of a crash 7 or 8, with place 0 (of 7: the node); the record stays. */
 uint64_t uq_event(uint8_t *record, size_t length, uint8_t kind, uint8_t number, uint32_t item);
 

@@ -78,6 +78,19 @@ static int mode_sums(int count, char **words)
     return each_input(print_trace_sums);
 }
 
+static int mode_soak(int count, char **words)
+{
+    (void)count, (void)words;
+    return each_input(print_soak);
+}
+
+static int mode_once(int count, char **words)
+{
+    (void)count, (void)words;
+    each_input(count_once);
+    return print_once();
+}
+
 static int mode_place_counts(int count, char **words)
 {
     (void)count, (void)words;
@@ -311,7 +324,8 @@ static const struct {
     int (*run)(int count, char **words);
 } modes[] = {
     {"page", mode_page}, {"many", mode_many}, {"ending", mode_ending}, {"endings-many", mode_endings_many},
-    {"trace", mode_trace}, {"traces", mode_traces}, {"sums", mode_sums}, {"record", mode_record}, {"records", mode_records},
+    {"trace", mode_trace}, {"traces", mode_traces}, {"sums", mode_sums}, {"soak", mode_soak}, {"once", mode_once},
+    {"record", mode_record}, {"records", mode_records},
     {"place-counts", mode_place_counts}, {"saved", mode_saved}, {"starts", mode_starts}, {"fresh", mode_fresh},
     {"images", mode_images}, {"images-again", mode_images_again}, {"schedules", mode_schedules},
     {"contents", mode_contents}, {"contents-many", mode_contents_many}, {"generate", mode_generate},

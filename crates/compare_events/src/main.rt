@@ -1,13 +1,19 @@
 // The calls on a machine record, for many inputs in one run, so that another program's answers can be compared with theirs.
 // Standard input: one byte that names the mode, then a stream of items, each behind its length (4 bytes, little-endian).
 //   t  a schedule:  after the start and after each event `REPLY VALUE SUM`, the sum of the record's bytes; up to `refused N at P`
+//   u  the same, by the call on a kept record
 //   r  a record and an event: `N P REPLY VALUE RECORD`
+//   a  the same, by the call on a kept record
 //   p  the same: `N P QUEUE FREE WAITING HELD ENQUEUE DEQUEUE`; the event does not count
 //   k  the same: the record's persisted copies saved into a buffer, whose room the event's first two bytes give: `N P BUFFER`
 //   b  contents and T: `refused N at P`, or `0 0 RECORD` after a start
 //   f  N and T: the same for a fresh machine, with the record's sum
+//   v  N, T, a number and a count: that many events drawn from the number, on one record: `TAKEN ITEMS SUM`
+//   w  the same, by the call on a kept record
+mod kept;
 mod moments;
 mod records;
+mod soak;
 mod starts;
 mod traces;
 
@@ -16,6 +22,7 @@ use libc::STDIN_FILENO;
 use records::answer_places;
 use records::answer_record;
 use records::answer_saved;
+use soak::answer_soak;
 use starts::answer_fresh;
 use starts::answer_start;
 use stream::next_item;
@@ -23,12 +30,16 @@ use traces::answer_trace;
 
 fn answer_one(mode: u8, s: &[u8], out: &mut [u8; 65536], at: usize) -> usize {
     match mode {
-        b't' => answer_trace(s, out, at),
-        b'r' => answer_record(s, out, at),
+        b't' => answer_trace(s, out, at, false),
+        b'u' => answer_trace(s, out, at, true),
+        b'r' => answer_record(s, out, at, false),
+        b'a' => answer_record(s, out, at, true),
         b'p' => answer_places(s, out, at),
         b'k' => answer_saved(s, out, at),
         b'b' => answer_start(s, out, at),
         b'f' => answer_fresh(s, out, at),
+        b'v' => answer_soak(s, out, at, false),
+        b'w' => answer_soak(s, out, at, true),
         _ => at,
     }
 }

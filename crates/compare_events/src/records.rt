@@ -1,6 +1,7 @@
 // Records that are handed in. An item is a record (1,412 bytes) and an event (6).
 ghost use Prim.Native.Nat.{_≤_};
 ghost use lib.ListN.{length};
+use crate::kept::event_by;
 use crate::moments::put_moment;
 use answer::Told;
 use answer::told_of;
@@ -36,10 +37,10 @@ fn put_verdict(out: &mut [u8; 65536], at: usize, t: Told) -> usize {
     put(out, first, b' ')
 }
 
-pub(crate) fn answer_record(s: &[u8], out: &mut [u8; 65536], at: usize) -> usize {
+pub(crate) fn answer_record(s: &[u8], out: &mut [u8; 65536], at: usize, kept: bool) -> usize {
     let m = record_of(s);
     let e = event_of(s);
-    let r = events::on_event(m, e);
+    let r = event_by(kept, m, e);
     let a = r.answer;
     let t = told_of(a);
     let after = r.machine;

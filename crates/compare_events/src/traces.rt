@@ -1,4 +1,5 @@
 // A schedule, moment by moment.
+use crate::kept::event_by;
 use crate::moments::put_moment_sum;
 use answer::Told;
 use answer::told_of;
@@ -20,13 +21,20 @@ fn put_refused(out: &mut [u8; 65536], at: usize, t: Told, i: usize) -> usize {
     )
 }
 
-fn put_events(out: &mut [u8; 65536], at: usize, s: &[u8], start: Machine, count: usize) -> usize {
+fn put_events(
+    out: &mut [u8; 65536],
+    at: usize,
+    s: &[u8],
+    start: Machine,
+    count: usize,
+    kept: bool,
+) -> usize {
     let mut place = at;
     let mut m = start;
     let mut i = 0;
     while i < count {
         let e = codec::event_of(s, i);
-        let r = events::on_event(m, e);
+        let r = event_by(kept, m, e);
         let a = r.answer;
         let t = told_of(a);
         if t.number != 0 {
@@ -41,7 +49,7 @@ fn put_events(out: &mut [u8; 65536], at: usize, s: &[u8], start: Machine, count:
     place
 }
 
-pub(crate) fn answer_trace(s: &[u8], out: &mut [u8; 65536], at: usize) -> usize {
+pub(crate) fn answer_trace(s: &[u8], out: &mut [u8; 65536], at: usize, kept: bool) -> usize {
     let o = codec::read_schedule(s);
     let a = o.answer;
     let t = told_of(a);
@@ -58,5 +66,5 @@ pub(crate) fn answer_trace(s: &[u8], out: &mut [u8; 65536], at: usize) -> usize 
     }
     let m = r.machine;
     let first = put_moment_sum(out, at, u, m);
-    put_events(out, first, s, m, d.count as usize)
+    put_events(out, first, s, m, d.count as usize, kept)
 }

@@ -1,5 +1,5 @@
 // The machine one event at a time: calls on a machine record that is handed in. Each tests 18 before all else.
-// Public calls: on_event, save, count_places. act is for the crates above.
+// Public calls: on_event, apply, save, count_places. act is for the crates above.
 mod arms;
 
 pub use arms::act;
@@ -9,6 +9,7 @@ ghost use Rattle.answer.specs.Answers.{told};
 ghost use Rattle.machine.specs.Event.{eventOn};
 ghost use Rattle.machine.specs.Place.{countPlaces};
 ghost use Rattle.machine.specs.Saved.{saveAnswer, saved};
+ghost use Rattle.events.specs.Applied.{Applied};
 use answer::Answer;
 use arms::kept_image;
 use machine::Counted;
@@ -29,6 +30,15 @@ pub fn on_event(m: Machine, e: Event) -> Out
         };
     }
     act(0, m, e)
+}
+
+// The same on the record that the caller keeps. A refused event leaves it as it was.
+pub fn apply(m: &mut Machine, e: Event) -> Answer
+    ensures { λ r. ⌜ Applied (now (m .entry)) e r (now (m .exit)) ⌝ }
+{
+    let r = on_event(*m, e);
+    *m = r.machine;
+    r.answer
 }
 
 // Writes the persisted copies as an image into the first 10 + 9N bytes of the buffer, or nothing.

@@ -4,10 +4,10 @@ use Rattle.compare_events.proofs.traces.put_events.Statement.{statement
 use Rattle.compare_events.proofs.traces.put_events.Tie as tie
 
 abbrev Inv-loop : tie.InvT-loop
-Inv-loop out₀ at s count place₀ m₀ i₀ out place m i = i ≤ count
+Inv-loop out₀ at s count kept place₀ m₀ i₀ out place m i = i ≤ count
 
 abbrev μ-loop : tie.MeasureT-loop
-μ-loop out₀ at s count place₀ m₀ i₀ out place m i = count - i
+μ-loop out₀ at s count kept place₀ m₀ i₀ out place m i = count - i
 
 loop-holds : tie.Need-loop-holds Inv-loop μ-loop
 loop-holds c = omega arith
@@ -15,8 +15,8 @@ loop-holds c = omega arith
 event-of-requires : tie.Need-event-of-requires Inv-loop μ-loop
 event-of-requires c κs = tt
 
-on-event-requires : tie.Need-on-event-requires Inv-loop μ-loop
-on-event-requires c κs = tt
+event-by-requires : tie.Need-event-by-requires Inv-loop μ-loop
+event-by-requires c κs = tt
 
 told-of-requires : tie.Need-told-of-requires Inv-loop μ-loop
 told-of-requires c κs = tt
@@ -50,7 +50,7 @@ put-events-spec =
     μ-loop
     loop-holds
     event-of-requires
-    on-event-requires
+    event-by-requires
     told-of-requires
     put-refused-requires
     returns

@@ -1,0 +1,52 @@
+-- The claim computed where each of the five answers is given, and refuted of two other machines. Assumes nothing.
+use Prim.Native.Nat.{ℕ}
+use mathlib.Core.Path.{_≡_, refl, subst}
+use mathlib.Core.List.{List, [], _∷_}
+use native.Mathlib.Omega.{arith}
+use Rattle.lists.specs.Find.{least, any, count}
+use Rattle.lists.specs.Tab.{tab, joined, over, front}
+use Rattle.lists.specs.Word.{has, with, without, wordOf}
+use Rattle.answer.specs.declared.Answer.{Answer}
+use Rattle.answer.specs.declared.Answer.the-variants.{Done, Full, WornOut, Item, Empty}
+use Rattle.image.specs.Layout.{noContents, noHeads, headLines, headsOf}
+use Rattle.image.specs.Recovered.{largest, headOf, recovered, twins, hasTwin, firstTwin, dummyOf}
+use Rattle.image.specs.Refusals.{startable}
+use Rattle.machine.specs.Record.{blankNodes, idleThreads}
+use Rattle.machine.specs.Line.{lineAt}
+use Rattle.machine.specs.Start.{insert, risen, behind, lastOf, startWith, freshOf}
+use Rattle.machine.specs.Retire.{nextFree, releasedAt, released, others, retired}
+use Rattle.machine.specs.Event.{eventAt}
+use Rattle.once.specs.Once.{touchOf, Answered, answeredBy, Once, Each}
+use Rattle.once.specs.Instances.{enqueue, stepping, four, worn, by0, twice, never}
+
+abbrev says : ℕ → Answer → ℕ → Answered
+says p a x = record { event = p; thread = 0; answer = a; persists = x }
+
+-- Done 1, an item 1, Full 0, Empty 1; the first of them before a crash
+pub four-computed : by0 touchOf (freshOf 2 1) four ≡ says 11 Done 1 ∷ says 19 (Item 7) 1 ∷ says 21 Full 0 ∷ says 25 Empty 1 ∷ []
+unfolding answeredBy least any count tab joined over front has with without wordOf noContents noHeads headLines headsOf largest headOf recovered twins hasTwin firstTwin dummyOf
+    startable blankNodes idleThreads lineAt insert risen behind lastOf startWith nextFree releasedAt released others retired eventAt
+four-computed = refl
+
+-- Worn out 0
+pub worn-computed : by0 touchOf worn (enqueue 7 ∷ stepping 7) ≡ says 7 WornOut 0 ∷ []
+unfolding answeredBy least any count tab joined over front has with without wordOf noContents noHeads headLines headsOf largest headOf recovered twins hasTwin firstTwin dummyOf
+    startable blankNodes idleThreads lineAt insert risen behind lastOf startWith nextFree releasedAt released others retired eventAt
+worn-computed = refl
+
+twice-computed : by0 twice (freshOf 2 1) (enqueue 7 ∷ stepping 11) ≡ says 11 Done 2 ∷ []
+unfolding answeredBy least any count tab joined over front has with without wordOf noContents noHeads headLines headsOf largest headOf recovered twins hasTwin firstTwin dummyOf
+    startable blankNodes idleThreads lineAt insert risen behind lastOf startWith nextFree releasedAt released others retired eventAt
+twice-computed = refl
+
+never-computed : by0 never (freshOf 2 1) (enqueue 7 ∷ stepping 11) ≡ says 11 Done 0 ∷ []
+unfolding answeredBy least any count tab joined over front has with without wordOf noContents noHeads headLines headsOf largest headOf recovered twins hasTwin firstTwin dummyOf
+    startable blankNodes idleThreads lineAt insert risen behind lastOf startWith nextFree releasedAt released others retired eventAt
+never-computed = refl
+
+-- a machine that persists twice, and one that does not at all
+pub not-twice : Each Once (by0 twice (freshOf 2 1) (enqueue 7 ∷ stepping 11)) → ⊥
+not-twice p = omega (arith, subst (Each Once) twice-computed p .0)
+
+pub not-never : Each Once (by0 never (freshOf 2 1) (enqueue 7 ∷ stepping 11)) → ⊥
+not-never p = omega (arith, subst (Each Once) never-computed p .0)

@@ -1,0 +1,218 @@
+-- Control flow alone: how many persisting steps a thread has behind it where it stands, and what a step does to that number. Assumes nothing.
+use Prim.Native.Nat.{ℕ, zero, suc, _+_, _≤_, _<_}
+use mathlib.Core.Path.{_≡_, refl, sym, ap, _∙_}
+use mathlib.Core.Bool.{Bool, true, false}
+use mathlib.Core.List.{List}
+use mathlib.Core.Logic.{_⊎_, inl, inr}
+use native.Mathlib.Omega.{arith}
+use native.Mathlib.Decide.{decLt}
+use lib.ListN.{getD, set, length, length-set, List·getD-eq-default}
+use lib.Seq.{getD-set-same, getD-set-other}
+use lib.Dec.{eqb}
+use Rattle.lists.specs.Find.{pick, both}
+use Rattle.lists.specs.Word.{without}
+use Rattle.lists.proofs.BoolLaws.{false-true}
+use Rattle.answer.specs.declared.Answer.{Answer}
+use Rattle.answer.specs.declared.Answer.the-variants.{Taken, Done, Full, WornOut, Item, Empty}
+use Rattle.machine.specs.Record.{none, top, node, headAt, thread, zeroThread, atStep, idleThread, ownNode, readTail, readHead, readNext, readItem, withItem, withNext, withLinked, withIndex, putNode, putTail, putFree, putHead, putThread}
+use Rattle.machine.specs.Stage.{Stage, noStep, A1, A2, A3, A4, A5, A6, A7, A8, A9, A10, A11, A12, D1, D2, D3, D4, D5, D6, D7, stageOf, number, stage}
+use Rattle.machine.specs.Line.{ofHead, ofNode, persist}
+use Rattle.machine.specs.Retire.{out, moving, going, answering, nextFree, freed, releasedAt, released, retired, retiredHeld}
+use Rattle.machine.specs.Event.{stepped}
+use Rattle.machine.specs.declared.Machine.{Machine}
+use Rattle.machine.specs.declared.Out.{Out}
+use Rattle.machine.specs.declared.Thread.{Thread}
+use Rattle.schedule.specs.Run.{stepPersists}
+use Rattle.once.specs.Once.{counts, replies, due}
+
+-- ---- what a thread has performed where it stands: the persist is behind it at A11 and D7 alone
+
+abbrev pub sofar : Stage → ℕ
+sofar noStep = 0
+sofar A1 = 0
+sofar A2 = 0
+sofar A3 = 0
+sofar A4 = 0
+sofar A5 = 0
+sofar A6 = 0
+sofar A7 = 0
+sofar A8 = 0
+sofar A9 = 0
+sofar A10 = 0
+sofar A11 = 1
+sofar A12 = 0
+sofar D1 = 0
+sofar D2 = 0
+sofar D3 = 0
+sofar D4 = 0
+sofar D5 = 0
+sofar D6 = 0
+sofar D7 = 1
+
+-- x is the count of a thread that stands at s; of a thread without an operation nothing is said
+abbrev pub Agrees : Stage → ℕ → Type 0
+Agrees s x = (s ≡ noStep) ⊎ (x ≡ sofar s)
+
+pub sure : (s : Stage) (x : ℕ) → 0 < number s → Agrees s x → x ≡ sofar s
+sure s x p (inl e) = absurd (omega (arith, ap number e))
+sure s x p (inr q) = q
+
+-- ---- the table of threads with one of them replaced
+
+-- a thread beyond the table has no operation
+pub no-thread : (ts : List Thread) (k : ℕ) → length ts ≤ k → stageOf (getD ts k zeroThread .step) ≡ noStep
+no-thread ts k h = ap (λ (v : Thread). stageOf (v .step)) (List·getD-eq-default ts zeroThread h)
+
+pub put-own : (ts : List Thread) (k : ℕ) (v : Thread) → k < length ts → stageOf (getD (set ts k v) k zeroThread .step) ≡ stageOf (v .step)
+put-own ts k v h = ap (λ (v : Thread). stageOf (v .step)) (getD-set-same ts k v zeroThread h)
+
+pub put-idle : (ts : List Thread) (k : ℕ) (v : Thread) → stageOf (v .step) ≡ noStep → stageOf (getD (set ts k v) k zeroThread .step) ≡ noStep
+put-idle ts k v e = by (decLt k (length ts))
+  where
+    by : Dec (k < length ts) → stageOf (getD (set ts k v) k zeroThread .step) ≡ noStep
+    by (yes h) = put-own ts k v h ∙ e
+    by (no h) = no-thread (set ts k v) k (omega (arith, length-set ts k v))
+
+-- ---- a step and its own thread
+
+-- y is the count behind the step: what is due where it answered, and right for where the thread stands now
+abbrev pub Goes : Out → ℕ → ℕ → Type 0
+Goes o y k = (replies (o .answer) ≡ true → y ≡ due (o .answer)) × Agrees (stage (o .machine) k) y
+
+-- the thread goes on to step s
+moves : (m : Machine) (k : ℕ) (v : Thread) (y : ℕ) (s : Stage) → k < length (m .threads) → stageOf (v .step) ≡ s → y ≡ sofar s → Goes (out Taken (putThread m k v)) y k
+moves m k v y s h e q = (λ z. false-true z, inr (q ∙ ap sofar (sym (put-own (m .threads) k v h ∙ e))))
+
+-- the thread answers
+leaves : (a : Answer) (m : Machine) (k x y : ℕ) → y ≡ due a → Goes (out a (putThread m k (idleThread x))) y k
+leaves a m k x y q = (λ _. q, inl (put-idle (m .threads) k (idleThread x) refl))
+
+pick-goes : (b : Bool) (o p : Out) (y k : ℕ) → Goes o y k → Goes p y k → Goes (pick b o p) y k
+pick-goes true o p y k g h = g
+pick-goes false o p y k g h = h
+
+pub step-own : (m : Machine) (k x : ℕ) (s : Stage) → stage m k ≡ s → k < length (m .threads) → x ≡ sofar s → Goes (stepped m k s) (x + counts (stepPersists m k s)) k
+step-own m k x noStep e h q = (λ z. false-true z, inl e)
+step-own m k x A1 e h q =
+    pick-goes (eqb (m .free) 0) (answering Full m k) (moving (putFree m (without (m .free) (nextFree m))) k (ownNode (thread m k) (nextFree m)) (number A2)) (x + 0) k
+    (leaves Full (released m k (m .n)) k (thread m k .held) (x + 0) (omega (arith, q)))
+    (moves (putFree m (without (m .free) (nextFree m))) k (atStep (ownNode (thread m k) (nextFree m)) 2) (x + 0) A2 h refl (omega (arith, q)))
+step-own m k x A2 e h q = let i = thread m k .node in moves (putNode m i (withItem (node m i) (thread m k .item))) k (atStep (thread m k) 3) (x + 0) A3 h refl (omega (arith, q))
+step-own m k x A3 e h q = let i = thread m k .node in moves (putNode m i (withNext (node m i) none)) k (atStep (thread m k) 4) (x + 0) A4 h refl (omega (arith, q))
+step-own m k x A4 e h q = let i = thread m k .node in moves (putNode m i (withLinked (node m i) 0)) k (atStep (thread m k) 5) (x + 0) A5 h refl (omega (arith, q))
+step-own m k x A5 e h q = moves m k (atStep (readTail (thread m k) (m .tail)) 6) (x + 0) A6 h refl (omega (arith, q))
+step-own m k x A6 e h q = by (eqb (node m (thread m k .tail) .next) none)
+  where
+    by : (b : Bool) → Goes (going m k (pick b (number A7) (number A12))) (x + 0) k
+    by true = moves m k (atStep (thread m k) 7) (x + 0) A7 h refl (omega (arith, q))
+    by false = moves m k (atStep (thread m k) 12) (x + 0) A12 h refl (omega (arith, q))
+step-own m k x A7 e h q =
+    let i = thread m k .node in
+    let t = thread m k .tail in
+    pick-goes (eqb (node m t .index) top) (answering WornOut (freed m i) k) (going (putNode m i (withIndex (node m i) (node m t .index + 1))) k (number A8)) (x + 0) k
+    (leaves WornOut (released (freed m i) k (m .n)) k (thread m k .held) (x + 0) (omega (arith, q)))
+    (moves (putNode m i (withIndex (node m i) (node m t .index + 1))) k (atStep (thread m k) 8) (x + 0) A8 h refl (omega (arith, q)))
+step-own m k x A8 e h q =
+    let i = thread m k .node in
+    let t = thread m k .tail in
+    pick-goes (eqb (node m t .next) none) (going (putNode m t (withNext (node m t) i)) k (number A9)) (going m k (number A12)) (x + 0) k
+    (moves (putNode m t (withNext (node m t) i)) k (atStep (thread m k) 9) (x + 0) A9 h refl (omega (arith, q)))
+    (moves m k (atStep (thread m k) 12) (x + 0) A12 h refl (omega (arith, q)))
+step-own m k x A9 e h q = let i = thread m k .node in moves (putNode m i (withLinked (node m i) 1)) k (atStep (thread m k) 10) (x + 0) A10 h refl (omega (arith, q))
+step-own m k x A10 e h q = moves (persist m (ofNode (thread m k .node))) k (atStep (thread m k) 11) (x + 1) A11 h refl (omega (arith, q))
+step-own m k x A11 e h q =
+    let m′ = pick (eqb (m .tail) (thread m k .tail)) (putTail m (thread m k .node)) m in
+    leaves Done (released m′ k (m′ .n)) k (thread m′ k .held) (x + 0) (omega (arith, q))
+step-own m k x A12 e h q = by (eqb (m .tail) (thread m k .tail))
+  where
+    by : (b : Bool) → Goes (going (pick b (putTail m (node m (thread m k .tail) .next)) m) k (number A5)) (x + 0) k
+    by true = moves (putTail m (node m (thread m k .tail) .next)) k (atStep (thread m k) 5) (x + 0) A5 h refl (omega (arith, q))
+    by false = moves m k (atStep (thread m k) 5) (x + 0) A5 h refl (omega (arith, q))
+step-own m k x D1 e h q = moves m k (atStep (readHead (thread m k) (m .head) (headAt m 0)) 14) (x + 0) D2 h refl (omega (arith, q))
+step-own m k x D2 e h q = by (eqb (node m (thread m k .head) .next) none)
+  where
+    by : (b : Bool) → Goes (moving m k (readNext (thread m k) (node m (thread m k .head) .next)) (pick b (number D3) (number D4))) (x + 0) k
+    by true = moves m k (atStep (readNext (thread m k) (node m (thread m k .head) .next)) 15) (x + 0) D3 h refl (omega (arith, q))
+    by false = moves m k (atStep (readNext (thread m k) (node m (thread m k .head) .next)) 16) (x + 0) D4 h refl (omega (arith, q))
+step-own m k x D3 e h q = leaves Empty (released (persist m (ofHead 0)) k (m .n)) k (thread m k .held) (x + 1) (omega (arith, q))
+step-own m k x D4 e h q =
+    let y = thread m k .next in
+    pick-goes (both (eqb (m .head) (thread m k .head)) (eqb (headAt m 0) (thread m k .index))) (going (putHead m y (node m y .index)) k (number D5)) (going m k (number D1)) (x + 0) k
+    (moves (putHead m y (node m y .index)) k (atStep (thread m k) 17) (x + 0) D5 h refl (omega (arith, q)))
+    (moves m k (atStep (thread m k) 13) (x + 0) D1 h refl (omega (arith, q)))
+step-own m k x D5 e h q = moves m k (atStep (readItem (thread m k) (node m (thread m k .next) .item)) 18) (x + 0) D6 h refl (omega (arith, q))
+step-own m k x D6 e h q = moves (persist m (ofHead 0)) k (atStep (thread m k) 19) (x + 1) D7 h refl (omega (arith, q))
+step-own m k x D7 e h q = leaves (Item (thread m k .item)) (released (retiredHeld m k) k (retiredHeld m k .n)) k (thread m k .head) (x + 0) (omega (arith, q))
+
+-- ---- a step and the other threads
+
+-- the table of threads is m's but for thread k
+abbrev pub Spares : Machine → ℕ → Machine → Type 0
+Spares m k m′ = (m′ .threads ≡ m .threads) ⊎ ((v : Thread) × (m′ .threads ≡ set (m .threads) k v))
+
+pub spared : (m m′ : Machine) (k u : ℕ) → Spares m k m′ → (u ≡ k → ⊥) → thread m′ u ≡ thread m u
+spared m m′ k u (inl e) ne = ap (λ (ts : List Thread). getD ts u zeroThread) e
+spared m m′ k u (inr p) ne = ap (λ (ts : List Thread). getD ts u zeroThread) (p .1) ∙ getD-set-other (m .threads) k u (p .0) zeroThread ne
+
+released-threads : (m : Machine) (k c : ℕ) → released m k c .threads ≡ m .threads
+unfolding released releasedAt
+released-threads m k zero = refl
+released-threads m k (suc c) = released-threads m k c
+
+-- an answer given on a machine that has m's threads
+left-spares : (m m′ : Machine) (k c x : ℕ) → m′ .threads ≡ m .threads → Spares m k (putThread (released m′ k c) k (idleThread x))
+left-spares m m′ k c x e = inr (idleThread x, ap (λ (ts : List Thread). set ts k (idleThread x)) (released-threads m′ k c ∙ e))
+
+pick-spares : (m : Machine) (k : ℕ) (b : Bool) (o p : Out) → Spares m k (o .machine) → Spares m k (p .machine) → Spares m k (pick b o p .machine)
+pick-spares m k true o p g h = g
+pick-spares m k false o p g h = h
+
+pick-threads : (m : Machine) (b : Bool) (x y : Machine) → x .threads ≡ m .threads → y .threads ≡ m .threads → pick b x y .threads ≡ m .threads
+pick-threads m true x y g h = g
+pick-threads m false x y g h = h
+
+retired-threads : (m : Machine) (k x : ℕ) → retired m k x .threads ≡ m .threads
+unfolding retired
+retired-threads m k x = refl
+
+pub step-spares : (m : Machine) (k : ℕ) (s : Stage) → Spares m k (stepped m k s .machine)
+step-spares m k noStep = inl refl
+step-spares m k A1 =
+    pick-spares m k (eqb (m .free) 0) (answering Full m k) (moving (putFree m (without (m .free) (nextFree m))) k (ownNode (thread m k) (nextFree m)) (number A2))
+    (left-spares m m k (m .n) (thread m k .held) refl) (inr (_, refl))
+step-spares m k A2 = inr (_, refl)
+step-spares m k A3 = inr (_, refl)
+step-spares m k A4 = inr (_, refl)
+step-spares m k A5 = inr (_, refl)
+step-spares m k A6 = inr (_, refl)
+step-spares m k A7 =
+    let i = thread m k .node in
+    let t = thread m k .tail in
+    pick-spares m k (eqb (node m t .index) top) (answering WornOut (freed m i) k) (going (putNode m i (withIndex (node m i) (node m t .index + 1))) k (number A8))
+    (left-spares m (freed m i) k (m .n) (thread m k .held) refl) (inr (_, refl))
+step-spares m k A8 =
+    let i = thread m k .node in
+    let t = thread m k .tail in
+    pick-spares m k (eqb (node m t .next) none) (going (putNode m t (withNext (node m t) i)) k (number A9)) (going m k (number A12)) (inr (_, refl)) (inr (_, refl))
+step-spares m k A9 = inr (_, refl)
+step-spares m k A10 = inr (_, refl)
+step-spares m k A11 =
+    let m′ = pick (eqb (m .tail) (thread m k .tail)) (putTail m (thread m k .node)) m in
+    left-spares m m′ k (m′ .n) (thread m′ k .held) (pick-threads m (eqb (m .tail) (thread m k .tail)) (putTail m (thread m k .node)) m refl refl)
+step-spares m k A12 = by (eqb (m .tail) (thread m k .tail))
+  where
+    by : (b : Bool) → Spares m k (going (pick b (putTail m (node m (thread m k .tail) .next)) m) k (number A5) .machine)
+    by true = inr (_, refl)
+    by false = inr (_, refl)
+step-spares m k D1 = inr (_, refl)
+step-spares m k D2 = inr (_, refl)
+step-spares m k D3 = left-spares m (persist m (ofHead 0)) k (m .n) (thread m k .held) refl
+step-spares m k D4 =
+    let y = thread m k .next in
+    pick-spares m k (both (eqb (m .head) (thread m k .head)) (eqb (headAt m 0) (thread m k .index))) (going (putHead m y (node m y .index)) k (number D5)) (going m k (number D1))
+    (inr (_, refl)) (inr (_, refl))
+step-spares m k D5 = inr (_, refl)
+step-spares m k D6 = inr (_, refl)
+step-spares m k D7 =
+    left-spares m (retiredHeld m k) k (retiredHeld m k .n) (thread m k .head)
+    (pick-threads m (eqb (thread m k .held) none) m (retired m k (thread m k .held)) refl (retired-threads m k (thread m k .held)))

@@ -1,0 +1,47 @@
+-- Runs in which each of the five answers is given, and two machines of which the claim is false.
+use Prim.Native.Nat.{ℕ}
+use mathlib.Core.List.{List, [], _∷_, _++_}
+use lib.ListN.{replicate, set}
+use lib.Dec.{eqb}
+use Rattle.lists.specs.Find.{pick}
+use Rattle.answer.specs.declared.Answer.the-variants.{Done, Full, WornOut, Item, Empty}
+use Rattle.image.specs.Layout.{noContents, noHeads}
+use Rattle.machine.specs.Record.{top, thread}
+use Rattle.machine.specs.Stage.{A9, number}
+use Rattle.machine.specs.Line.{ofNode}
+use Rattle.machine.specs.Start.{startOf, freshOf}
+use Rattle.machine.specs.declared.Machine.{Machine}
+use Rattle.machine.specs.declared.Event.{Event}
+use Rattle.schedule.specs.Run.{Touched, noLine, aLine}
+use Rattle.once.specs.Once.{touchOf, Answered, answeredBy}
+
+-- on thread 0
+abbrev pub enqueue : ℕ → Event
+enqueue v = record { kind = 1; number = 0; item = v }
+
+abbrev pub dequeue : Event
+dequeue = record { kind = 2; number = 0; item = 0 }
+
+abbrev pub stepping : ℕ → List Event
+stepping c = replicate c (record { kind = 3; number = 0; item = 0 })
+
+abbrev pub crash : Event
+crash = record { kind = 5; number = 0; item = 0 }
+
+-- two nodes, one thread: an enqueue, a crash, a dequeue, an enqueue that finds no free node, a dequeue that finds no item
+abbrev pub four : List Event
+four = enqueue 7 ∷ stepping 11 ++ (crash ∷ dequeue ∷ stepping 6 ++ (enqueue 8 ∷ stepping 1 ++ (dequeue ∷ stepping 3)))
+
+-- the largest head index: an enqueue wears out
+abbrev pub worn : Machine
+worn = startOf (record { n = 2; heads = set noHeads 0 top; nodes = noContents }) 1
+
+abbrev pub by0 : (Machine → Event → Touched) → Machine → List Event → List Answered
+by0 touches m l = answeredBy touches 0 m (λ k. 0) l
+
+-- a machine that persists at A9 already, and again at A10; and one that persists nowhere
+abbrev pub twice : Machine → Event → Touched
+twice m e = pick (eqb (thread m (e .number) .step) (number A9)) (aLine (ofNode (thread m (e .number) .node))) (touchOf m e)
+
+abbrev pub never : Machine → Event → Touched
+never m e = noLine
