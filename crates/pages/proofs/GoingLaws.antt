@@ -1,5 +1,5 @@
 -- A run goes on by one event, is refused, or comes to its end.
-use Prim.Native.Nat.{ℕ, zero, suc, _+_, _<_, _≤_}
+use Prim.Native.Nat.{ℕ, zero, suc, _+_, _-_, _<_, _≤_}
 use mathlib.Core.Path.{_≡_, refl, sym, ap, ap₂, subst, _∙_}
 use mathlib.Core.Bool.{Bool, true, false, not}
 use mathlib.Core.List.{List, [], _∷_, _++_}
@@ -17,31 +17,33 @@ use Rattle.answer.specs.declared.Answer.the-variants.{Taken}
 use Rattle.image.specs.declared.Content.{Content}
 use Rattle.machine.specs.Line.{lineCount, cachedAt}
 use Rattle.machine.specs.Event.{Deed, crashes, unknown, deedOf, eventAt}
-use Rattle.machine.specs.Range.{inRange}
 use Rattle.machine.specs.declared.Machine.{Machine}
 use Rattle.machine.specs.Start.{startOf, startWith}
 use Rattle.machine.proofs.AnswerLaws as machines
 use Rattle.codec.proofs.Accepted as codec
 use Rattle.machine.specs.declared.Event.{Event}
-use Rattle.machine.specs.declared.Out.{Out}
+use Rattle.machine.specs.declared.Acted.{Acted}
 use Rattle.schedule.specs.declared.Schedule.{Schedule}
 use Rattle.image.specs.Layout.{imageIn}
 use Rattle.schedule.specs.Layout.{scheduleIn, scheduleAnswer, eventFrom, eventPlace, eventIn, eventsIn, countIn, nodesIn}
-use Rattle.schedule.specs.Run.{Ran, Bench, run, ran, opened, begins, turned, andBefore}
+use Rattle.schedule.specs.Run.{Ran, Bench, forward, benchAt, run, ran, opened, begins, andBefore}
 use Rattle.page.specs.Refusals.{tableIn}
 use Rattle.page.specs.Contents.{tableOf}
-use Rattle.endtable.specs.Frame.{Even}
+use Rattle.moments.specs.Frame.{Even}
 use Rattle.endtable.specs.Opened.{openedTable, openedCounts}
-use Rattle.endtable.specs.Touches.{touchIn}
+use Rattle.endtable.specs.Touched.{touchedRow}
+use Rattle.endtable.specs.declared.touched.Touched.{Touched}
 use Rattle.endtable.specs.Tables.{Tables, tableAfter, countsAfter}
-use Rattle.endtable.specs.Benches.{Stands, benchAt, turnedBy}
+use Rattle.endtable.specs.Benches.{Stands}
 use Rattle.endtable.proofs.Benches as benches
-use Rattle.endtable.proofs.Moments as moments
+use Rattle.moments.proofs.Moments as moments
 use Rattle.pageproof.proofs.Even as evens
 use Rattle.pageproof.proofs.Runs as runs
-use Rattle.tied.proofs.Schedules as schedules
 use Rattle.pages.specs.Rows.{atsOf, countsOf, openedRows, rowsTouched, rowsAfter}
-use Rattle.pages.specs.Going.{Going, RunIs, benchTo, ranTo}
+use Rattle.schedule.specs.Running.{Reached, benchTo, ranTo, openedRun, forwardRun}
+use Rattle.onward.proofs.Reached.{reached-opened, reached-next}
+use Rattle.schedule.specs.declared.Running.{Running}
+use Rattle.pages.specs.Going.{Going, RunIs}
 use Rattle.pages.specs.declared.rows.Row.{Row}
 use Rattle.pages.specs.declared.running.Run.{Run}
 use Rattle.pages.proofs.RowLaws as rowlaws
@@ -63,7 +65,7 @@ not-five (suc (suc (suc (suc (suc (suc k)))))) e d = let z : _≡_ {A = ℕ} 0 1
 -- ---- one event more
 
 pub one-more : (q : ℕ) (b : Bench) (e : Event) → accepted (eventAt q (b .machine) e .answer) ≡ true
-    → run q b (e ∷ []) ≡ andBefore (eventAt q (b .machine) e .answer) (record { answer = Taken; replies = []; bench = turnedBy q b e })
+    → run q b (e ∷ []) ≡ andBefore (eventAt q (b .machine) e .answer) (record { answer = Taken; replies = []; bench = forward q b e })
 unfolding run
 one-more q b e h = yes-of _ _ (accepted (eventAt q (b .machine) e .answer)) h
 
@@ -111,12 +113,6 @@ module _ (s : List ℕ) where
   module _ (i : ℕ) (m : Machine) (rows : List Row) (g : Going s i m rows) where
     abbrev b : Bench
     b = benchTo s i
-
-    -- 18 does not refuse the record
-    pub going-range : ((j : ℕ) → getD s j 0 < 256) → accepted (scheduleAnswer s) ≡ true → inRange m ≡ true
-    going-range bytes a =
-        ap inRange (g .stands .machine ∙ sym (ap (λ (x : Bench). x .machine) (g .come)))
-        ∙ schedules.events-in-range s bytes a 0 (tab f i)
 
     -- each line has as many persisted copies as cached ones
     pub going-even : Even m
@@ -166,37 +162,40 @@ module _ (s : List ℕ) where
       own : Stands b (b .machine) (atsOf rows) (countsOf rows)
       own = benches.stands-now b m (atsOf rows) (countsOf rows) (g .stands)
 
-      stands′ : Stands (turnedBy i b e) m′ (atsOf (rowsAfter rows (b .machine) e m′)) (countsOf (rowsAfter rows (b .machine) e m′))
+      abbrev w′ : Touched
+      w′ = touchedRow (m′ .n) (eventAt i (b .machine) e .touch)
+
+      stands′ : Stands (forward i b e) m′ (atsOf (rowsAfter rows e (eventAt i (b .machine) e))) (countsOf (rowsAfter rows e (eventAt i (b .machine) e)))
       unfolding rowsAfter
       stands′ = by (eqb (e .kind) 5) refl
         where
           by : (x : Bool) → eqb (e .kind) 5 ≡ x
-              → Stands (turnedBy i b e) m′ (atsOf (pick x (openedRows m′) (rowsTouched rows (touchIn (b .machine) e) m′))) (countsOf (pick x (openedRows m′) (rowsTouched rows (touchIn (b .machine) e) m′)))
+              → Stands (forward i b e) m′ (atsOf (pick x (openedRows m′) (rowsTouched rows w′ m′))) (countsOf (pick x (openedRows m′) (rowsTouched rows w′ m′)))
           by true w =
               let st = benches.stands-crash i b e (atsOf rows) (countsOf rows) own taken′ (five (e .kind) w) in
               let small : m′ .n ≤ 64 = subst (λ (x : Machine). x .n ≤ 64) (sym (st .machine)) (st .small) in
-              stands-rows (turnedBy i b e) m′ _ _ (openedRows m′) (opened-ats m′ small) (opened-counts m′ small) st
+              stands-rows (forward i b e) m′ _ _ (openedRows m′) (opened-ats m′ small) (opened-counts m′ small) st
           by false w =
               let st = benches.stands-event i b e (atsOf rows) (countsOf rows) own taken′ even′ (not-five (e .kind) w) in
-              stands-rows (turnedBy i b e) m′ _ _ (rowsTouched rows (touchIn (b .machine) e) m′)
-              (rowlaws.touched-ats rows (touchIn (b .machine) e) m′) (rowlaws.touched-counts rows (touchIn (b .machine) e) m′) st
+              stands-rows (forward i b e) m′ _ _ (rowsTouched rows w′ m′)
+              (rowlaws.touched-ats rows w′ m′) (rowlaws.touched-counts rows w′ m′) st
 
       on : run i b (drop i (eventsIn s)) ≡ andBefore (eventAt i (b .machine) e .answer) (run (suc i) (benchTo s (suc i)) (drop (suc i) (eventsIn s)))
       unfolding eventsIn
       on = benches.run-on b₀ f (countIn s) i lt taken′
 
-      more : ranTo s (suc i) ≡ runs.andAfter (ranTo s i) (andBefore (eventAt i (b .machine) e .answer) (record { answer = Taken; replies = []; bench = turnedBy i b e }))
+      more : ranTo s (suc i) ≡ runs.andAfter (ranTo s i) (andBefore (eventAt i (b .machine) e .answer) (record { answer = Taken; replies = []; bench = forward i b e }))
       unfolding tab
       more =
           runs.run-append (tab f i) (f i ∷ []) 0 b₀ (g .taken)
           ∙ ap (runs.andAfter (ranTo s i))
           (ap₂ (λ (q : ℕ) (x : Bench). run q x (f i ∷ [])) (let z : 0 + length (tab f i) ≡ i = omega (arith, tabs.length-tab f i) in z) (g .come) ∙ one-more i b e taken′)
 
-      pub going-next : Going s (i + 1) (eventAt i m e .machine) (rowsAfter rows m e (eventAt i m e .machine))
+      pub going-next : Going s (i + 1) (eventAt i m e .machine) (rowsAfter rows e (eventAt i m e))
       unfolding benchAt
       going-next =
           rw (add-one)
-          (subst (λ (x : Machine). Going s (suc i) (eventAt i x e .machine) (rowsAfter rows x e (eventAt i x e .machine))) (sym now)
+          (subst (λ (x : Machine). Going s (suc i) (eventAt i x e .machine) (rowsAfter rows e (eventAt i x e))) (sym now)
           (record {
             stands = stands′;
             taken = ap (λ (r : Ran). accepted (r .answer)) more;
@@ -219,64 +218,70 @@ pub refused-of : (b : Bool) → not b ≡ true → b ≡ false
 refused-of false e = refl
 refused-of true e = taken-or false refl e
 
-module _ (s : List ℕ) (d : Schedule) (is : d ≡ scheduleIn s) where
-  pub count-is : d .count ≡ countIn s
-  unfolding scheduleIn
-  count-is = ap (λ (x : Schedule). x .count) is
+-- what an event forward answered, left and touched
+abbrev pub actedOf : Running → Acted
+actedOf r = record { answer = r .answer; machine = r .machine; touch = r .touch }
 
-  pub nodes-is : d .image .n ≡ nodesIn s
-  unfolding scheduleIn imageIn
-  nodes-is = ap (λ (x : Schedule). x .image .n) is
+-- the code's tests of one event: t says whether it was taken
+module _ (s : List ℕ) (g : Running) (rows : List Row) (w : Going s (g .place) (g .machine) rows) (c : g .count ≡ countIn s) (below : g .place < g .count)
+    (r : Running) (is : r ≡ forwardRun s g) (t : Bool) (told : t ≡ accepted (r .answer)) where
+  lt : g .place < countIn s
+  lt = omega (arith, c)
 
-  pub event-is : (i : ℕ) → eventFrom s (eventPlace (d .image .n) i) ≡ eventIn s i
-  event-is i = ap (λ (n : ℕ). eventFrom s (eventPlace n i)) nodes-is
+  pub going-on : not t ≡ false → (x : List Row) → x ≡ rowsAfter rows (r .event) (actedOf r) → Going s (r .place) (r .machine) x
+  going-on h =
+      let n = going-next s (g .place) (g .machine) rows w lt (subst (λ (z : Running). accepted (z .answer) ≡ true) is (sym told ∙ taken-of t h)) (going-even s (g .place) (g .machine) rows w) in
+      subst (λ (z : Running). (x : List Row) → x ≡ rowsAfter rows (z .event) (actedOf z) → Going s (z .place) (z .machine) x) (sym is)
+      (λ x q. subst (Going s (g .place + 1) (eventAt (g .place) (g .machine) (eventIn s (g .place)) .machine)) (sym q) n)
 
-  pub start-is : startOf (d .image) (getD s 5 0) ≡ opened (scheduleIn s) .machine
-  unfolding scheduleIn
-  start-is = ap (λ (x : Schedule). startOf (x .image) (getD s 5 0)) is
+  pub going-on-small : not t ≡ false → r .machine .n ≤ 64
+  going-on-small h = going-small s (r .place) (r .machine) (rowsAfter rows (r .event) (actedOf r)) (going-on h (rowsAfter rows (r .event) (actedOf r)) refl)
 
-  -- the code's tests of one event: t says whether it was taken
-  module _ (i : ℕ) (m : Machine) (rows : List Row) (g : Going s i m rows) (below : i < d .count) (e : Event) (o : Out) (t : Bool)
-      (event : e ≡ eventFrom s (eventPlace (d .image .n) i)) (act : o ≡ eventAt i m e) (told : t ≡ accepted (o .answer)) where
-    lt : i < countIn s
-    lt = omega (arith, count-is)
-
-    event-in : e ≡ eventIn s i
-    event-in = event ∙ event-is i
-
-    out-is : o ≡ eventAt i m (eventIn s i)
-    out-is = act ∙ ap (eventAt i m) event-in
-
-    pub going-on : not t ≡ false → (r : List Row) → r ≡ rowsAfter rows m e (o .machine) → Going s (i + 1) (o .machine) r
-    going-on h r q =
-        let n = going-next s i m rows g lt (subst (λ (x : Out). accepted (x .answer) ≡ true) out-is (sym told ∙ taken-of t h)) (going-even s i m rows g) in
-        subst (λ (x : Out). Going s (i + 1) (x .machine) r) (sym out-is)
-        (subst (Going s (i + 1) (eventAt i m (eventIn s i) .machine))
-        (sym (q ∙ ap₂ (λ (y : Event) (x : Out). rowsAfter rows m y (x .machine)) event-in out-is)) n)
-
-    pub going-on-small : not t ≡ false → o .machine .n ≤ 64
-    going-on-small h = going-small s (i + 1) (o .machine) (rowsAfter rows m e (o .machine)) (going-on h (rowsAfter rows m e (o .machine)) refl)
-
-    pub going-stop : not t ≡ true → RunIs s (record { answer = o .answer; machine = m; rows = rows })
-    going-stop h =
-        let a = sym told ∙ refused-of t h in
-        record {
-          answer = ap (λ (x : Out). x .answer) out-is ∙ going-refused s i m rows g lt (subst (λ (x : Out). accepted (x .answer) ≡ false) out-is a);
-          machine = λ y. taken-or (accepted (o .answer)) a y;
-          small = λ y. taken-or (accepted (o .answer)) a y;
-          tables = λ y. taken-or (accepted (o .answer)) a y;
-        }
+  pub going-stop : not t ≡ true → (m : Machine) → RunIs s (record { answer = r .answer; machine = m; rows = rows })
+  going-stop h m =
+      let a = sym told ∙ refused-of t h in
+      record {
+        answer = ap (λ (x : Running). x .answer) is ∙ going-refused s (g .place) (g .machine) rows w lt (subst (λ (x : Running). accepted (x .answer) ≡ false) is a);
+        machine = λ y. taken-or (accepted (r .answer)) a y;
+        small = λ y. taken-or (accepted (r .answer)) a y;
+        tables = λ y. taken-or (accepted (r .answer)) a y;
+      }
 
 -- ---- the beginning
 
-module _ (s : List ℕ) (d : Schedule) (is : d ≡ scheduleIn s) (a : accepted (scheduleAnswer s) ≡ true) where
-  pub nodes-small : d .image .n ≤ 64
-  nodes-small = omega (arith, nodes-is s d is, machines.nodes-range (nodesIn s) (codec.schedule-taken s a .part .nodes) .1)
+module _ (s : List ℕ) (a : accepted (scheduleAnswer s) ≡ true) (g : Running) (is : g ≡ openedRun s) where
+  pub start-small : g .machine .n ≤ 64
+  unfolding startWith scheduleIn imageIn
+  start-small = omega (arith, ap (λ (x : Running). x .machine .n) is, machines.nodes-range (nodesIn s) (codec.schedule-taken s a .part .nodes) .1)
 
-  module _ (m : Machine) (begun : m ≡ startOf (d .image) (getD s 5 0)) where
-    pub start-small : m .n ≤ 64
-    unfolding startWith
-    start-small = omega (arith, ap (λ (x : Machine). x .n) begun, nodes-small)
+  pub going-begun : (rows : List Row) → rows ≡ openedRows (g .machine) → Going s (g .place) (g .machine) rows
+  going-begun rows e =
+      subst (Going s (g .place) (g .machine)) (sym e)
+      (subst (λ (i : ℕ). Going s i (g .machine) (openedRows (g .machine))) (ap (λ (x : Running). x .place) (sym is))
+      (going-start s (g .machine) (ap (λ (x : Running). x .machine) is) start-small))
 
-    pub going-begun : (rows : List Row) → rows ≡ openedRows m → Going s 0 m rows
-    going-begun rows e = subst (Going s 0 m) (sym e) (going-start s m (begun ∙ start-is s d is) start-small)
+-- ---- the loop
+
+-- what holds of a run on its way and its rows
+abbrev pub Under : List ℕ → Running → List Row → Type 0
+Under s g rows = (g .place ≤ g .count) × Going s (g .place) (g .machine) rows × Reached s g
+
+pub under-begun : (s : List ℕ) → accepted (scheduleAnswer s) ≡ true → (g : Running) → g ≡ openedRun s → (rows : List Row) → rows ≡ openedRows (g .machine) → Under s g rows
+under-begun s a g is rows e = (
+  subst (λ (x : Running). x .place ≤ x .count) (sym is) (omega arith),
+  going-begun s a g is rows e,
+  subst (Reached s) (sym is) (reached-opened s a),
+)
+
+pub under-next : (s : List ℕ) (g : Running) (rows : List Row) → Under s g rows → g .place < g .count → (r : Running) → r ≡ forwardRun s g
+    → (t : Bool) → t ≡ accepted (r .answer) → not t ≡ false → (x : List Row) → x ≡ rowsAfter rows (r .event) (actedOf r) → Under s r x
+under-next s g rows u below r is t told h x q =
+    let a = subst (λ (z : Running). accepted (z .answer) ≡ true) is (sym told ∙ taken-of t h) in (
+      subst (λ (z : Running). z .place ≤ z .count) (sym is) (omega arith),
+      going-on s g rows (u .1) (u .2 .count) below r is t told h x q,
+      subst (Reached s) (sym is) (reached-next s g (u .2) a),
+    )
+
+-- the events left are fewer
+pub less : (s : List ℕ) (g : Running) → g .place < g .count → (r : Running) → r ≡ forwardRun s g → r .count - r .place < g .count - g .place
+less s g below r is = subst (λ (z : Running). z .count - z .place < g .count - g .place) (sym is) (omega arith)

@@ -4,25 +4,17 @@ use mathlib.Core.Path.{_≡_}
 use mathlib.Core.Bool.{Bool, true}
 use mathlib.Core.List.{List}
 use lib.ListN.{drop}
-use Rattle.lists.specs.Tab.{tab}
 use Rattle.answer.specs.Answers.{accepted}
 use Rattle.machine.specs.declared.Machine.{Machine}
-use Rattle.schedule.specs.Layout.{scheduleIn, eventIn, eventsIn}
-use Rattle.schedule.specs.Run.{Ran, Bench, run, ran, opened}
+use Rattle.schedule.specs.Layout.{eventsIn}
+use Rattle.schedule.specs.Run.{run, ran}
+use Rattle.schedule.specs.Running.{benchTo, ranTo}
 use Rattle.page.specs.Refusals.{tableIn}
 use Rattle.endtable.specs.Tables.{Tables}
-use Rattle.endtable.specs.Benches.{Stands, benchAt}
+use Rattle.endtable.specs.Benches.{Stands}
 use Rattle.pages.specs.Rows.{atsOf, countsOf}
 use Rattle.pages.specs.declared.rows.Row.{Row}
 use Rattle.pages.specs.declared.running.Run.{Run}
-
--- the bench after the first i events
-abbrev pub benchTo : List ℕ → ℕ → Bench
-benchTo s i = benchAt (opened (scheduleIn s)) (eventIn s) i
-
--- the run of the first i events
-abbrev pub ranTo : List ℕ → ℕ → Ran
-ranTo s i = run 0 (opened (scheduleIn s)) (tab (eventIn s) i)
 
 -- the first i events were taken, and left the machine m and the rows; what is left of the run gives what the whole run gives
 pub record Going (s : List ℕ) (i : ℕ) (m : Machine) (rows : List Row) : Type 0 where

@@ -9,8 +9,10 @@ use crate::rows::opened_rows;
 use crate::rows::row_joined;
 use answer::Answer;
 use endtable::opened::cached_at;
-use endtable::touch::touched;
+use endtable::touched::touched_row;
 use machine::Machine;
+use onward::forward;
+use onward::opened;
 use schedule::Schedule;
 
 pub struct Run {
@@ -24,17 +26,13 @@ pub fn run_events(s: &[u8], d: Schedule) -> Run
     requires { ⌜ (accepted (scheduleAnswer (now s)) ≡ true) × (d ≡ scheduleIn (now s)) ⌝ }
     ensures { λ r. ⌜ RunIs (now (s .entry)) r ⌝ }
 {
-    let t = s[5];
-    let g = d.image;
-    let n = g.n as usize;
-    let count = d.count as usize;
-    let mut m = machine::start::start(g, t);
-    let mut rows = opened_rows(m);
-    let mut i = 0;
-    while i < count {
-        let e = codec::event_at(s, n, i);
-        let out = events::act(i as u32, m, e);
-        let a = out.answer;
+    let mut g = opened(s, d);
+    let begun = g.machine;
+    let mut rows = opened_rows(begun);
+    while g.place < g.count {
+        let next = forward(s, g);
+        let a = next.answer;
+        let m = next.machine;
         if !answer::is_taken(a) {
             return Run {
                 answer: a,
@@ -42,14 +40,14 @@ pub fn run_events(s: &[u8], d: Schedule) -> Run
                 rows,
             };
         }
-        let next = out.machine;
-        let w = touched(m, e);
-        m = next;
-        i += 1;
+        g = next;
+        let e = next.event;
         if e.kind == 5 {
             rows = opened_rows(m);
             continue;
         }
+        let touch = next.touch;
+        let w = touched_row(m.n, touch);
         let l = w.line;
         if 65 <= l {
             continue;
@@ -57,9 +55,10 @@ pub fn run_events(s: &[u8], d: Schedule) -> Run
         let row = rows[l];
         rows[l] = row_joined(row, cached_at(m, l), w.persisted);
     }
+    let machine = g.machine;
     Run {
         answer: Answer::Taken,
-        machine: m,
+        machine,
         rows,
     }
 }

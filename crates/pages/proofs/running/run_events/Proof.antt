@@ -1,111 +1,75 @@
-use borrow.Author.Needs.{needs}
 use native.Mathlib.Omega.{arith}
 use mathlib.Core.Path.{_∙_}
-use Prim.Native.Nat.{_-_, _≤_, _<_}
-use Rattle.schedule.specs.Layout.{countIn}
-use Rattle.codec.proofs.Accepted as codec
-use Rattle.pages.specs.Going.{Going}
+use Prim.Native.Nat.{_-_}
+use borrow.Author.Needs.{needs}
 use Rattle.pages.proofs.GoingLaws as laws
 use Rattle.pages.proofs.RowLaws as rows
 use Rattle.pages.proofs.running.run_events.Statement.{statement}
 use Rattle.pages.proofs.running.run_events.Tie as tie
-use Rattle.pages.proofs.running.run_events.Reads as reads
-use Rattle.pages.proofs.running.run_events.Lts as lts
-use Rattle.codec.proofs.event_at.Reads as event-at-reads
-use Rattle.events.proofs.act.Reads as act-reads
-use Rattle.machine.proofs.start.start.Reads as start-reads
-use Rattle.pages.proofs.rows.opened_rows.Reads as opened-rows-reads
-use Rattle.pages.proofs.rows.row_joined.Reads as row-joined-reads
-use Rattle.endtable.proofs.opened.cached_at.Reads as cached-at-reads
-use Rattle.endtable.proofs.touch.touched.Reads as touched-reads
 
 abbrev Inv-loop : tie.InvT-loop
-Inv-loop s t n count m₀ rows₀ i₀ m rows i = (i ≤ count) × Going s i m rows
+Inv-loop s g₀ rows₀ g rows = laws.Under s g rows
 
 abbrev μ-loop : tie.MeasureT-loop
-μ-loop s t n count m₀ rows₀ i₀ m rows i = count - i
+μ-loop s g₀ rows₀ g rows = g .count - g .place
 
-shared-slice-read-t : tie.Need-shared-slice-read-t Inv-loop μ-loop
-shared-slice-read-t c = omega (arith, codec.schedule-taken (c .before .before .args .s .now) (c .before .before .pre .0) .long)
-
-cast-n : tie.Need-cast-n Inv-loop μ-loop
-cast-n c = search needs
-
-cast-count : tie.Need-cast-count Inv-loop μ-loop
-cast-count c = search needs
-
-start-requires : tie.Need-start-requires Inv-loop μ-loop
-start-requires c κs = let z = c .before .before .before .before .before in laws.nodes-small (z .args .s .now) (z .args .d) (z .pre .1) (z .pre .0)
+opened-requires : tie.Need-opened-requires Inv-loop μ-loop
+opened-requires c κs = c .before .pre
 
 opened-rows-requires : tie.Need-opened-rows-requires Inv-loop μ-loop
-opened-rows-requires c κs = let z = c .before .before .before .before .before .before in laws.start-small (z .args .s .now) (z .args .d) (z .pre .1) (z .pre .0) (c .start .result) (c .start .ensures)
+opened-rows-requires c κs = let z = c .before .before .before in laws.start-small (z .args .s .now) (z .pre .0) (c .before .opened .result) (c .before .opened .ensures)
 
 loop-holds : tie.Need-loop-holds Inv-loop μ-loop
-loop-holds c = let z = c .before .before .before .before .before .before .before in (omega arith, laws.going-begun (z .args .s .now) (z .args .d) (z .pre .1) (z .pre .0) (c .before .start .result) (c .before .start .ensures) (c .opened-rows .result) (c .opened-rows .ensures))
+loop-holds c =
+    let z = c .before .before .before .before in
+    let o = c .before .before .opened in
+    laws.under-begun (z .args .s .now) (z .pre .0) (o .result) (o .ensures) (c .opened-rows .result) (c .opened-rows .ensures)
 
-event-at-requires : tie.Need-event-at-requires Inv-loop μ-loop
-event-at-requires c κs = let z = c .before .before .before .before .before .before .before .before .before in let lt : c .before .loop .i < countIn (z .args .s .now) = omega (arith, laws.count-is (z .args .s .now) (z .args .d) (z .pre .1)) in omega (arith, laws.nodes-is (z .args .s .now) (z .args .d) (z .pre .1), codec.event-fits (z .args .s .now) (c .before .loop .i) (z .pre .0) lt)
-
-cast-act : tie.Need-cast-act Inv-loop μ-loop
-cast-act c = let z = c .before .before .before .before .before .before .before .before .before .before in omega (arith, laws.count-is (z .args .s .now) (z .args .d) (z .pre .1), codec.schedule-taken (z .args .s .now) (z .pre .0) .count)
-
-act-requires : tie.Need-act-requires Inv-loop μ-loop
-act-requires c κs = let z = c .before .before .before .before .before .before .before .before .before .before in let p = c .before .before .loop in laws.going-range (z .args .s .now) (p .i) (p .m) (p .rows) (p .inv .1) (λ j. omega (arith, c .before .before .before .before .before .before .before .before .before .shared-slice-known .given j)) (z .pre .0)
+forward-requires : tie.Need-forward-requires Inv-loop μ-loop
+forward-requires c κs = (c .before .before .loop .inv .2, c .if1 .taken)
 
 is-taken-requires : tie.Need-is-taken-requires Inv-loop μ-loop
 is-taken-requires c κs = tt
 
 returns : tie.Need-returns Inv-loop μ-loop
 returns c =
-    let z = c .before .before .before .before .before .before .before .before .before .before .before .before .before in
-    let p = c .before .before .before .before .before .loop in
+    let p = c .before .before .before .before .before .before .loop in
+    let r = c .before .before .before .forward in
     let k = c .before .is-taken in
-    let o = c .before .before .act in
-    let e = c .before .before .before .event-at in
-    laws.going-stop (z .args .s .now) (z .args .d) (z .pre .1) (p .i) (p .m) (p .rows) (p .inv .1) (omega arith) (e .result) (o .result) (k .result) (e .ensures) (o .ensures) (k .ensures) (c .if1 .taken)
-
-touched-requires : tie.Need-touched-requires Inv-loop μ-loop
-touched-requires c κs = search needs
-
-add-i : tie.Need-add-i Inv-loop μ-loop
-add-i c = omega arith
+    laws.going-stop (c .before .before .before .before .before .before .before .before .before .before .before .args .s .now) (p .g) (p .rows) (p .inv .1) (p .inv .2 .count) (c .before .before .before .before .if1 .taken) (r .result) (r .ensures) (k .result) (k .ensures) (c .if2 .taken) (r .result .machine)
 
 opened-rows-requires-2 : tie.Need-opened-rows-requires-2 Inv-loop μ-loop
 opened-rows-requires-2 c κs =
-    let x = c .before .before .before .before in
-    let z = x .before .before .before .before .before .before .before .before .before .before .before .before .before in
-    let p = x .before .before .before .before .before .loop in
-    let k = x .before .is-taken in
-    let o = x .before .before .act in
-    let e = x .before .before .before .event-at in
-    laws.going-on-small (z .args .s .now) (z .args .d) (z .pre .1) (p .i) (p .m) (p .rows) (p .inv .1) (omega arith) (e .result) (o .result) (k .result) (e .ensures) (o .ensures) (k .ensures) (x .if1 .left)
+    let p = c .before .before .before .before .before .before .before .before .before .loop in
+    let r = c .before .before .before .before .before .before .forward in
+    let k = c .before .before .before .before .is-taken in
+    laws.going-on-small (c .before .before .before .before .before .before .before .before .before .before .before .before .before .before .args .s .now) (p .g) (p .rows) (p .inv .1) (p .inv .2 .count) (c .before .before .before .before .before .before .before .if1 .taken) (r .result) (r .ensures) (k .result) (k .ensures) (c .before .before .before .if2 .left)
 
 loop-less : tie.Need-loop-less Inv-loop μ-loop
-loop-less c = omega arith
+loop-less c = let p = c .before .before .before .before .before .before .before .before .before .before .loop in let r = c .before .before .before .before .before .before .before .forward in laws.less (c .before .before .before .before .before .before .before .before .before .before .before .before .before .before .before .args .s .now) (p .g) (c .before .before .before .before .before .before .before .before .if1 .taken) (r .result) (r .ensures)
 
 loop-again : tie.Need-loop-again Inv-loop μ-loop
 loop-again c =
-    let x = c .before .before .before .before .before in
-    let z = x .before .before .before .before .before .before .before .before .before .before .before .before .before in
-    let p = x .before .before .before .before .before .loop in
-    let k = x .before .is-taken in
-    let o = x .before .before .act in
-    let e = x .before .before .before .event-at in
-    (omega arith, laws.going-on (z .args .s .now) (z .args .d) (z .pre .1) (p .i) (p .m) (p .rows) (p .inv .1) (omega arith) (e .result) (o .result) (k .result) (e .ensures) (o .ensures) (k .ensures) (x .if1 .left) (c .opened-rows2 .result) (c .opened-rows2 .ensures ∙ rows.after-crash (p .rows) (p .m) (e .result) (o .result .machine) (c .before .if2 .taken)))
+    let p = c .before .before .before .before .before .before .before .before .before .before .loop in
+    let r = c .before .before .before .before .before .before .before .forward in
+    let k = c .before .before .before .before .before .is-taken in
+    laws.under-next (c .before .before .before .before .before .before .before .before .before .before .before .before .before .before .before .args .s .now) (p .g) (p .rows) (p .inv) (c .before .before .before .before .before .before .before .before .if1 .taken) (r .result) (r .ensures) (k .result) (k .ensures) (c .before .before .before .before .if2 .left) (c .opened-rows2 .result)
+    (c .opened-rows2 .ensures ∙ rows.after-crash (p .rows) (r .result .event) (laws.actedOf (r .result)) (c .before .if3 .taken))
+
+touched-row-requires : tie.Need-touched-row-requires Inv-loop μ-loop
+touched-row-requires c κs = search needs
 
 loop-less-2 : tie.Need-loop-less-2 Inv-loop μ-loop
-loop-less-2 c = omega arith
+loop-less-2 c = let p = c .before .before .before .before .before .before .before .before .before .before .before .loop in let r = c .before .before .before .before .before .before .before .before .forward in laws.less (c .before .before .before .before .before .before .before .before .before .before .before .before .before .before .before .before .args .s .now) (p .g) (c .before .before .before .before .before .before .before .before .before .if1 .taken) (r .result) (r .ensures)
 
 loop-again-2 : tie.Need-loop-again-2 Inv-loop μ-loop
 loop-again-2 c =
-    let w = c .before .before .before .touched in
-    let x = c .before .before .before .before .before in
-    let z = x .before .before .before .before .before .before .before .before .before .before .before .before .before in
-    let p = x .before .before .before .before .before .loop in
-    let k = x .before .is-taken in
-    let o = x .before .before .act in
-    let e = x .before .before .before .event-at in
-    (omega arith, laws.going-on (z .args .s .now) (z .args .d) (z .pre .1) (p .i) (p .m) (p .rows) (p .inv .1) (omega arith) (e .result) (o .result) (k .result) (e .ensures) (o .ensures) (k .ensures) (x .if1 .left) (p .rows) (rows.after-none (p .rows) (p .m) (e .result) (o .result .machine) (c .before .if2 .left) (w .result) (w .ensures) (c .if3 .taken)))
+    let p = c .before .before .before .before .before .before .before .before .before .before .before .loop in
+    let r = c .before .before .before .before .before .before .before .before .forward in
+    let k = c .before .before .before .before .before .before .is-taken in
+    let w = c .before .touched-row in
+    laws.under-next (c .before .before .before .before .before .before .before .before .before .before .before .before .before .before .before .before .args .s .now) (p .g) (p .rows) (p .inv) (c .before .before .before .before .before .before .before .before .before .if1 .taken) (r .result) (r .ensures) (k .result) (k .ensures) (c .before .before .before .before .before .if2 .left) (p .rows)
+    (rows.after-none (p .rows) (r .result .event) (laws.actedOf (r .result)) (c .before .before .if3 .left) (w .result) (w .ensures) (c .if4 .taken))
 
 mul-row : tie.Need-mul-row Inv-loop μ-loop
 mul-row c = omega arith
@@ -126,23 +90,21 @@ array-set-from-rows : tie.Need-array-set-from-rows Inv-loop μ-loop
 array-set-from-rows c = omega arith
 
 loop-less-3 : tie.Need-loop-less-3 Inv-loop μ-loop
-loop-less-3 c = omega arith
+loop-less-3 c = let p = c .before .before .before .before .before .before .before .before .before .before .before .before .before .before .loop in let r = c .before .before .before .before .before .before .before .before .before .before .before .forward in laws.less (c .before .before .before .before .before .before .before .before .before .before .before .before .before .before .before .before .before .before .before .args .s .now) (p .g) (c .before .before .before .before .before .before .before .before .before .before .before .before .if1 .taken) (r .result) (r .ensures)
 
 loop-again-3 : tie.Need-loop-again-3 Inv-loop μ-loop
 loop-again-3 c =
-    let l = c .before .before .before in
-    let w = l .before .before .before .touched in
-    let x = l .before .before .before .before .before in
-    let z = x .before .before .before .before .before .before .before .before .before .before .before .before .before in
-    let p = x .before .before .before .before .before .loop in
-    let k = x .before .is-taken in
-    let o = x .before .before .act in
-    let e = x .before .before .before .event-at in
-    let lt = x .before .before .before .before .loop-test .taken in
-    (omega (arith, lt), laws.going-on (z .args .s .now) (z .args .d) (z .pre .1) (p .i) (p .m) (p .rows) (p .inv .1) lt (e .result) (o .result) (k .result) (e .ensures) (o .ensures) (k .ensures) (x .if1 .left) _ (rows.after-touch (p .rows) (p .m) (e .result) (o .result .machine) (l .before .if2 .left) (w .result) (w .ensures) (l .if3 .left) (c .before .cached-at .result) (c .before .cached-at .ensures) (c .row-joined .result) (c .row-joined .ensures)))
+    let p = c .before .before .before .before .before .before .before .before .before .before .before .before .before .before .loop in
+    let r = c .before .before .before .before .before .before .before .before .before .before .before .forward in
+    let k = c .before .before .before .before .before .before .before .before .before .is-taken in
+    let w = c .before .before .before .before .touched-row in
+    laws.under-next (c .before .before .before .before .before .before .before .before .before .before .before .before .before .before .before .before .before .before .before .args .s .now) (p .g) (p .rows) (p .inv) (c .before .before .before .before .before .before .before .before .before .before .before .before .if1 .taken) (r .result) (r .ensures) (k .result) (k .ensures) (c .before .before .before .before .before .before .before .before .if2 .left) _
+    (rows.after-touch (p .rows) (r .result .event) (laws.actedOf (r .result)) (c .before .before .before .before .before .if3 .left) (w .result) (w .ensures) (c .before .before .before .if4 .left) (c .before .cached-at .result) (c .before .cached-at .ensures) (c .row-joined .result) (c .row-joined .ensures))
 
 returns-2 : tie.Need-returns-2 Inv-loop μ-loop
-returns-2 c = let z = c .before .before .before .before .before .before .before .before .before in let p = c .before .loop in laws.going-end (z .args .s .now) (p .i) (p .m) (p .rows) (p .inv .1) (omega (arith, laws.count-is (z .args .s .now) (z .args .d) (z .pre .1)))
+returns-2 c =
+    let p = c .before .before .before .loop in
+    laws.going-end (c .before .before .before .before .before .before .before .before .args .s .now) (p .g .place) (p .g .machine) (p .rows) (p .inv .1) (omega (arith, p .inv .2 .count, c .before .if1 .left))
 
 pub run-events-spec : {M : Type 1} → statement M
 run-events-spec =
@@ -150,22 +112,16 @@ run-events-spec =
     (tie.spec
     Inv-loop
     μ-loop
-    shared-slice-read-t
-    cast-n
-    cast-count
-    start-requires
+    opened-requires
     opened-rows-requires
     loop-holds
-    event-at-requires
-    cast-act
-    act-requires
+    forward-requires
     is-taken-requires
     returns
-    touched-requires
-    add-i
     opened-rows-requires-2
     loop-less
     loop-again
+    touched-row-requires
     loop-less-2
     loop-again-2
     mul-row
