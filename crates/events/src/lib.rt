@@ -29,7 +29,10 @@ pub fn on_event(m: Machine, e: Event) -> Out
             machine: m,
         };
     }
-    act(0, m, e)
+    let r = act(0, m, e);
+    let answer = r.answer;
+    let machine = r.machine;
+    Out { answer, machine }
 }
 
 // The same on the record that the caller keeps. A refused event leaves it as it was.
