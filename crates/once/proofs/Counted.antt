@@ -18,16 +18,18 @@ use Rattle.answer.specs.declared.Answer.the-variants.{Taken}
 use Rattle.image.specs.declared.Image.{Image}
 use Rattle.machine.specs.Record.{thread, zeroThread, idleThread, idleThreads, putThread}
 use Rattle.machine.specs.Stage.{Stage, noStep, A1, D1, stageOf, number, stage}
-use Rattle.machine.specs.Line.{Line, ofHead, ofNode, lineAt, persist, persisted}
+use Rattle.machine.specs.Line.{lineAt, persist, persisted}
+use Rattle.machine.specs.declared.Line.{Line}
+use Rattle.machine.specs.declared.Line.the-variants.{OfHead as ofHead, OfNode as ofNode}
 use Rattle.machine.specs.Start.{startOf, startWith}
-use Rattle.machine.specs.Retire.{out}
+use Rattle.machine.specs.Retire.{quiet}
 use Rattle.machine.specs.Event.{Deed, unknown, enqueues, dequeues, steps, writesBack, crashes, deedOf, eventAnswer, ifTaken, done, begun, stepped, eventAt}
 use Rattle.machine.specs.declared.Machine.{Machine}
 use Rattle.machine.specs.declared.Event.{Event}
-use Rattle.machine.specs.declared.Out.{Out}
+use Rattle.machine.specs.declared.Acted.{Acted}
 use Rattle.machine.specs.declared.Thread.{Thread}
 use Rattle.schedule.specs.Layout.{scheduleIn, eventsIn}
-use Rattle.schedule.specs.Run.{Bench, Ran, Touched, persists, stepPersists, turned, andBefore, run, opened, ran}
+use Rattle.schedule.specs.Run.{Bench, Ran, turned, forward, andBefore, run, opened, ran}
 use Rattle.once.specs.Once.{counts, touchOf, countBy, countsAfter, Answered, replies, noted, answeredBy, answered, due, Once, Each, OnePersistEach}
 use Rattle.once.proofs.Flow.{sofar, Agrees, sure, no-thread, put-own, put-idle, Goes, step-own, Spares, spared, step-spares}
 
@@ -40,8 +42,8 @@ Kept m c = (u : ℕ) → Agrees (stage m u) (c u)
 -- the count where e answered is due; and the counts behind it agree again
 abbrev Counted : Machine → Event → (ℕ → ℕ) → Deed → Type 0
 Counted m e c d =
-    (replies (done m e d .answer) ≡ true → countBy (c (e .number)) (persists m e d) d ≡ due (done m e d .answer))
-    × ((u : ℕ) → Agrees (stage (done m e d .machine) u) (pick (eqb u (e .number)) (countBy (c u) (persists m e d) d) (c u)))
+    (replies (done m e d .answer) ≡ true → countBy (c (e .number)) (done m e d .touch) d ≡ due (done m e d .answer))
+    × ((u : ℕ) → Agrees (stage (done m e d .machine) u) (pick (eqb u (e .number)) (countBy (c u) (done m e d .touch) d) (c u)))
 
 -- one of two counts, by whether the thread is the event's
 by-thread : (m′ : Machine) (k u x y : ℕ) → (u ≡ k → Agrees (stage m′ u) x) → ((u ≡ k → ⊥) → Agrees (stage m′ u) y) → Agrees (stage m′ u) (pick (eqb u k) x y)
@@ -84,8 +86,8 @@ started m k s v = record { step = s; node = 255; tail = 255; head = 255; index =
 -- what is to be shown of a step of thread k, which stands at s
 abbrev Stepped : Machine → ℕ → (ℕ → ℕ) → Stage → Type 0
 Stepped m k c s =
-    Goes (stepped m k s) (c k + counts (stepPersists m k s)) k
-    × ((u : ℕ) → Agrees (stage (stepped m k s .machine) u) (pick (eqb u k) (c u + counts (stepPersists m k s)) (c u)))
+    Goes (stepped m k s) (c k) k
+    × ((u : ℕ) → Agrees (stage (stepped m k s .machine) u) (pick (eqb u k) (c u + counts (stepped m k s .touch)) (c u)))
 
 -- a thread that has none
 idle-counted : (m : Machine) (k : ℕ) (c : ℕ → ℕ) → stage m k ≡ noStep → Kept m c → Stepped m k c noStep
@@ -95,8 +97,8 @@ idle-counted m k c e i =
 busy-counted : (m : Machine) (k : ℕ) (c : ℕ → ℕ) (s : Stage) → stage m k ≡ s → k < length (m .threads) → c k ≡ sofar s → Kept m c → Stepped m k c s
 busy-counted m k c s e h q i = let r = step-own m k (c k) s e h q in (
   r,
-  λ u. by-thread (stepped m k s .machine) k u (c u + counts (stepPersists m k s)) (c u)
-      (λ z. subst (λ (u : ℕ). Agrees (stage (stepped m k s .machine) u) (c u + counts (stepPersists m k s))) (sym z) (r .1))
+  λ u. by-thread (stepped m k s .machine) k u (c u + counts (stepped m k s .touch)) (c u)
+      (λ z. subst (λ (u : ℕ). Agrees (stage (stepped m k s .machine) u) (c u + counts (stepped m k s .touch))) (sym z) (r .1))
       (λ ne. stage-same m (stepped m k s .machine) u (c u) (spared m (stepped m k s .machine) k u (step-spares m k s) ne) (i u)),
 )
 
@@ -126,8 +128,8 @@ counted m e c crashes i =
 -- ---- an event of a run
 
 -- an event that is not refused is done
-abbrev chosen : Answer → Machine → Event → Deed → Bool → Out
-chosen a m e d b = elim b [ true ↦ done m e d | false ↦ out a m ]
+abbrev chosen : Answer → Machine → Event → Deed → Bool → Acted
+chosen a m e d b = elim b [ true ↦ done m e d | false ↦ quiet a m ]
 
 chosen-done : (a : Answer) (m : Machine) (e : Event) (d : Deed) (b : Bool) → accepted a ≡ b → accepted (chosen a m e d b .answer) ≡ true → chosen a m e d b ≡ done m e d
 chosen-done a m e d true z h = refl
@@ -141,37 +143,44 @@ event-done p m e h =
 
 module _ (p : ℕ) (m : Machine) (e : Event) (c : ℕ → ℕ) (taken : accepted (eventAt p m e .answer) ≡ true) (i : Kept m c) where
   abbrev c′ : ℕ → ℕ
-  c′ = countsAfter c (touchOf m e) e
+  c′ = countsAfter c (touchOf p m e) e
 
-  own-count : c′ (e .number) ≡ countBy (c (e .number)) (touchOf m e) (deedOf (e .kind))
+  own-count : c′ (e .number) ≡ countBy (c (e .number)) (touchOf p m e) (deedOf (e .kind))
   own-count = rw (eq-eqb (e .number) (e .number) refl) refl
 
+  -- what is so of the event as it is done is so of it in the run
+  abbrev So : Acted → Type 0
+  So o =
+      (replies (o .answer) ≡ true → countBy (c (e .number)) (o .touch) (deedOf (e .kind)) ≡ due (o .answer))
+      × Kept (o .machine) (countsAfter c (o .touch) e)
+
+  so : So (eventAt p m e)
+  so = subst So (sym (event-done p m e taken)) (counted m e c (deedOf (e .kind)) i)
+
   event-due : replies (eventAt p m e .answer) ≡ true → c′ (e .number) ≡ due (eventAt p m e .answer)
-  event-due z =
-      let q = ap (λ (o : Out). o .answer) (event-done p m e taken) in
-      own-count ∙ counted m e c (deedOf (e .kind)) i .0 (ap replies (sym q) ∙ z) ∙ ap due (sym q)
+  event-due z = own-count ∙ so .0 z
 
   event-kept : Kept (eventAt p m e .machine) c′
-  event-kept = subst (λ (o : Out). Kept (o .machine) c′) (sym (event-done p m e taken)) (counted m e c (deedOf (e .kind)) i .1)
+  event-kept = so .1
 
 -- the bench goes on with the machine that the event left
-bench-now : (b : Bench) (m′ : Machine) (e : Event) (d : Deed) → m′ ≡ done (b .machine) e d .machine → turned b m′ e d .machine ≡ m′
-bench-now b m′ e unknown q = sym q
-bench-now b m′ e enqueues q = refl
-bench-now b m′ e dequeues q = refl
-bench-now b m′ e steps q = refl
-bench-now b m′ e writesBack q = refl
-bench-now b m′ e crashes q = refl
+bench-now : (b : Bench) (o : Acted) (e : Event) (d : Deed) → o .machine ≡ done (b .machine) e d .machine → turned b o d .machine ≡ o .machine
+bench-now b o e unknown q = sym q
+bench-now b o e enqueues q = refl
+bench-now b o e dequeues q = refl
+bench-now b o e steps q = refl
+bench-now b o e writesBack q = refl
+bench-now b o e crashes q = refl
 
 -- ---- the run
 
 -- a run that no refusal ended took its first event, and the rest
 module _ (p : ℕ) (b : Bench) (e : Event) (l : List Event) where
-  abbrev first : Out
+  abbrev first : Acted
   first = eventAt p (b .machine) e
 
   abbrev rest : Ran
-  rest = run (suc p) (turned b (first .machine) e (deedOf (e .kind))) l
+  rest = run (suc p) (forward p b e) l
 
   abbrev either : Bool → Ran
   either t = elim t [ true ↦ andBefore (first .answer) rest | false ↦ record { answer = first .answer; replies = []; bench = b } ]
@@ -198,9 +207,9 @@ each-once p b c [] h i = tt
 each-once p b c (e ∷ l) h i =
     let t = run-taken p b e l h in
     let o = eventAt p (b .machine) e in
-    let b′ = turned b (o .machine) e (deedOf (e .kind)) in
-    let c″ = countsAfter c (touchOf (b .machine) e) e in
-    let now : b′ .machine ≡ o .machine = bench-now b (o .machine) e (deedOf (e .kind)) (ap (λ (o : Out). o .machine) (event-done p (b .machine) e (t .0))) in
+    let b′ = forward p b e in
+    let c″ = countsAfter c (touchOf p (b .machine) e) e in
+    let now : b′ .machine ≡ o .machine = bench-now b o e (deedOf (e .kind)) (ap (λ (o : Acted). o .machine) (event-done p (b .machine) e (t .0))) in
     noted-each p (e .number) (o .answer) (c″ (e .number)) (answeredBy touchOf (suc p) (o .machine) c″ l) (event-due p (b .machine) e c (t .0) i)
     (subst (λ (m : Machine). Each Once (answeredBy touchOf (suc p) m c″ l)) now
     (each-once (suc p) b′ c″ l (t .1) (subst (λ (m : Machine). Kept m c″) (sym now) (event-kept p (b .machine) e c (t .0) i))))

@@ -16,13 +16,15 @@ use Rattle.answer.specs.declared.Answer.{Answer}
 use Rattle.answer.specs.declared.Answer.the-variants.{Taken, Done, Full, WornOut, Item, Empty}
 use Rattle.machine.specs.Record.{none, top, node, headAt, thread, zeroThread, atStep, idleThread, ownNode, readTail, readHead, readNext, readItem, withItem, withNext, withLinked, withIndex, putNode, putTail, putFree, putHead, putThread}
 use Rattle.machine.specs.Stage.{Stage, noStep, A1, A2, A3, A4, A5, A6, A7, A8, A9, A10, A11, A12, D1, D2, D3, D4, D5, D6, D7, stageOf, number, stage}
-use Rattle.machine.specs.Line.{ofHead, ofNode, persist}
-use Rattle.machine.specs.Retire.{out, moving, going, answering, nextFree, freed, releasedAt, released, retired, retiredHeld}
+use Rattle.machine.specs.Line.{persist}
+use Rattle.machine.specs.declared.Line.the-variants.{OfHead as ofHead, OfNode as ofNode}
+use Rattle.machine.specs.Retire.{quiet, storing, persisting, moving, going, answering, nextFree, freed, releasedAt, released, retired, retiredHeld}
 use Rattle.machine.specs.Event.{stepped}
 use Rattle.machine.specs.declared.Machine.{Machine}
-use Rattle.machine.specs.declared.Out.{Out}
+use Rattle.machine.specs.declared.Acted.{Acted}
+use Rattle.machine.specs.declared.Touch.{Touch}
+use Rattle.machine.specs.declared.Touch.the-variants.{Nothing as nothing, Store as aStore, Persist as aPersist}
 use Rattle.machine.specs.declared.Thread.{Thread}
-use Rattle.schedule.specs.Run.{stepPersists}
 use Rattle.once.specs.Once.{counts, replies, due}
 
 -- ---- what a thread has performed where it stands: the persist is behind it at A11 and D7 alone
@@ -75,74 +77,88 @@ put-idle ts k v e = by (decLt k (length ts))
 
 -- ---- a step and its own thread
 
--- y is the count behind the step: what is due where it answered, and right for where the thread stands now
-abbrev pub Goes : Out → ℕ → ℕ → Type 0
-Goes o y k = (replies (o .answer) ≡ true → y ≡ due (o .answer)) × Agrees (stage (o .machine) k) y
+-- o is what a step of thread k did, which had the count x: the count behind it is what is due where it answered, and right for where the thread stands now
+abbrev pub Goes : Acted → ℕ → ℕ → Type 0
+Goes o x k = (replies (o .answer) ≡ true → x + counts (o .touch) ≡ due (o .answer)) × Agrees (stage (o .machine) k) (x + counts (o .touch))
+
+abbrev acted : Answer → Machine → Touch → Acted
+acted a m w = record { answer = a; machine = m; touch = w }
 
 -- the thread goes on to step s
-moves : (m : Machine) (k : ℕ) (v : Thread) (y : ℕ) (s : Stage) → k < length (m .threads) → stageOf (v .step) ≡ s → y ≡ sofar s → Goes (out Taken (putThread m k v)) y k
-moves m k v y s h e q = (λ z. false-true z, inr (q ∙ ap sofar (sym (put-own (m .threads) k v h ∙ e))))
+moves : (m : Machine) (k : ℕ) (v : Thread) (w : Touch) (x : ℕ) (s : Stage) → k < length (m .threads) → stageOf (v .step) ≡ s → x + counts w ≡ sofar s
+    → Goes (acted Taken (putThread m k v) w) x k
+moves m k v w x s h e q = (λ z. false-true z, inr (q ∙ ap sofar (sym (put-own (m .threads) k v h ∙ e))))
 
 -- the thread answers
-leaves : (a : Answer) (m : Machine) (k x y : ℕ) → y ≡ due a → Goes (out a (putThread m k (idleThread x))) y k
-leaves a m k x y q = (λ _. q, inl (put-idle (m .threads) k (idleThread x) refl))
+leaves : (a : Answer) (m : Machine) (k y : ℕ) (w : Touch) (x : ℕ) → x + counts w ≡ due a → Goes (acted a (putThread m k (idleThread y)) w) x k
+leaves a m k y w x q = (λ _. q, inl (put-idle (m .threads) k (idleThread y) refl))
 
-pick-goes : (b : Bool) (o p : Out) (y k : ℕ) → Goes o y k → Goes p y k → Goes (pick b o p) y k
-pick-goes true o p y k g h = g
-pick-goes false o p y k g h = h
+pick-goes : (b : Bool) (o p : Acted) (x k : ℕ) → Goes o x k → Goes p x k → Goes (pick b o p) x k
+pick-goes true o p x k g h = g
+pick-goes false o p x k g h = h
 
-pub step-own : (m : Machine) (k x : ℕ) (s : Stage) → stage m k ≡ s → k < length (m .threads) → x ≡ sofar s → Goes (stepped m k s) (x + counts (stepPersists m k s)) k
+pub step-own : (m : Machine) (k x : ℕ) (s : Stage) → stage m k ≡ s → k < length (m .threads) → x ≡ sofar s → Goes (stepped m k s) x k
 step-own m k x noStep e h q = (λ z. false-true z, inl e)
 step-own m k x A1 e h q =
-    pick-goes (eqb (m .free) 0) (answering Full m k) (moving (putFree m (without (m .free) (nextFree m))) k (ownNode (thread m k) (nextFree m)) (number A2)) (x + 0) k
-    (leaves Full (released m k (m .n)) k (thread m k .held) (x + 0) (omega (arith, q)))
-    (moves (putFree m (without (m .free) (nextFree m))) k (atStep (ownNode (thread m k) (nextFree m)) 2) (x + 0) A2 h refl (omega (arith, q)))
-step-own m k x A2 e h q = let i = thread m k .node in moves (putNode m i (withItem (node m i) (thread m k .item))) k (atStep (thread m k) 3) (x + 0) A3 h refl (omega (arith, q))
-step-own m k x A3 e h q = let i = thread m k .node in moves (putNode m i (withNext (node m i) none)) k (atStep (thread m k) 4) (x + 0) A4 h refl (omega (arith, q))
-step-own m k x A4 e h q = let i = thread m k .node in moves (putNode m i (withLinked (node m i) 0)) k (atStep (thread m k) 5) (x + 0) A5 h refl (omega (arith, q))
-step-own m k x A5 e h q = moves m k (atStep (readTail (thread m k) (m .tail)) 6) (x + 0) A6 h refl (omega (arith, q))
+    pick-goes (eqb (m .free) 0) (answering Full m k) (moving (putFree m (without (m .free) (nextFree m))) k (ownNode (thread m k) (nextFree m)) (number A2)) x k
+    (leaves Full (released m k (m .n)) k (thread m k .held) nothing x (omega (arith, q)))
+    (moves (putFree m (without (m .free) (nextFree m))) k (atStep (ownNode (thread m k) (nextFree m)) 2) nothing x A2 h refl (omega (arith, q)))
+step-own m k x A2 e h q =
+    let i = thread m k .node in
+    moves (putNode m i (withItem (node m i) (thread m k .item))) k (atStep (thread m k) 3) (aStore (ofNode i)) x A3 h refl (omega (arith, q))
+step-own m k x A3 e h q = let i = thread m k .node in moves (putNode m i (withNext (node m i) none)) k (atStep (thread m k) 4) nothing x A4 h refl (omega (arith, q))
+step-own m k x A4 e h q =
+    let i = thread m k .node in
+    moves (putNode m i (withLinked (node m i) 0)) k (atStep (thread m k) 5) (aStore (ofNode i)) x A5 h refl (omega (arith, q))
+step-own m k x A5 e h q = moves m k (atStep (readTail (thread m k) (m .tail)) 6) nothing x A6 h refl (omega (arith, q))
 step-own m k x A6 e h q = by (eqb (node m (thread m k .tail) .next) none)
   where
-    by : (b : Bool) → Goes (going m k (pick b (number A7) (number A12))) (x + 0) k
-    by true = moves m k (atStep (thread m k) 7) (x + 0) A7 h refl (omega (arith, q))
-    by false = moves m k (atStep (thread m k) 12) (x + 0) A12 h refl (omega (arith, q))
+    by : (b : Bool) → Goes (going m k (pick b (number A7) (number A12))) x k
+    by true = moves m k (atStep (thread m k) 7) nothing x A7 h refl (omega (arith, q))
+    by false = moves m k (atStep (thread m k) 12) nothing x A12 h refl (omega (arith, q))
 step-own m k x A7 e h q =
     let i = thread m k .node in
     let t = thread m k .tail in
-    pick-goes (eqb (node m t .index) top) (answering WornOut (freed m i) k) (going (putNode m i (withIndex (node m i) (node m t .index + 1))) k (number A8)) (x + 0) k
-    (leaves WornOut (released (freed m i) k (m .n)) k (thread m k .held) (x + 0) (omega (arith, q)))
-    (moves (putNode m i (withIndex (node m i) (node m t .index + 1))) k (atStep (thread m k) 8) (x + 0) A8 h refl (omega (arith, q)))
+    pick-goes (eqb (node m t .index) top) (answering WornOut (freed m i) k)
+    (storing (ofNode i) (going (putNode m i (withIndex (node m i) (node m t .index + 1))) k (number A8))) x k
+    (leaves WornOut (released (freed m i) k (m .n)) k (thread m k .held) nothing x (omega (arith, q)))
+    (moves (putNode m i (withIndex (node m i) (node m t .index + 1))) k (atStep (thread m k) 8) (aStore (ofNode i)) x A8 h refl (omega (arith, q)))
 step-own m k x A8 e h q =
     let i = thread m k .node in
     let t = thread m k .tail in
-    pick-goes (eqb (node m t .next) none) (going (putNode m t (withNext (node m t) i)) k (number A9)) (going m k (number A12)) (x + 0) k
-    (moves (putNode m t (withNext (node m t) i)) k (atStep (thread m k) 9) (x + 0) A9 h refl (omega (arith, q)))
-    (moves m k (atStep (thread m k) 12) (x + 0) A12 h refl (omega (arith, q)))
-step-own m k x A9 e h q = let i = thread m k .node in moves (putNode m i (withLinked (node m i) 1)) k (atStep (thread m k) 10) (x + 0) A10 h refl (omega (arith, q))
-step-own m k x A10 e h q = moves (persist m (ofNode (thread m k .node))) k (atStep (thread m k) 11) (x + 1) A11 h refl (omega (arith, q))
+    pick-goes (eqb (node m t .next) none) (going (putNode m t (withNext (node m t) i)) k (number A9)) (going m k (number A12)) x k
+    (moves (putNode m t (withNext (node m t) i)) k (atStep (thread m k) 9) nothing x A9 h refl (omega (arith, q)))
+    (moves m k (atStep (thread m k) 12) nothing x A12 h refl (omega (arith, q)))
+step-own m k x A9 e h q =
+    let i = thread m k .node in
+    moves (putNode m i (withLinked (node m i) 1)) k (atStep (thread m k) 10) (aStore (ofNode i)) x A10 h refl (omega (arith, q))
+step-own m k x A10 e h q =
+    let l = ofNode (thread m k .node) in
+    moves (persist m l) k (atStep (thread m k) 11) (aPersist l) x A11 h refl (omega (arith, q))
 step-own m k x A11 e h q =
     let m′ = pick (eqb (m .tail) (thread m k .tail)) (putTail m (thread m k .node)) m in
-    leaves Done (released m′ k (m′ .n)) k (thread m′ k .held) (x + 0) (omega (arith, q))
+    leaves Done (released m′ k (m′ .n)) k (thread m′ k .held) nothing x (omega (arith, q))
 step-own m k x A12 e h q = by (eqb (m .tail) (thread m k .tail))
   where
-    by : (b : Bool) → Goes (going (pick b (putTail m (node m (thread m k .tail) .next)) m) k (number A5)) (x + 0) k
-    by true = moves (putTail m (node m (thread m k .tail) .next)) k (atStep (thread m k) 5) (x + 0) A5 h refl (omega (arith, q))
-    by false = moves m k (atStep (thread m k) 5) (x + 0) A5 h refl (omega (arith, q))
-step-own m k x D1 e h q = moves m k (atStep (readHead (thread m k) (m .head) (headAt m 0)) 14) (x + 0) D2 h refl (omega (arith, q))
+    by : (b : Bool) → Goes (going (pick b (putTail m (node m (thread m k .tail) .next)) m) k (number A5)) x k
+    by true = moves (putTail m (node m (thread m k .tail) .next)) k (atStep (thread m k) 5) nothing x A5 h refl (omega (arith, q))
+    by false = moves m k (atStep (thread m k) 5) nothing x A5 h refl (omega (arith, q))
+step-own m k x D1 e h q = moves m k (atStep (readHead (thread m k) (m .head) (headAt m 0)) 14) nothing x D2 h refl (omega (arith, q))
 step-own m k x D2 e h q = by (eqb (node m (thread m k .head) .next) none)
   where
-    by : (b : Bool) → Goes (moving m k (readNext (thread m k) (node m (thread m k .head) .next)) (pick b (number D3) (number D4))) (x + 0) k
-    by true = moves m k (atStep (readNext (thread m k) (node m (thread m k .head) .next)) 15) (x + 0) D3 h refl (omega (arith, q))
-    by false = moves m k (atStep (readNext (thread m k) (node m (thread m k .head) .next)) 16) (x + 0) D4 h refl (omega (arith, q))
-step-own m k x D3 e h q = leaves Empty (released (persist m (ofHead 0)) k (m .n)) k (thread m k .held) (x + 1) (omega (arith, q))
+    by : (b : Bool) → Goes (moving m k (readNext (thread m k) (node m (thread m k .head) .next)) (pick b (number D3) (number D4))) x k
+    by true = moves m k (atStep (readNext (thread m k) (node m (thread m k .head) .next)) 15) nothing x D3 h refl (omega (arith, q))
+    by false = moves m k (atStep (readNext (thread m k) (node m (thread m k .head) .next)) 16) nothing x D4 h refl (omega (arith, q))
+step-own m k x D3 e h q = leaves Empty (released (persist m (ofHead 0)) k (m .n)) k (thread m k .held) (aPersist (ofHead 0)) x (omega (arith, q))
 step-own m k x D4 e h q =
     let y = thread m k .next in
-    pick-goes (both (eqb (m .head) (thread m k .head)) (eqb (headAt m 0) (thread m k .index))) (going (putHead m y (node m y .index)) k (number D5)) (going m k (number D1)) (x + 0) k
-    (moves (putHead m y (node m y .index)) k (atStep (thread m k) 17) (x + 0) D5 h refl (omega (arith, q)))
-    (moves m k (atStep (thread m k) 13) (x + 0) D1 h refl (omega (arith, q)))
-step-own m k x D5 e h q = moves m k (atStep (readItem (thread m k) (node m (thread m k .next) .item)) 18) (x + 0) D6 h refl (omega (arith, q))
-step-own m k x D6 e h q = moves (persist m (ofHead 0)) k (atStep (thread m k) 19) (x + 1) D7 h refl (omega (arith, q))
-step-own m k x D7 e h q = leaves (Item (thread m k .item)) (released (retiredHeld m k) k (retiredHeld m k .n)) k (thread m k .head) (x + 0) (omega (arith, q))
+    pick-goes (both (eqb (m .head) (thread m k .head)) (eqb (headAt m 0) (thread m k .index)))
+    (storing (ofHead 0) (going (putHead m y (node m y .index)) k (number D5))) (going m k (number D1)) x k
+    (moves (putHead m y (node m y .index)) k (atStep (thread m k) 17) (aStore (ofHead 0)) x D5 h refl (omega (arith, q)))
+    (moves m k (atStep (thread m k) 13) nothing x D1 h refl (omega (arith, q)))
+step-own m k x D5 e h q = moves m k (atStep (readItem (thread m k) (node m (thread m k .next) .item)) 18) nothing x D6 h refl (omega (arith, q))
+step-own m k x D6 e h q = moves (persist m (ofHead 0)) k (atStep (thread m k) 19) (aPersist (ofHead 0)) x D7 h refl (omega (arith, q))
+step-own m k x D7 e h q = leaves (Item (thread m k .item)) (released (retiredHeld m k) k (retiredHeld m k .n)) k (thread m k .head) nothing x (omega (arith, q))
 
 -- ---- a step and the other threads
 
@@ -163,7 +179,7 @@ released-threads m k (suc c) = released-threads m k c
 left-spares : (m m′ : Machine) (k c x : ℕ) → m′ .threads ≡ m .threads → Spares m k (putThread (released m′ k c) k (idleThread x))
 left-spares m m′ k c x e = inr (idleThread x, ap (λ (ts : List Thread). set ts k (idleThread x)) (released-threads m′ k c ∙ e))
 
-pick-spares : (m : Machine) (k : ℕ) (b : Bool) (o p : Out) → Spares m k (o .machine) → Spares m k (p .machine) → Spares m k (pick b o p .machine)
+pick-spares : (m : Machine) (k : ℕ) (b : Bool) (o p : Acted) → Spares m k (o .machine) → Spares m k (p .machine) → Spares m k (pick b o p .machine)
 pick-spares m k true o p g h = g
 pick-spares m k false o p g h = h
 
@@ -188,7 +204,8 @@ step-spares m k A6 = inr (_, refl)
 step-spares m k A7 =
     let i = thread m k .node in
     let t = thread m k .tail in
-    pick-spares m k (eqb (node m t .index) top) (answering WornOut (freed m i) k) (going (putNode m i (withIndex (node m i) (node m t .index + 1))) k (number A8))
+    pick-spares m k (eqb (node m t .index) top) (answering WornOut (freed m i) k)
+    (storing (ofNode i) (going (putNode m i (withIndex (node m i) (node m t .index + 1))) k (number A8)))
     (left-spares m (freed m i) k (m .n) (thread m k .held) refl) (inr (_, refl))
 step-spares m k A8 =
     let i = thread m k .node in
@@ -209,7 +226,7 @@ step-spares m k D2 = inr (_, refl)
 step-spares m k D3 = left-spares m (persist m (ofHead 0)) k (m .n) (thread m k .held) refl
 step-spares m k D4 =
     let y = thread m k .next in
-    pick-spares m k (both (eqb (m .head) (thread m k .head)) (eqb (headAt m 0) (thread m k .index))) (going (putHead m y (node m y .index)) k (number D5)) (going m k (number D1))
+    pick-spares m k (both (eqb (m .head) (thread m k .head)) (eqb (headAt m 0) (thread m k .index))) (storing (ofHead 0) (going (putHead m y (node m y .index)) k (number D5))) (going m k (number D1))
     (inr (_, refl)) (inr (_, refl))
 step-spares m k D5 = inr (_, refl)
 step-spares m k D6 = inr (_, refl)

@@ -8,11 +8,12 @@ use Rattle.answer.specs.declared.Answer.the-variants.{Done, Full, WornOut, Item
 use Rattle.image.specs.Layout.{noContents, noHeads}
 use Rattle.machine.specs.Record.{top, thread}
 use Rattle.machine.specs.Stage.{A9, number}
-use Rattle.machine.specs.Line.{ofNode}
+use Rattle.machine.specs.declared.Line.the-variants.{OfNode as ofNode}
 use Rattle.machine.specs.Start.{startOf, freshOf}
 use Rattle.machine.specs.declared.Machine.{Machine}
 use Rattle.machine.specs.declared.Event.{Event}
-use Rattle.schedule.specs.Run.{Touched, noLine, aLine}
+use Rattle.machine.specs.declared.Touch.{Touch}
+use Rattle.machine.specs.declared.Touch.the-variants.{Nothing as nothing, Persist as aPersist}
 use Rattle.once.specs.Once.{touchOf, Answered, answeredBy}
 
 -- on thread 0
@@ -36,12 +37,12 @@ four = enqueue 7 ∷ stepping 11 ++ (crash ∷ dequeue ∷ stepping 6 ++ (enqueu
 abbrev pub worn : Machine
 worn = startOf (record { n = 2; heads = set noHeads 0 top; nodes = noContents }) 1
 
-abbrev pub by0 : (Machine → Event → Touched) → Machine → List Event → List Answered
+abbrev pub by0 : (ℕ → Machine → Event → Touch) → Machine → List Event → List Answered
 by0 touches m l = answeredBy touches 0 m (λ k. 0) l
 
 -- a machine that persists at A9 already, and again at A10; and one that persists nowhere
-abbrev pub twice : Machine → Event → Touched
-twice m e = pick (eqb (thread m (e .number) .step) (number A9)) (aLine (ofNode (thread m (e .number) .node))) (touchOf m e)
+abbrev pub twice : ℕ → Machine → Event → Touch
+twice p m e = pick (eqb (thread m (e .number) .step) (number A9)) (aPersist (ofNode (thread m (e .number) .node))) (touchOf p m e)
 
-abbrev pub never : Machine → Event → Touched
-never m e = noLine
+abbrev pub never : ℕ → Machine → Event → Touch
+never p m e = nothing

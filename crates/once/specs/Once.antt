@@ -13,24 +13,26 @@ use Rattle.machine.specs.Event.{Deed, unknown, enqueues, dequeues, steps, write
 use Rattle.machine.specs.Start.{startOf}
 use Rattle.machine.specs.declared.Machine.{Machine}
 use Rattle.machine.specs.declared.Event.{Event}
-use Rattle.machine.specs.declared.Out.{Out}
+use Rattle.machine.specs.declared.Acted.{Acted}
+use Rattle.machine.specs.declared.Touch.{Touch}
+use Rattle.machine.specs.declared.Touch.the-variants.{Nothing as nothing, Store as aStore, Persist as aPersist}
 use Rattle.schedule.specs.Layout.{scheduleIn, eventsIn}
-use Rattle.schedule.specs.Run.{Touched, noLine, aLine, persists}
 use Rattle.schedule.specs.declared.Schedule.{Schedule}
 
 -- ---- persisting steps
 
--- what an event that touched a line so adds to a thread's count, if it is a step: 1 where it persisted the line
-abbrev pub counts : Touched → ℕ
-counts noLine = 0
-counts (aLine l) = 1
+-- what a step adds to its thread's count, by what it touched: 1 where it persisted a line
+abbrev pub counts : Touch → ℕ
+counts nothing = 0
+counts (aStore l) = 0
+counts (aPersist l) = 1
 
--- what event e touches on machine m
-abbrev pub touchOf : Machine → Event → Touched
-touchOf m e = persists m e (deedOf (e .kind))
+-- what event e, at place p of a run, touches on machine m
+abbrev pub touchOf : ℕ → Machine → Event → Touch
+touchOf p m e = eventAt p m e .touch
 
 -- the count x of a thread behind an event on it that touched w: a begin begins anew, a step adds. Write-backs are no steps, nor is a crash
-abbrev pub countBy : ℕ → Touched → Deed → ℕ
+abbrev pub countBy : ℕ → Touch → Deed → ℕ
 countBy x w unknown = x
 countBy x w enqueues = 0
 countBy x w dequeues = 0
@@ -39,7 +41,7 @@ countBy x w writesBack = x
 countBy x w crashes = x
 
 -- the counts of all threads, thread k's being c k, behind an event e that touched w: only the thread that it names has another
-abbrev pub countsAfter : (ℕ → ℕ) → Touched → Event → ℕ → ℕ
+abbrev pub countsAfter : (ℕ → ℕ) → Touch → Event → ℕ → ℕ
 countsAfter c w e k = pick (eqb k (e .number)) (countBy (c k) w (deedOf (e .kind))) (c k)
 
 -- ---- operations that were answered
@@ -60,11 +62,11 @@ abbrev pub noted : ℕ → ℕ → Answer → ℕ → List Answered → List Ans
 noted p k a x l = pick (replies a) (record { event = p; thread = k; answer = a; persists = x } ∷ l) l
 
 -- the operations that events in turn answer, from machine m on, the first event having number p. touches says what each event touches
-unfoldable pub answeredBy : (Machine → Event → Touched) → ℕ → Machine → (ℕ → ℕ) → List Event → List Answered
+unfoldable pub answeredBy : (ℕ → Machine → Event → Touch) → ℕ → Machine → (ℕ → ℕ) → List Event → List Answered
 answeredBy touches p m c [] = []
 answeredBy touches p m c (e ∷ l) =
     let o = eventAt p m e in
-    let c′ = countsAfter c (touches m e) e in
+    let c′ = countsAfter c (touches p m e) e in
     noted p (e .number) (o .answer) (c′ (e .number)) (answeredBy touches (suc p) (o .machine) c′ l)
 
 -- all that a schedule answers, crashes among its events or not
