@@ -25,7 +25,8 @@ fn put_events(out: &mut [u8; 65536], at: usize, s: &[u8], start: Machine, count:
     let mut m = start;
     let mut i = 0;
     while i < count {
-        let e = codec::event_of(s, i);
+        let found = codec::event_of(s, i);
+        let e = found.event;
         let r = events::on_event(m, e);
         let a = r.answer;
         let t = told_of(a);
