@@ -19,7 +19,8 @@ use Rattle.image.specs.declared.Read.{Read}
 use Rattle.image.specs.Layout.{noContent, noContents, nodePlace, contentAt, headsOf, imageBytes}
 use Rattle.image.specs.Refusals.{nodesFit, sound, readImage, writeAnswer}
 use Rattle.image.proofs.HeadLaws.{heads-at, heads-same}
-use Rattle.machine.specs.Line.{ofHead, ofNode, numberOf}
+use Rattle.machine.specs.Line.{numberOf}
+use Rattle.machine.specs.declared.Line.the-variants.{OfHead as ofHead, OfNode as ofNode}
 use Rattle.machine.specs.Start.{threadsFit, startAnswer}
 use Rattle.machine.specs.declared.Machine.{Machine}
 use Rattle.schedule.specs.Layout.{threadsIn}
