@@ -14,6 +14,9 @@ enqueue k v = 1 ∷ k ∷ four v
 unfoldable pub dequeue : ℕ → List ℕ
 dequeue k = 2 ∷ k ∷ 0 ∷ 0 ∷ 0 ∷ 0 ∷ []
 
+unfoldable pub crash : List ℕ
+crash = 5 ∷ 0 ∷ 0 ∷ 0 ∷ 0 ∷ 0 ∷ []
+
 -- c steps of thread k
 unfoldable pub step : ℕ → ℕ → List ℕ
 step zero k = []

@@ -34,12 +34,13 @@ use Rattle.page.specs.Printed.{itemsOf, spaced, endingLine, linesFrom, firstLin
 use Rattle.cases.specs.Inputs.{four, enqueue, dequeue, step, zeroNodes, schedule}
 
 -- a schedule; the page that is printed; the answer of its last event (0 none, 1 Done, 2 Full, 3 Worn out, 4 an item, 5 Empty);
--- and how many nodes are then in the queue, free, waiting, held, owned by an enqueue, owned by a dequeue
+-- how many nodes are then in the queue, free, waiting, held, owned by an enqueue, owned by a dequeue; and which nodes are held
 pub record Case : Type 0 where
   pub schedule : List ℕ
   pub page : String
   pub reply : ℕ
   pub places : List ℕ
+  pub held : List ℕ
 
 -- P1: N = 2, T = 1, all-zero image, one begin of an enqueue of 7, nine steps. P2: a tenth step
 unfoldable pub p1 : ℕ → List ℕ
@@ -61,6 +62,7 @@ starred =
       page = "UQS 1 threads 1 nodes 2 events 10 endings 4\n0 0 -\n1 0 -\n2 0 -\n3 0 7\n";
       reply = 0;
       places = 2 ∷ 0 ∷ 0 ∷ 0 ∷ 0 ∷ 0 ∷ [];
+      held = [];
     }
     -- P2
     ∷ record {
@@ -68,6 +70,7 @@ starred =
       page = "UQS 1 threads 1 nodes 2 events 11 endings 1\n0 0 7\n";
       reply = 0;
       places = 2 ∷ 0 ∷ 0 ∷ 0 ∷ 0 ∷ 0 ∷ [];
+      held = [];
     }
     -- P3
     ∷ record {
@@ -75,6 +78,7 @@ starred =
       page = "UQS 1 threads 1 nodes 2 events 16 endings 2\n0 0 7\n1 1 -\n";
       reply = 0;
       places = 1 ∷ 0 ∷ 0 ∷ 0 ∷ 0 ∷ 1 ∷ [];
+      held = [];
     }
     -- P4
     ∷ record {
@@ -82,6 +86,7 @@ starred =
       page = "UQS 1 threads 1 nodes 2 events 18 endings 1\n0 1 -\n";
       reply = 0;
       places = 1 ∷ 0 ∷ 0 ∷ 0 ∷ 0 ∷ 1 ∷ [];
+      held = [];
     }
     -- P5: finish that dequeue, begin an enqueue: its first step answers Full, because node 0 is held
     ∷ record {
@@ -89,6 +94,7 @@ starred =
       page = "UQS 1 threads 1 nodes 2 events 21 endings 1\n0 1 -\n";
       reply = 2;
       places = 1 ∷ 0 ∷ 0 ∷ 1 ∷ 0 ∷ 0 ∷ [];
+      held = 0 ∷ [];
     }
     -- P6: N = 3, T = 2
     ∷ record {
@@ -96,6 +102,7 @@ starred =
       page = "UQS 1 threads 2 nodes 3 events 24 endings 3\n0 0 6\n1 0 6\n2 0 6\n";
       reply = 1;
       places = 3 ∷ 0 ∷ 0 ∷ 0 ∷ 0 ∷ 0 ∷ [];
+      held = [];
     }
     -- P7
     ∷ record {
@@ -103,6 +110,7 @@ starred =
       page = "UQS 1 threads 2 nodes 3 events 25 endings 4\n0 0 6\n1 0 6\n2 0 6\n3 0 5 6\n";
       reply = 0;
       places = 3 ∷ 0 ∷ 0 ∷ 0 ∷ 0 ∷ 0 ∷ [];
+      held = [];
     }
     -- P8: zero nodes, head index 5, no events: two endings, both empty
     ∷ record {
@@ -110,6 +118,7 @@ starred =
       page = "UQS 1 threads 1 nodes 2 events 0 endings 2\n0 5 -\n1 5 -\n";
       reply = 0;
       places = 1 ∷ 1 ∷ 0 ∷ 0 ∷ 0 ∷ 0 ∷ [];
+      held = [];
     }
     -- P9: all-zero image, no events: one ending
     ∷ record {
@@ -117,6 +126,7 @@ starred =
       page = "UQS 1 threads 1 nodes 2 events 0 endings 1\n0 0 -\n";
       reply = 0;
       places = 1 ∷ 1 ∷ 0 ∷ 0 ∷ 0 ∷ 0 ∷ [];
+      held = [];
     }
     -- P10: zero nodes, head index 4,294,967,295: an enqueue answers Worn out at its seventh step
     ∷ record {
@@ -124,6 +134,7 @@ starred =
       page = "UQS 1 threads 1 nodes 2 events 8 endings 4\n0 4294967295 -\n1 4294967295 -\n2 4294967295 -\n3 4294967295 -\n";
       reply = 3;
       places = 1 ∷ 1 ∷ 0 ∷ 0 ∷ 0 ∷ 0 ∷ [];
+      held = [];
     }
     ∷ []
 
@@ -143,18 +154,24 @@ unfoldable pub sixPlaces : Machine → List ℕ
 sixPlaces m =
     placed inQueue m ∷ placed isFree m ∷ placed isWaiting m ∷ placed isHeld m ∷ placed inEnqueue m ∷ placed inDequeue m ∷ []
 
+-- the nodes below k that are held
+unfoldable pub heldBelow : Machine → ℕ → List ℕ
+heldBelow m zero = []
+heldBelow m (suc k) = pick (isHeld m k) (heldBelow m k ++ (k ∷ [])) (heldBelow m k)
+
 unfoldable pub right : Case → Bool
 right c =
+    let m = ran (c .schedule) .bench .machine in
     both (sameBytes (printed (c .schedule)) (text (c .page)))
     (both (eqb (told (lastAnswer Taken (ran (c .schedule) .replies)) .reply) (c .reply))
-    (sameBytes (sixPlaces (ran (c .schedule) .bench .machine)) (c .places)))
+    (both (sameBytes (sixPlaces m) (c .places)) (sameBytes (heldBelow m (m .n)) (c .held))))
 
 unfoldable pub allRight : List Case → Bool
 allRight [] = true
 allRight (c ∷ l) = elim (right c) [ true ↦ allRight l | false ↦ false ]
 
 pub starred-hold : allRight starred ≡ true
-unfolding allRight right starred p1 p3 p6 sameBytes lastAnswer sixPlaces four enqueue dequeue step zeroNodes schedule
+unfolding allRight right starred p1 p3 p6 sameBytes lastAnswer sixPlaces heldBelow four enqueue dequeue step zeroNodes schedule
     least any count tab joined over front text digitsOf decimal has with without wordOf
     noContents atW marked readNodes imageIn recovered twins hasTwin firstTwin dummyOf firstUnclear startable sound imageAnswer
     blankNodes idleThreads insert risen behind lastOf startWith nextFree releasedAt released others retired eventAt

@@ -6,3 +6,4 @@ pub mod Same
 pub mod Unique
 pub mod WriteRead
 pub mod Long
+pub mod Asked

@@ -8,7 +8,7 @@ use Rattle.answer.proofs.Injective.{told-injective}
 use Rattle.answer.specs.declared.Answer.{Answer}
 use Rattle.image.specs.declared.Image.{Image}
 use Rattle.image.specs.declared.Read.{Read}
-use Rattle.machine.specs.declared.Event.{Event}
+use Rattle.codec.specs.declared.Found.{Found}
 use Rattle.schedule.specs.declared.Opened.{Opened}
 use Rattle.codec.proofs.read_image.Reads as read
 use Rattle.codec.proofs.read_schedule.Reads as schedule
@@ -27,8 +27,11 @@ schedule-one κs s r r′ p q =
     let d = p .1 ∙ sym (q .1) in
     λ k. record { answer = a k; schedule = d k }
 
-pub event-one : (κs : Lfts 1) (s : RefT (List ℕ)) (i : ℕ) (r r′ : Event) → event.Post κs (s, (i, tt)) r (s, (i, tt)) → event.Post κs (s, (i, tt)) r′ (s, (i, tt)) → r ≡ r′
-event-one κs s i r r′ p q = p ∙ sym q
+pub event-one : (κs : Lfts 1) (s : RefT (List ℕ)) (i : ℕ) (r r′ : Found) → event.Post κs (s, (i, tt)) r (s, (i, tt)) → event.Post κs (s, (i, tt)) r′ (s, (i, tt)) → r ≡ r′
+event-one κs s i r r′ p q =
+    let a = told-injective (r .answer) (r′ .answer) (p .0 ∙ sym (q .0)) in
+    let e = p .1 ∙ sym (q .1) in
+    λ k. record { answer = a k; event = e k }
 
 pub write-one :
     (κs : Lfts 1) (g : Image) (b z z′ : RefT (List ℕ)) (r r′ : Answer) →

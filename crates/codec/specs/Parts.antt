@@ -2,11 +2,13 @@
 use Prim.Native.Nat.{ℕ, _≤_}
 use mathlib.Core.List.{List}
 use lib.ListN.{length}
-use lib.Dec.{ltb}
+use mathlib.Core.Bool.{Bool, true, false}
+use lib.Dec.{ltb, leb}
 use Rattle.lists.specs.Find.{pick, both}
-use Rattle.answer.specs.Answers.{accepted}
+use Rattle.answer.specs.Answers.{check, accepted}
 use Rattle.answer.specs.declared.Answer.{Answer}
 use Rattle.image.specs.Bytes.{at1}
+use Rattle.answer.specs.declared.Answer.the-variants.{Taken, NoEnding}
 use Rattle.image.specs.Layout.{nodePlace, imageIn}
 use Rattle.image.specs.Refusals.{imageAnswer, blankImage}
 use Rattle.image.specs.declared.Read.{Read}
@@ -36,6 +38,10 @@ refusedOpened a = record { answer = a; schedule = blankSchedule }
 abbrev pub noEvent : Event
 noEvent = record { kind = 0; number = 0; item = 0 }
 
--- event i of a schedule that is taken up to its events; the zero event of one that is not, or that has no event i
+-- event i of a schedule: the refusals of its bytes, then 16 where it has no event of that number
+unfoldable pub eventAsked : List ℕ → ℕ → Answer
+eventAsked s i = elim (accepted (scheduleAnswer s)) [ true ↦ check (leb (countIn s) i) NoEnding Taken | false ↦ scheduleAnswer s ]
+
+-- what is handed out: the zero event beside a refusal
 unfoldable pub eventOf : List ℕ → ℕ → Event
 eventOf s i = pick (both (accepted (scheduleAnswer s)) (ltb i (countIn s))) (eventIn s i) noEvent

@@ -1,5 +1,5 @@
 // Images and schedules, read from bytes and written to them.
-// Public calls: read_image, write_image, read_schedule, event_of. What else stands here is for the crates above.
+// Public calls: read_image, write_image, read_schedule, event_of; each answers with a number and a place. What else stands here is for the crates above.
 mod bytes;
 mod events;
 mod images;
@@ -21,8 +21,9 @@ ghost use mathlib.Core.Path.{_≡_};
 ghost use Rattle.answer.specs.Answers.{told};
 ghost use Rattle.image.specs.Refusals.{readImage};
 ghost use Rattle.schedule.specs.Layout.{readSchedule};
+ghost use Rattle.codec.specs.Parts.{eventAsked, eventOf};
+use answer::Answer;
 use answer::is_taken;
-ghost use Rattle.codec.specs.Parts.{eventOf};
 use image::Read;
 use machine::Event;
 use schedule::Opened;
@@ -43,29 +44,43 @@ pub fn read_schedule(s: &[u8]) -> Opened
     open_schedule(s)
 }
 
-// Event i of the schedule that the bytes are; a zero event where there is none.
-pub fn event_of(s: &[u8], i: usize) -> Event
-    ensures { λ r. ⌜ r ≡ eventOf (now (s .entry)) i ⌝ }
+// What came of asking for an event: on a refusal the event is the zero one.
+pub struct Found {
+    pub answer: Answer,
+    pub event: Event,
+}
+
+// Event i of the schedule that the bytes are, or what is wrong with them; 16 where it has no event of that number.
+pub fn event_of(s: &[u8], i: usize) -> Found
+    ensures answers { λ r. ⌜ told (r .answer) ≡ told (eventAsked (now (s .entry)) i) ⌝ }
+    ensures event { λ r. ⌜ r .event ≡ eventOf (now (s .entry)) i ⌝ }
 {
+    let none = Event {
+        kind: 0,
+        number: 0,
+        item: 0,
+    };
     let o = open_schedule(s);
     let a = o.answer;
     if !is_taken(a) {
-        return Event {
-            kind: 0,
-            number: 0,
-            item: 0,
+        return Found {
+            answer: a,
+            event: none,
         };
     }
     let d = o.schedule;
     let count = d.count as usize;
     if count <= i {
-        return Event {
-            kind: 0,
-            number: 0,
-            item: 0,
+        return Found {
+            answer: Answer::NoEnding,
+            event: none,
         };
     }
     let g = d.image;
     let n = g.n as usize;
-    event_at(s, n, i)
+    let event = event_at(s, n, i);
+    Found {
+        answer: Answer::Taken,
+        event,
+    }
 }

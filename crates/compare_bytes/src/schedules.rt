@@ -23,7 +23,8 @@ fn put_events(out: &mut [u8; 65536], at: usize, s: &[u8], count: usize) -> usize
     let mut place = at;
     let mut i = 0;
     while i < count {
-        let e = codec::event_of(s, i);
+        let found = codec::event_of(s, i);
+        let e = found.event;
         let next = put_event(out, place, e);
         place = next;
         i += 1;

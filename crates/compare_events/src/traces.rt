@@ -33,7 +33,8 @@ fn put_events(
     let mut m = start;
     let mut i = 0;
     while i < count {
-        let e = codec::event_of(s, i);
+        let found = codec::event_of(s, i);
+        let e = found.event;
         let r = event_by(kept, m, e);
         let a = r.answer;
         let t = told_of(a);

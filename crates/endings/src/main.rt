@@ -1,12 +1,11 @@
 // The printed page of one schedule: its bytes on standard input, the page or the refusal's line on standard output.
 use libc::STDERR_FILENO;
-use libc::STDIN_FILENO;
 
 fn main() {
     // The longest schedule has 25,170 bytes: what is longer than this is refused as its first part is.
     let mut s = [0u8; 32768];
-    let got = io::read_full(STDIN_FILENO, &mut s);
-    if got < 32768 && !stream::at_end() {
+    let got = stream::fill(&mut s);
+    if got.failed {
         io::write_all(
             STDERR_FILENO,
             b"endings: standard input could not be read to its end, no page is printed\n",
@@ -14,7 +13,8 @@ fn main() {
         return;
     }
     let mut b = io::large_buffer();
-    let printed = printer::print_page(&s[..got], &mut b);
+    let bytes = got.bytes;
+    let printed = printer::print_page(&s[..bytes], &mut b);
     if !printed.whole {
         io::write_all(
             STDERR_FILENO,

@@ -11,18 +11,21 @@ use Rattle.lists.specs.Word.{has, with, without, wordOf}
 use Rattle.answer.specs.Answers.{told, accepted, replied}
 use Rattle.answer.specs.declared.Answer.{Answer}
 use Rattle.answer.specs.declared.Told.{Told}
-use Rattle.image.specs.Layout.{noContents, noHeads, headLines, headsOf}
+use Rattle.image.specs.declared.Content.{Content}
+use Rattle.image.specs.Layout.{noContent, noContents, noHeads, headLines, headsOf}
 use Rattle.image.specs.Recovered.{largest, headOf, recovered, twins, hasTwin, firstTwin, dummyOf}
 use Rattle.image.specs.Refusals.{startable}
-use Rattle.machine.specs.Record.{blankNodes, idleThreads}
+use Rattle.machine.specs.Record.{node, blankNodes, idleThreads}
+use Rattle.machine.specs.Line.{lineAt}
 use Rattle.machine.specs.Start.{insert, risen, behind, lastOf, startWith, freshOf}
 use Rattle.machine.specs.Retire.{out, nextFree, releasedAt, released, others, retired}
 use Rattle.machine.specs.Range.{inRange, nodeFits, threadFits}
 use Rattle.machine.specs.Event.{eventAt, eventOn}
 use Rattle.machine.specs.declared.Machine.{Machine}
+use Rattle.machine.specs.declared.Node.{Node}
 use Rattle.machine.specs.declared.Event.{Event}
 use Rattle.machine.specs.declared.Out.{Out}
-use Rattle.events.specs.Points.{enqueue, step, leaves, after, Point, P1, P2, P3, P4, P5, before, given, was, is, reply, stepNumber}
+use Rattle.events.specs.Points.{enqueue, step, leaves, after, Point, P1, P2, P3, P4, P5, before, given, was, is, reply, stepNumber, lineTwo}
 use Rattle.events.proofs.on_event.Reads as on-event
 
 -- a result that the contract allows
@@ -80,29 +83,38 @@ follows b h m (e ∷ l) = follows b h (b m e .machine) l ∙ ap (λ (x : Machine
 abbrev pub firstStep : Machine
 firstStep = after (enqueue 7 ∷ step ∷ [])
 
-second : stepNumber firstStep ≡ 2
+-- memory after it, and after P2's events: the persisted copy of line 2 is (1, 1, 7)
+not-yet : lineTwo firstStep ≡ noContent
 unfolding leaves least any count tab joined over front has with without wordOf noContents noHeads headLines headsOf largest headOf recovered twins hasTwin firstTwin dummyOf startable
-    blankNodes idleThreads insert risen behind lastOf startWith nextFree releasedAt released others retired inRange nodeFits threadFits eventAt eventOn
-second = refl
+    blankNodes idleThreads insert risen behind lastOf startWith nextFree releasedAt released others retired inRange nodeFits threadFits eventAt eventOn lineAt
+not-yet = refl
 
-last-step : stepNumber (after (before P2 ++ (step ∷ []))) ≡ 11
+there : lineTwo (after (before P2 ++ (step ∷ []))) ≡ record { linked = 1; index = 1; item = 7 }
 unfolding leaves least any count tab joined over front has with without wordOf noContents noHeads headLines headsOf largest headOf recovered twins hasTwin firstTwin dummyOf startable
-    blankNodes idleThreads insert risen behind lastOf startWith nextFree releasedAt released others retired inRange nodeFits threadFits eventAt eventOn
-last-step = refl
+    blankNodes idleThreads insert risen behind lastOf startWith nextFree releasedAt released others retired inRange nodeFits threadFits eventAt eventOn lineAt
+there = refl
 
--- "One that performs the first step and afterwards only claims to", at P2: after P2's events its machine is still that of the first step
+pub persists-really :
+    (b : Machine → Event → Out) → ((m : Machine) (e : Event) → Meets m e (b m e)) →
+    lineTwo (leaves b (freshOf 2 1) (before P2 ++ (step ∷ []))) ≡ record { linked = 1; index = 1; item = 7 }
+persists-really b h = ap lineTwo (follows b h (freshOf 2 1) (before P2 ++ (step ∷ []))) ∙ there
+
+-- "One that performs the first step and afterwards only claims to", at P2: whatever it answers, and whatever it writes down beside, memory is as after the first step
 pub only-claims :
     (b : Machine → Event → Out) → ((m : Machine) (e : Event) → Meets m e (b m e)) →
-    leaves b (freshOf 2 1) (before P2 ++ (step ∷ [])) ≡ firstStep → ⊥
-only-claims b h e =
-    let z = sym (follows b h (freshOf 2 1) (before P2 ++ (step ∷ []))) ∙ e in
-    omega (arith, last-step, second, ap stepNumber z)
+    lineTwo (leaves b (freshOf 2 1) (before P2 ++ (step ∷ []))) ≡ lineTwo firstStep → ⊥
+only-claims b h e = omega (arith, ap (λ (c : Content). c .item) (sym (persists-really b h) ∙ e ∙ not-yet))
 
-third : stepNumber (eventOn firstStep step .machine) ≡ 3
+-- and already where it first only claims: at the second step, A2, it leaves node 1 as it is
+old-item : node firstStep 1 .item ≡ 0
 unfolding leaves least any count tab joined over front has with without wordOf noContents noHeads headLines headsOf largest headOf recovered twins hasTwin firstTwin dummyOf startable
-    blankNodes idleThreads insert risen behind lastOf startWith nextFree releasedAt released others retired inRange nodeFits threadFits eventAt eventOn
-third = refl
+    blankNodes idleThreads insert risen behind lastOf startWith nextFree releasedAt released others retired inRange nodeFits threadFits eventAt eventOn lineAt
+old-item = refl
 
--- and already where it first only claims: at the second step, whatever it answers
-pub claims-second : (a : Answer) → Meets firstStep step (out a firstStep) → ⊥
-claims-second a p = omega (arith, second, third, ap stepNumber (p .1))
+new-item : node (eventOn firstStep step .machine) 1 .item ≡ 7
+unfolding leaves least any count tab joined over front has with without wordOf noContents noHeads headLines headsOf largest headOf recovered twins hasTwin firstTwin dummyOf startable
+    blankNodes idleThreads insert risen behind lastOf startWith nextFree releasedAt released others retired inRange nodeFits threadFits eventAt eventOn lineAt
+new-item = refl
+
+pub claims-second : (a : Answer) (x : Machine) → node x 1 ≡ node firstStep 1 → Meets firstStep step (out a x) → ⊥
+claims-second a x e p = omega (arith, old-item, new-item, ap (λ (v : Node). v .item) e, ap (λ (m : Machine). node m 1 .item) (p .1))

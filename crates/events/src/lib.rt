@@ -17,6 +17,7 @@ use machine::Event;
 use machine::Machine;
 use machine::Out;
 use machine::Places;
+use range::in_range;
 
 // A single event. A refused one changes nothing.
 pub fn on_event(m: Machine, e: Event) -> Out
@@ -49,7 +50,7 @@ pub fn save(m: Machine, b: &mut [u8]) -> Answer
     ensures answers { λ r. ⌜ told r ≡ told (saveAnswer m (length (now (b .entry)))) ⌝ }
     ensures bytes { λ r. ⌜ now (b .exit) ≡ saved m (now (b .entry)) ⌝ }
 {
-    if !range::in_range(m) {
+    if !in_range(m) {
         return Answer::Record;
     }
     let g = kept_image(m);
@@ -61,7 +62,7 @@ pub fn count_places(m: Machine) -> Counted
     ensures answers { λ r. ⌜ told (r .answer) ≡ told (countPlaces m .answer) ⌝ }
     ensures places { λ r. ⌜ r .places ≡ countPlaces m .places ⌝ }
 {
-    if !range::in_range(m) {
+    if !in_range(m) {
         let places = Places {
             queue: 0,
             free: 0,

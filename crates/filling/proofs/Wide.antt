@@ -210,3 +210,20 @@ module _ (s : List ℕ) (y : Bytes s) (a : accepted (pageAnswer s) ≡ true) whe
   unfolding pageLine
   lines-short zero h = first-fits
   lines-short (suc k) h = line-fits k (omega arith)
+
+  -- the numbers of an ending are of 32 bits
+  pub ending-head : (k : ℕ) → k < endingCount s → (j : ℕ) → j < headLines (endingIn s k .n) → headIn (endingIn s k) j < 4294967296
+  unfolding endingIn ending tableIn endingCount imageOf
+  ending-head k h j p =
+      let n = ran s .bench .machine .n in
+      let c = getD (choices (tableOf (ran s .bench))) k [] in
+      subst (λ x. x < 4294967296) (sym (heads-at n (λ i. contentAt c i .index) j p))
+      (chosen-little (ran s .bench) (ran-small s y (holds.page-ran s a)) k h j (omega arith) .0)
+
+  pub ending-little : (k : ℕ) → k < endingCount s → (i : ℕ) → Little (contentAt (endingIn s k .nodes) i)
+  unfolding endingIn ending tableIn endingCount imageOf
+  ending-little k h i =
+      let n = ran s .bench .machine .n in
+      let c = getD (choices (tableOf (ran s .bench))) k [] in
+      front-all Little (λ i. contentAt c (headLines n + i)) n noContents noContent
+      (λ j p. chosen-little (ran s .bench) (ran-small s y (holds.page-ran s a)) k h (headLines n + j) (omega arith)) no-content i

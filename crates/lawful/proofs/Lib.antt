@@ -1,2 +1,3 @@
 pub mod Orders
 pub mod Refuted
+pub mod Allowed

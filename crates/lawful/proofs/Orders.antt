@@ -10,7 +10,7 @@ abbrev Below : ℕ → List ℕ → Type 0
 Below n l = (k : ℕ) → Has k l → k < n
 
 -- nothing is left to stand in an order
-none-left : (l : List ℕ) → ((k : ℕ) → ¬ Has k l) → l ≡ []
+pub none-left : (l : List ℕ) → ((k : ℕ) → ¬ Has k l) → l ≡ []
 none-left [] f = refl
 none-left (k ∷ l) f = absurd (f k (inl refl))
 

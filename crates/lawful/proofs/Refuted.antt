@@ -1,4 +1,4 @@
--- `Lawful` is not empty talk: six small wrong outcomes that it shuts out.
+-- `Lawful` is not empty talk: nine small wrong outcomes that it shuts out. Each of its fields is needed by one of them.
 use Prim.Native.Nat.{ℕ, zero, suc, _<_}
 use mathlib.Core.Path.{_≡_, refl, sym, ap, subst, _∙_}
 use mathlib.Core.Bool.{Bool, true, false}
@@ -9,8 +9,8 @@ use native.Mathlib.Omega.{arith}
 use lib.ListN.{length}
 use Rattle.lawful.specs.Operation.{Operation, Reply, nothing, done, full, wornOut, empty, gave, Call, puts, takes}
 use Rattle.lawful.specs.Plain.{serveAll}
-use Rattle.lawful.specs.Lawful.{Lawful, at, Timely}
-use Rattle.lawful.proofs.Orders.{one, two}
+use Rattle.lawful.specs.Lawful.{Lawful, at, Has, Timely}
+use Rattle.lawful.proofs.Orders.{none-left, one, two}
 
 abbrev operation : Call → ℕ → Reply → ℕ → Operation
 operation c b r e = record { thread = 0; call = c; began = b; reply = r; ended = e }
@@ -90,3 +90,27 @@ not-unseen w = by (two (w .order) (w .within) (w .once) (w .whole 0 (omega arith
         let p : serveAll (map (at unseen) (0 ∷ 1 ∷ [])) [] ≡ some (7 ∷ []) = subst (λ r. serveAll (map (at unseen) r) [] ≡ some (7 ∷ [])) e (w .plays) in
         let z : _≡_ {A = ℕ} 0 1 = cc in omega arith
     by (inr e) = let t : Timely unseen (1 ∷ 0 ∷ []) = subst (Timely unseen) e (w .timely) in t .0 0 (inl refl) (refl, omega arith)
+
+-- `once`: an enqueue of 7 was answered once, and 7 stands there twice
+pub not-doubled : ¬ Lawful lost [] (7 ∷ 7 ∷ [])
+unfolding serveAll
+not-doubled w =
+    let o = one (w .order) (w .within) (w .once) (w .whole 0 (omega arith) refl) in
+    let p : serveAll (map (at lost) (0 ∷ [])) [] ≡ some (7 ∷ 7 ∷ []) = subst (λ r. serveAll (map (at lost) r) [] ≡ some (7 ∷ 7 ∷ [])) o (w .plays) in
+    let z : _≡_ {A = ℕ} 0 1 = cc in absurd (omega arith)
+
+-- `within`: nobody asked for anything, so the queue is the one there was
+unasked : (first last : List ℕ) → Lawful [] first last → first ≡ last
+unfolding serveAll
+unasked first last w =
+    let o : w .order ≡ [] = none-left (w .order) (λ k h. let z = w .within k h in omega arith) in
+    let p : serveAll (map (at []) []) first ≡ some last = subst (λ r. serveAll (map (at []) r) first ≡ some last) o (w .plays) in
+    cc
+
+-- an item that was there is gone, and nobody took it
+pub not-vanished : ¬ Lawful [] (5 ∷ []) []
+not-vanished w = let e = unasked (5 ∷ []) [] w in let z : _≡_ {A = ℕ} 0 1 = cc in absurd (omega arith)
+
+-- an item is there, and nobody brought it
+pub not-invented : ¬ Lawful [] [] (7 ∷ [])
+not-invented w = let e = unasked [] (7 ∷ []) w in let z : _≡_ {A = ℕ} 0 1 = cc in absurd (omega arith)

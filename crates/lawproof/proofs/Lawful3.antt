@@ -13,15 +13,19 @@ use Rattle.image.specs.declared.Content.{Content}
 use Rattle.image.specs.Layout.{contentAt}
 use Rattle.machine.specs.Line.{lineCount, lineAt, numberOf}
 use Rattle.machine.proofs.LineLaws.{number-in, line-number}
-use Rattle.schedule.specs.Layout.{scheduleIn, scheduleAnswer, eventsIn}
-use Rattle.schedule.specs.Run.{Bench, ran}
+use Rattle.schedule.specs.Layout.{scheduleIn, scheduleAnswer, eventsIn, threadsIn}
+use Rattle.schedule.specs.Run.{Bench, Ran, ran}
 use Rattle.page.specs.Contents.{contentsOf, tableOf}
 use Rattle.page.specs.Endings.{choices, product, imageOf, ending}
 use Rattle.page.specs.Refusals.{tableIn, tableAnswer, pageAnswer, endingCount, endingIn}
-use Rattle.lawful.specs.Demand3.{Bytes, Recovers, PageLawful}
+use Rattle.page.specs.Printed.{itemsOf}
+use Rattle.lawful.specs.Operation.{operations}
+use Rattle.lawful.specs.Lawful.{Lawful}
+use Rattle.lawful.specs.Demand3.{Bytes, Recovers, PageLawful, firstQueue}
 use Rattle.tied.specs.Always.{Among}
 use Rattle.tied.proofs.Schedules.{schedule-starts, schedule-narrow}
 use Rattle.lawproof.proofs.Choices.{choice-picks}
+use Rattle.lawproof.proofs.Walk.{queue-start}
 use Rattle.lawproof.proofs.Endings.{Chosen, ending-starts, ending-lawful}
 
 -- a page that is not refused: neither were the schedule's bytes nor its events
@@ -61,3 +65,11 @@ module _ (s : List ℕ) (bytes : Bytes s) (a : accepted (scheduleAnswer s) ≡ t
 
 pub page-lawful : (s : List ℕ) → Bytes s → accepted (pageAnswer s) ≡ true → PageLawful s
 page-lawful s bytes a = let p = page-parts s a in endings-recover s bytes (p .0) (p .1)
+
+-- the items on an ending's line are a lawful queue: they are those that it recovers to
+pub line-lawful : (s : List ℕ) → Bytes s → accepted (pageAnswer s) ≡ true → (k : ℕ) → k < endingCount s
+    → Lawful (operations 0 (eventsIn s) (ran s .replies) []) (firstQueue s) (itemsOf (endingIn s k))
+unfolding itemsOf
+line-lawful s y a k h =
+    let r = page-lawful s y a k h in
+    subst (Lawful (operations 0 (eventsIn s) (ran s .replies) []) (firstQueue s)) (queue-start (endingIn s k) (threadsIn s) (r .starts)) (r .lawful)

@@ -55,7 +55,7 @@ not-taken a v r p n = by (accepted a) refl
 
 -- ---- what each definition leaves
 
-ending-stays : (s : List ℕ) (k : ℕ) (b : List ℕ) → accepted (endingAnswer s k (length b)) ≡ false → endingWritten s k b ≡ b
+pub ending-stays : (s : List ℕ) (k : ℕ) (b : List ℕ) → accepted (endingAnswer s k (length b)) ≡ false → endingWritten s k b ≡ b
 unfolding endingWritten
 ending-stays s k b h = rw (h, endingWritten)
 
@@ -63,7 +63,7 @@ none-over : (b : List ℕ) → over b 0 [] ≡ b
 unfolding over
 none-over b = refl
 
-lines-stay : (s : List ℕ) (k : ℕ) (b : List ℕ) → accepted (linesAnswer s k (length b)) ≡ false → linesWritten s k b ≡ b
+pub lines-stay : (s : List ℕ) (k : ℕ) (b : List ℕ) → accepted (linesAnswer s k (length b)) ≡ false → linesWritten s k b ≡ b
 unfolding linesWritten linesBytes linesTaken linesOn joined
 lines-stay s k b h = rw (h, linesTaken) (none-over b)
 
@@ -72,7 +72,7 @@ unfolding ifFits
 line-by l b true e h = rw (e, ifFits) (none-over b)
 line-by l b false e h = bools.false-true (sym h)
 
-line-stays : (n p : ℕ) (b : List ℕ) → accepted (refusalAnswer n p (length b)) ≡ false → refusalWritten n p b ≡ b
+pub line-stays : (n p : ℕ) (b : List ℕ) → accepted (refusalAnswer n p (length b)) ≡ false → refusalWritten n p b ≡ b
 unfolding refusalAnswer refusalBytes refusalWritten
 line-stays n p b h = line-by (refusedText n p) b (ltb (length b) (length (refusedText n p))) refl h
 
@@ -96,7 +96,7 @@ start-stays s t b h = threads (threadsFit t) refl
     threads false e = laws.start-threads-stay s t b e
     threads true e = image e (accepted (imageAnswer 0 s)) refl
 
-saved-stays : (m : Machine) (b : List ℕ) (x : Bool) → inRange m ≡ x → accepted (saveAnswer m (length b)) ≡ false → saved m b ≡ b
+pub saved-stays : (m : Machine) (b : List ℕ) (x : Bool) → inRange m ≡ x → accepted (saveAnswer m (length b)) ≡ false → saved m b ≡ b
 unfolding saved saveAnswer
 saved-stays m b true e h =
     let f : accepted (writeAnswer (persisted m) (length b)) ≡ false = rw (e, saveAnswer) at h in

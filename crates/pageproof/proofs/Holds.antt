@@ -71,7 +71,7 @@ module _ (s : List ℕ) (h : accepted (ran s .answer) ≡ true) where
       let r = leaves (nodesIn s) (first s) (first-even s) (first-size s) (eventsIn s) h k lt in
       record { events = r .events; taken = r .taken; added = r .added; left = r .left }
 
-  back : (g : Image) → Leaves s g → (k : ℕ) × (k < endingCount s) × (endingIn s k ≡ g)
+  pub back : (g : Image) → Leaves s g → (k : ℕ) × (k < endingCount s) × (endingIn s k ≡ g)
   unfolding ran tableIn endingCount endingIn
   back g r =
       only (nodesIn s) (first s) (first-even s) (first-size s) (eventsIn s) h g

@@ -9,3 +9,5 @@ pub mod Sow
 pub mod Page
 pub mod Holds
 pub mod Longer
+pub mod Late
+pub mod Sizes

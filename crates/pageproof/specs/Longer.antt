@@ -2,8 +2,13 @@
 use Prim.Native.Nat.{ℕ, _<_}
 use mathlib.Core.Path.{_≡_}
 use mathlib.Core.List.{List, [], _∷_, _++_}
+use Rattle.image.specs.declared.Image.{Image}
+use Rattle.machine.specs.Line.{lineCount}
 use Rattle.machine.specs.declared.Event.{Event}
+use Rattle.schedule.specs.Layout.{eventsIn, nodesIn}
+use Rattle.schedule.specs.Run.{Bench, Ran}
 use Rattle.lawful.specs.Added.{writeBack, NoCrash, EndsInStart}
+use Rattle.lawful.specs.Demand3.{runOf, imageLeft}
 
 -- l′ is l with write-backs of the first n lines added, any number, at any place
 pub data Longer (n : ℕ) : List Event → List Event → Type 0 where
@@ -21,3 +26,7 @@ pub record LongerLate (n : ℕ) (l l′ : List Event) : Type 0 where
   pub adds : Longer n since since′
   pub is : l ≡ before ++ since
   pub is′ : l′ ≡ before ++ since′
+
+-- some list with write-backs added after the last start leaves the image
+abbrev pub LeftLate : List ℕ → Image → Type 0
+LeftLate s g = (l : List Event) × LongerLate (lineCount (nodesIn s)) (eventsIn s) l × (imageLeft (runOf s l .bench .machine) ≡ g)

@@ -1,4 +1,5 @@
-// The byte form of a machine record, for comparisons with other programs. Public calls: read_record, write_record.
+// The byte form of a machine record, for the static library and for comparisons with other programs. No public calls: both functions
+// refuse a wrong length, and neither tests the record (18); their callers do.
 mod reading;
 mod writing;
 
@@ -13,7 +14,7 @@ use machine::blank::blank_machine;
 use reading::record_in;
 use writing::put_record;
 
-// The record that 1,412 bytes are; it is not tested.
+// The record that 1,412 bytes are, or 1; the record is not tested.
 pub fn read_record(s: &[u8]) -> Out
     ensures answers { λ r. ⌜ told (r .answer) ≡ told (readRecord (now (s .entry)) .answer) ⌝ }
     ensures machine { λ r. ⌜ r .machine ≡ readRecord (now (s .entry)) .machine ⌝ }
@@ -32,7 +33,7 @@ pub fn read_record(s: &[u8]) -> Out
     }
 }
 
-// Writes the record into the first 1,412 bytes of the buffer, or nothing.
+// Writes the record, untested, into the first 1,412 bytes of the buffer, or nothing and 17.
 pub fn write_record(m: Machine, b: &mut [u8]) -> Answer
     ensures answers { λ r. ⌜ told r ≡ told (recordAnswer (length (now (b .entry)))) ⌝ }
     ensures bytes { λ r. ⌜ now (b .exit) ≡ recordWritten m (now (b .entry)) ⌝ }

@@ -2,3 +2,8 @@ pub mod Demand3
 pub mod Long
 pub mod Called
 pub mod Judged
+pub mod Images
+pub mod Endings
+pub mod There
+pub mod Refused
+pub mod AllRecover

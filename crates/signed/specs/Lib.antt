@@ -1,3 +1,4 @@
 pub mod Signed
 pub mod Called
 pub mod Judged
+pub mod Images

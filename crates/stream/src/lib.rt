@@ -1,5 +1,6 @@
 // A stream of items on standard input, each behind its length (4 bytes, little-endian).
-ghost use Prim.Native.Nat.{_≤_};
+ghost use Prim.Native.Nat.{_+_, _≤_};
+ghost use mathlib.Core.Path.{_≡_};
 ghost use lib.ListN.{length};
 use libc::STDIN_FILENO;
 
@@ -29,11 +30,60 @@ pub fn word(s: &[u8], at: usize) -> u32
     low + high * 65536
 }
 
-// What came of reading an item: whether there was a whole one, whether the input ended within one, how many of its bytes were kept.
-pub struct Next {
-    pub there: bool,
-    pub cut: bool,
-    pub kept: usize,
+// What came of reading: how many bytes were put at the buffer's front, and whether a read failed. Fewer bytes than asked for and no failure: the input ended.
+pub struct Got {
+    pub bytes: usize,
+    pub failed: bool,
+}
+
+// One read into the buffer from index `at` on; no bytes and no failure is the end of the input.
+fn read_once(buffer: &mut [u8], at: usize) -> Got
+    requires { ⌜ at ≤ length (now buffer) ⌝ }
+    ensures { λ r. ⌜ at + r .bytes ≤ length (now (buffer .entry)) ⌝ }
+{
+    let part = &mut buffer[at..];
+    let got = libc::read(STDIN_FILENO, part);
+    if got < 0 {
+        return Got {
+            bytes: 0,
+            failed: true,
+        };
+    }
+    let bytes = io::count(got, part);
+    Got {
+        bytes,
+        failed: false,
+    }
+}
+
+// Reads until the buffer is full, a read fails, or one finds nothing: that is the end, and no further read asks for it again. `room` is the buffer's length.
+fn read_all(buffer: &mut [u8], room: usize) -> Got
+    requires { ⌜ room ≡ length (now buffer) ⌝ }
+    ensures { λ r. ⌜ r .bytes ≤ room ⌝ }
+{
+    let mut done = 0;
+    while done < room {
+        let got = read_once(buffer, done);
+        if got.bytes == 0 {
+            return Got {
+                bytes: done,
+                failed: got.failed,
+            };
+        }
+        done += got.bytes;
+    }
+    Got {
+        bytes: done,
+        failed: false,
+    }
+}
+
+// The whole buffer.
+pub fn fill(buffer: &mut [u8]) -> Got
+    ensures { λ r. ⌜ r .bytes ≤ length (now (buffer .exit)) ⌝ }
+{
+    let room = buffer.len();
+    read_all(buffer, room)
 }
 
 // Reads up to n bytes into the buffer's front.
@@ -41,7 +91,8 @@ fn read_some(buffer: &mut [u8], n: usize) -> usize
     requires { ⌜ n ≤ length (now buffer) ⌝ }
     ensures { λ r. ⌜ r ≤ n ⌝ }
 {
-    io::read_full(STDIN_FILENO, &mut buffer[..n])
+    let got = read_all(&mut buffer[..n], n);
+    got.bytes
 }
 
 fn pass_some(n: usize) -> usize
@@ -80,6 +131,13 @@ pub fn at_end() -> bool {
     libc::read(STDIN_FILENO, &mut one) == 0
 }
 
+// What came of reading an item: whether there was a whole one, whether the input ended within one or a read failed, how many of its bytes were kept.
+pub struct Next {
+    pub there: bool,
+    pub cut: bool,
+    pub kept: usize,
+}
+
 fn ended(cut: bool) -> Next
     ensures { λ r. ⌜ r .kept ≤ 0 ⌝ }
 {
@@ -95,9 +153,9 @@ pub fn next_item(buffer: &mut [u8]) -> Next
     ensures { λ r. ⌜ r .kept ≤ length (now (buffer .exit)) ⌝ }
 {
     let mut head = [0u8; 4];
-    let got = io::read_full(STDIN_FILENO, &mut head);
-    if got < 4 {
-        return ended(got != 0 || !at_end());
+    let got = fill(&mut head);
+    if got.bytes < 4 {
+        return ended(got.bytes != 0 || got.failed);
     }
     let long = word(&head, 0) as usize;
     let room = buffer.len();

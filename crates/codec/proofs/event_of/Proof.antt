@@ -1,13 +1,15 @@
 use Rattle.codec.proofs.Accepted as laws
+use Rattle.codec.proofs.Asked as asked
 use Rattle.codec.specs.Parts.{eventOf}
 use Rattle.schedule.specs.Layout.{scheduleIn, scheduleAnswer, countIn, nodesIn}
 use Rattle.schedule.specs.declared.Opened.{Opened}
 use Rattle.schedule.specs.declared.Schedule.{Schedule}
 use Rattle.image.specs.Layout.{imageIn}
-use Rattle.answer.specs.Answers.{accepted}
+use Rattle.answer.specs.Answers.{told, accepted}
+use Rattle.answer.specs.declared.Answer.{Answer}
 use borrow.Author.Tests.{lt-ltb, le-ltb, not-true, not-false}
 use native.Mathlib.Omega.{arith}
-use mathlib.Core.Bool.{true}
+use mathlib.Core.Bool.{true, false}
 use mathlib.Core.Path.{_≡_, sym, ap, _∙_}
 use borrow.Author.Needs.{needs}
 use Rattle.codec.proofs.event_of.Statement.{statement}
@@ -25,7 +27,10 @@ returns c =
     let s = c .before .before .before .before .args .s .now in
     let e = c .before .before .open-schedule .ensures in
     let ea = ap (λ (r : Opened). r .answer) e ∙ laws.opened-answer s in
-    rw (← ea, ← c .before .is-taken .ensures, not-true (c .before .is-taken .result) (c .if1 .taken))
+    let f : accepted (scheduleAnswer s) ≡ false = rw (← ea) (sym (c .before .is-taken .ensures) ∙ not-true (c .before .is-taken .result) (c .if1 .taken)) in (
+      ap (λ (x : Answer). told x) (ea ∙ sym (asked.asked-refused s (c .before .before .before .before .args .i) f)),
+      rw f,
+    )
 
 cast-count : tie.Need-cast-count
 cast-count c = search needs
@@ -40,7 +45,10 @@ returns-2 c =
     let h : accepted (scheduleAnswer s) ≡ true = rw (← ea) t in
     let es = ap (λ (r : Opened). r .schedule) e ∙ laws.opened-schedule s h in
     let ec : c .before .before .before .before .before .open-schedule .result .schedule .count ≡ countIn s = ap (λ (d : Schedule). d .count) es in
-    rw (h, ← ec, le-ltb _ _ (c .if2 .taken))
+    let i = c .before .before .before .before .before .before .before .args .i in (
+      ap (λ (x : Answer). told x) (sym (asked.asked-none s i h (omega (arith, ec, c .if2 .taken)))),
+      rw (h, ← ec, le-ltb _ _ (c .if2 .taken)),
+    )
 
 cast-n : tie.Need-cast-n
 cast-n c = search needs
@@ -69,7 +77,10 @@ returns-3 c =
     let es = ap (λ (r : Opened). r .schedule) e ∙ laws.opened-schedule s h in
     let ec : c .before .before .before .before .before .before .before .before .open-schedule .result .schedule .count ≡ countIn s = ap (λ (d : Schedule). d .count) es in
     let en : c .before .before .before .before .before .before .before .before .open-schedule .result .schedule .image .n ≡ nodesIn s = ap (λ (d : Schedule). d .image .n) es in
-    rw (h, ← ec, lt-ltb _ _ (c .before .before .before .if2 .left), ← en) (c .event-at .ensures)
+    let i = c .before .before .before .before .before .before .before .before .before .before .args .i in (
+      ap (λ (x : Answer). told x) (sym (asked.asked-taken s i h (omega (arith, ec, c .before .before .before .if2 .left)))),
+      rw (h, ← ec, lt-ltb _ _ (c .before .before .before .if2 .left), ← en) (c .event-at .ensures),
+    )
 
 pub event-of-spec : {M : Type 1} → statement M
 event-of-spec =
