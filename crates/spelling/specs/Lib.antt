@@ -1,0 +1,4 @@
+pub mod Words
+pub mod Lines
+pub mod Reading
+pub mod Writing
