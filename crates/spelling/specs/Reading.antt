@@ -78,18 +78,18 @@ headOf v =
 unfoldable pub blankFile : Survey → List ℕ
 blankFile v = headOf v ++ replicate (v .n * 9 + v .count * 6) 0
 
-abbrev pub nodeIn : Act → List ℕ
-nodeIn a = a .b % 256 ∷ (le4 (a .c) ++ le4 (a .d))
+abbrev pub nodeSaid : Act → List ℕ
+nodeSaid a = a .b % 256 ∷ (le4 (a .c) ++ le4 (a .d))
 
-abbrev pub eventIn : Act → List ℕ
-eventIn a = a .a % 256 ∷ a .b % 256 ∷ le4 (a .c)
+abbrev pub eventSaid : Act → List ℕ
+eventSaid a = a .a % 256 ∷ a .b % 256 ∷ le4 (a .c)
 
 unfoldable pub times : ℕ → List ℕ → List ℕ
 times d l = joined (λ i. l) d
 
 -- what a line puts into the file x, whose events reach up to p; and up to where they then reach
 unfoldable pub putBy : List ℕ → ℕ → Act → List ℕ
-putBy x p a = pick (eqb (a .tag) 4) (over x (18 + a .a * 9) (nodeIn a)) (pick (eqb (a .tag) 5) (over x p (times (a .d) (eventIn a))) x)
+putBy x p a = pick (eqb (a .tag) 4) (over x (18 + a .a * 9) (nodeSaid a)) (pick (eqb (a .tag) 5) (over x p (times (a .d) (eventSaid a))) x)
 
 unfoldable pub reachBy : ℕ → Act → ℕ
 reachBy p a = pick (eqb (a .tag) 5) (p + a .d * 6) p
