@@ -4,6 +4,7 @@ use mathlib.Core.Path.{_≡_, refl, sym, ap, ap₂, subst₂, _∙_}
 use mathlib.Core.Bool.{Bool, true, false, not}
 use mathlib.Core.List.{List, [], _∷_, _++_, append-assoc, append-nil}
 use native.Mathlib.Omega.{arith}
+use native.Mathlib.Nat.{zero-add}
 use borrow.Author.Tests.{eqb-true, ne-eqb, lt-ltb, le-ltb}
 use lib.ListN.{length, getD, drop}
 use lib.Seq.{getD-drop}
@@ -143,3 +144,72 @@ module _ (s : List ℕ) (bs : num.Bytes s) (few : nodesIn s ≤ 64) (short : cou
           rw e
           (record { on = λ r. back.node-said i (nodeAt s i .linked) (nodeAt s i .index) (nodeAt s i .item) r (omega arith) (omega (arith, part-bytes s bs (10 + i * 9)))
           (small4 (imagePart s) (10 + i * 9 + 1) (part-bytes s bs)) (small4 (imagePart s) (10 + i * 9 + 5) (part-bytes s bs)) })
+
+  event-says : (j : ℕ) → j < countIn s → Says (eventEntry s j) (eventActs s j)
+  unfolding eventEntry
+  event-says j h = by (follows s j) refl
+    where
+      by : (b : Bool) → follows s j ≡ b → Says (eventEntry s j) (eventActs s j)
+      by true e = rw e says-none
+      by false e =
+          rw e
+          (line-says (eventIn s j) (runEnd s j - j) (omega (arith, bs (8 + (10 + nodesIn s * 9) + j * 6))) (omega (arith, bs (8 + (10 + nodesIn s * 9) + j * 6 + 1)))
+          (small4 s (8 + (10 + nodesIn s * 9) + j * 6 + 2) bs) (omega (arith, runs.run-le s j h)) (λ q. omega (arith, runs.run-one s j h q)))
+
+  nodes-at : (i : ℕ) → i < nodesIn s → entryOf s (3 + i) ≡ nodeEntry s i
+  unfolding entryOf
+  nodes-at i h =
+      let e : 3 + i - 3 ≡ i = omega arith in
+      rw (ne-eqb (3 + i) 0 (λ q. omega arith), ne-eqb (3 + i) 1 (λ q. omega arith), ne-eqb (3 + i) 2 (λ q. omega arith), lt-ltb (3 + i) (3 + nodesIn s) (omega arith))
+      (ap (nodeEntry s) e)
+
+  events-at : (j : ℕ) → entryOf s (3 + nodesIn s + j) ≡ eventEntry s j
+  unfolding entryOf
+  events-at j =
+      let k = 3 + nodesIn s + j in
+      let e : 3 + nodesIn s + j - 3 - nodesIn s ≡ j = omega arith in
+      rw (ne-eqb k 0 (λ q. omega arith), ne-eqb k 1 (λ q. omega arith), ne-eqb k 2 (λ q. omega arith), le-ltb k (3 + nodesIn s) (omega arith))
+      (ap (eventEntry s) e)
+
+  says-0 : Says (text "nodes " ++ decimal (nodesIn s) ++ newline) (act 1 (nodesIn s) 0 0 0 ∷ [])
+  says-0 = record { on = λ r. back.nodes-said (nodesIn s) r (omega arith) }
+
+  says-1 : Says (text "threads " ++ decimal (threadsIn s) ++ newline) (act 2 (threadsIn s) 0 0 0 ∷ [])
+  says-1 = record { on = λ r. back.threads-said (threadsIn s) r (omega (arith, bs 5)) }
+
+  says-2 : Says (text "head " ++ decimal (at4 (imagePart s) 6) ++ newline) (act 3 (at4 (imagePart s) 6) 0 0 0 ∷ [])
+  says-2 = record { on = λ r. back.head-said (at4 (imagePart s) 6) r (small4 (imagePart s) 6 (part-bytes s bs)) }
+
+  first-says : Says (linesOn (entryOf s) 0 3) (headActs s)
+  unfolding linesOn joined entryOf
+  first-says = says-also (says-also (says-also says-none says-0) says-1) says-2
+
+  middle-says : Says (linesOn (entryOf s) 3 (nodesIn s)) (joined (nodeActs s) (nodesIn s))
+  unfolding linesOn
+  middle-says =
+      says-joined (λ i. entryOf s (3 + i)) (nodeActs s) (nodesIn s)
+      (λ i h. subst₂ (λ a k. Says a k) (sym (nodes-at i h)) refl (node-says i h))
+
+  last-says : Says (linesOn (entryOf s) (3 + nodesIn s) (countIn s)) (joined (eventActs s) (countIn s))
+  unfolding linesOn
+  last-says =
+      says-joined (λ j. entryOf s (3 + nodesIn s + j)) (eventActs s) (countIn s)
+      (λ j h. subst₂ (λ a k. Says a k) (sym (events-at j)) refl (event-says j h))
+
+  parts : wordsOf s ≡ linesOn (entryOf s) 0 3 ++ linesOn (entryOf s) 3 (nodesIn s) ++ linesOn (entryOf s) (3 + nodesIn s) (countIn s)
+  unfolding wordsOf
+  parts =
+      fits.on-join (entryOf s) 0 (3 + nodesIn s) (countIn s)
+      ∙ ap₂ (λ a k. a ++ linesOn (entryOf s) k (countIn s)) (fits.on-join (entryOf s) 0 3 (nodesIn s)) (zero-add (3 + nodesIn s))
+
+  last-line : actsFrom noLine [] ≡ act 0 0 0 0 0 ∷ []
+  unfolding actsFrom said ended shapeOf saidBy keyOf wordOn text grown letterMore
+  last-line = refl
+
+  -- what the words of a schedule say, line by line
+  pub words-acts : actsOf (wordsOf s) ≡ headActs s ++ joined (nodeActs s) (nodesIn s) ++ joined (eventActs s) (countIn s) ++ (act 0 0 0 0 0 ∷ [])
+  unfolding actsOf
+  words-acts =
+      ap (actsFrom noLine) (sym (append-nil (wordsOf s)) ∙ ap (λ a. a ++ []) parts)
+      ∙ says-also (says-also first-says middle-says) last-says .on []
+      ∙ ap (λ z. headActs s ++ joined (nodeActs s) (nodesIn s) ++ joined (eventActs s) (countIn s) ++ z) last-line
