@@ -1,7 +1,9 @@
+pub mod EntryLaws
 pub mod Examples
 pub mod Feeding
 pub mod ReadBack
 pub mod Acts
 pub mod RoundTrip
 pub mod Runs
+pub mod SpellLaws
 pub mod Zeroed

@@ -1,4 +1,9 @@
 // Schedules as words, a line each: written into a lent buffer, and read.
+mod entries;
+mod spelling_lines;
+mod texts;
+
+pub use spelling_lines::spell_lines;
 
 // A word, as far as it was read: 0 none yet; 1 letters, by their key; 2 a number; 3 a number beyond 64 bits; 4 any other.
 pub struct Word {
