@@ -6,4 +6,5 @@ pub mod Acts
 pub mod RoundTrip
 pub mod Runs
 pub mod SpellLaws
+pub mod Unique
 pub mod Zeroed

@@ -93,3 +93,9 @@ module _ (s : List ℕ) (k : ℕ) (b : List ℕ) where
 
   pub none-of : (n : ℕ) (m : List ℕ) → n ≡ 0 → m ≡ over b 0 (linesOn (entryOf s) k n) → m ≡ b
   none-of n m e f = f ∙ ap (λ z. over b 0 (linesOn (entryOf s) k z)) e ∙ ap (over b 0) (fits.on-none (entryOf s) k) ∙ sym nothing
+
+  -- a refusal writes nothing
+  pub unwritten : accepted (spellAnswer s k (length b)) ≡ false → spellWritten s k b ≡ b
+  unwritten h =
+      let l = sym (fits.on-none (entryOf s) k) ∙ bytes-of 0 (sym (taken-none h)) in
+      sym (written-of [] l) ∙ sym nothing
