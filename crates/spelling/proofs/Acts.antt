@@ -26,7 +26,7 @@ use Rattle.codec.proofs.Numbers as num
 use Rattle.codec.proofs.Accepted as acc
 use Rattle.spelling.specs.declared.Act.{Act}
 use Rattle.spelling.specs.Words.{noLine, ended, wordOn, keyOf, grown, letterMore}
-use Rattle.spelling.specs.Lines.{act, shapeOf, saidBy, said, actsFrom, actsOf}
+use Rattle.spelling.specs.Lines.{act, keyIn, shapeOf, saidBy, said, actsFrom, actsOf}
 use Rattle.spelling.specs.Writing.{nodeLine, eventLine, nodeAt, isBlankNode, nodeEntry, isStep, follows, runEnd, eventEntry, entryOf, entriesIn, wordsOf}
 use Rattle.spelling.proofs.ReadBack as back
 use Rattle.spelling.proofs.Runs as runs
@@ -203,7 +203,7 @@ module _ (s : List ℕ) (bs : num.Bytes s) (few : nodesIn s ≤ 64) (short : cou
       ∙ ap₂ (λ a k. a ++ linesOn (entryOf s) k (countIn s)) (fits.on-join (entryOf s) 0 3 (nodesIn s)) (zero-add (3 + nodesIn s))
 
   last-line : actsFrom noLine [] ≡ act 0 0 0 0 0 ∷ []
-  unfolding actsFrom said ended shapeOf saidBy keyOf wordOn text grown letterMore
+  unfolding actsFrom said ended keyIn shapeOf saidBy keyOf wordOn text grown letterMore
   last-line = refl
 
   -- what the words of a schedule say, line by line

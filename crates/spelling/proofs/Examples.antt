@@ -11,7 +11,7 @@ use Rattle.page.specs.Filled.{linesOn}
 use Rattle.spelling.specs.declared.Said.{Said}
 use Rattle.spelling.specs.declared.Said.the-variants.{Taken, Strange, Large, Many, Room}
 use Rattle.spelling.specs.Words.{digitMore, letterMore, grown, ended, lineByte, wordOn, keyOf}
-use Rattle.spelling.specs.Lines.{grade, graded, shapeOf, saidBy, said, actsFrom, actsOf}
+use Rattle.spelling.specs.Lines.{grade, graded, keyIn, shapeOf, saidBy, said, actsFrom, actsOf}
 use Rattle.spelling.specs.Reading.{surveyed, surveyFrom, lastFrom, surveyOf, headOf, blankFile, times, putBy, reachBy, putAll, fileOf, readAnswer}
 use Rattle.spelling.specs.Writing.{nodeLine, eventLine, nodeEntry, follows, runEnd, eventEntry, entryOf, wordsOf}
 
@@ -31,48 +31,48 @@ p6-words = refl
 
 -- with remarks, blank lines, tabs, carriage returns, and no line feed at the end
 pub p1-read : fileOf (text "# P1\r\n\n  nodes\t2 # two of them\r\n0 enqueue 007\n0 step 8#\n 0 step") ≡ P1
-unfolding P1 p1 four enqueue step zeroNodes schedule text joined over digitMore letterMore grown ended lineByte wordOn keyOf grade graded shapeOf saidBy said actsFrom actsOf surveyed surveyFrom surveyOf headOf blankFile times putBy reachBy putAll fileOf
+unfolding P1 p1 four enqueue step zeroNodes schedule text joined over digitMore letterMore grown ended lineByte wordOn keyOf grade graded keyIn shapeOf saidBy said actsFrom actsOf surveyed surveyFrom surveyOf headOf blankFile times putBy reachBy putAll fileOf
 p1-read = refl
 
 pub p6-read : fileOf (text "nodes 3\nthreads 2\n0 enqueue 5\n0 step 8\nevent 1 1 6\n1 step 14\n") ≡ P6
-unfolding P6 p6 four enqueue step zeroNodes schedule text joined over digitMore letterMore grown ended lineByte wordOn keyOf grade graded shapeOf saidBy said actsFrom actsOf surveyed surveyFrom surveyOf headOf blankFile times putBy reachBy putAll fileOf
+unfolding P6 p6 four enqueue step zeroNodes schedule text joined over digitMore letterMore grown ended lineByte wordOn keyOf grade graded keyIn shapeOf saidBy said actsFrom actsOf surveyed surveyFrom surveyOf headOf blankFile times putBy reachBy putAll fileOf
 p6-read = refl
 
 -- ---- what is refused; the lines are counted from 0
 
 
 pub empty-text : readAnswer (text "") 100 ≡ Strange 0
-unfolding text ended shapeOf saidBy said actsFrom actsOf surveyed surveyFrom lastFrom surveyOf readAnswer keyOf wordOn grown digitMore letterMore
+unfolding text ended keyIn shapeOf saidBy said actsFrom actsOf surveyed surveyFrom lastFrom surveyOf readAnswer keyOf wordOn grown digitMore letterMore
 empty-text = refl
 
 pub no-nodes : readAnswer (text "# none\n0 step\n") 100 ≡ Strange 1
-unfolding text digitMore letterMore grown ended lineByte wordOn keyOf grade graded shapeOf saidBy said actsFrom actsOf surveyed surveyFrom lastFrom surveyOf readAnswer
+unfolding text digitMore letterMore grown ended lineByte wordOn keyOf grade graded keyIn shapeOf saidBy said actsFrom actsOf surveyed surveyFrom lastFrom surveyOf readAnswer
 no-nodes = refl
 
 pub too-large : readAnswer (text "nodes 2\n256 step\n") 100 ≡ Large 1
-unfolding text digitMore letterMore grown ended lineByte wordOn keyOf grade graded shapeOf saidBy said actsFrom actsOf surveyed surveyFrom lastFrom surveyOf readAnswer
+unfolding text digitMore letterMore grown ended lineByte wordOn keyOf grade graded keyIn shapeOf saidBy said actsFrom actsOf surveyed surveyFrom lastFrom surveyOf readAnswer
 too-large = refl
 
 pub beyond-wide : readAnswer (text "nodes 2\n0 step 18446744073709551616\n") 100 ≡ Large 1
-unfolding text digitMore letterMore grown ended lineByte wordOn keyOf grade graded shapeOf saidBy said actsFrom actsOf surveyed surveyFrom lastFrom surveyOf readAnswer
+unfolding text digitMore letterMore grown ended lineByte wordOn keyOf grade graded keyIn shapeOf saidBy said actsFrom actsOf surveyed surveyFrom lastFrom surveyOf readAnswer
 beyond-wide = refl
 
 pub too-many : readAnswer (text "nodes 2\n0 step 18446744073709551615\n") 100 ≡ Many 1
-unfolding text digitMore letterMore grown ended lineByte wordOn keyOf grade graded shapeOf saidBy said actsFrom actsOf surveyed surveyFrom lastFrom surveyOf readAnswer
+unfolding text digitMore letterMore grown ended lineByte wordOn keyOf grade graded keyIn shapeOf saidBy said actsFrom actsOf surveyed surveyFrom lastFrom surveyOf readAnswer
 too-many = refl
 
 pub node-too-large : readAnswer (text "nodes 2\nnode 2 0 0 0") 100 ≡ Large 1
-unfolding text digitMore letterMore grown ended lineByte wordOn keyOf grade graded shapeOf saidBy said actsFrom actsOf surveyed surveyFrom lastFrom surveyOf readAnswer
+unfolding text digitMore letterMore grown ended lineByte wordOn keyOf grade graded keyIn shapeOf saidBy said actsFrom actsOf surveyed surveyFrom lastFrom surveyOf readAnswer
 node-too-large = refl
 
 pub six-words : readAnswer (text "nodes 2\nnode 1 0 0 0 0") 100 ≡ Strange 1
-unfolding text digitMore letterMore grown ended lineByte wordOn keyOf grade graded shapeOf saidBy said actsFrom actsOf surveyed surveyFrom lastFrom surveyOf readAnswer
+unfolding text digitMore letterMore grown ended lineByte wordOn keyOf grade graded keyIn shapeOf saidBy said actsFrom actsOf surveyed surveyFrom lastFrom surveyOf readAnswer
 six-words = refl
 
 pub one-byte-short : readAnswer (text "nodes 2") 35 ≡ Room
-unfolding text digitMore letterMore grown ended lineByte wordOn keyOf grade graded shapeOf saidBy said actsFrom actsOf surveyed surveyFrom lastFrom surveyOf readAnswer
+unfolding text digitMore letterMore grown ended lineByte wordOn keyOf grade graded keyIn shapeOf saidBy said actsFrom actsOf surveyed surveyFrom lastFrom surveyOf readAnswer
 one-byte-short = refl
 
 pub just-room : readAnswer (text "nodes 2") 36 ≡ Taken
-unfolding text digitMore letterMore grown ended lineByte wordOn keyOf grade graded shapeOf saidBy said actsFrom actsOf surveyed surveyFrom lastFrom surveyOf readAnswer
+unfolding text digitMore letterMore grown ended lineByte wordOn keyOf grade graded keyIn shapeOf saidBy said actsFrom actsOf surveyed surveyFrom lastFrom surveyOf readAnswer
 just-room = refl

@@ -1,3 +1,4 @@
+pub mod ByteLaws
 pub mod EntryLaws
 pub mod Examples
 pub mod Feeding
@@ -6,5 +7,6 @@ pub mod Acts
 pub mod RoundTrip
 pub mod Runs
 pub mod SpellLaws
+pub mod SurveyLaws
 pub mod Unique
 pub mod Zeroed

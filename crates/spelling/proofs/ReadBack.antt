@@ -11,7 +11,7 @@ use Rattle.spelling.specs.declared.Word.{Word}
 use Rattle.spelling.specs.declared.Line.{Line}
 use Rattle.spelling.specs.declared.Act.{Act}
 use Rattle.spelling.specs.Words.{noWord, number, letters, digitMore, letterMore, grown, noLine, ended, lineByte, wordOn, keyOf}
-use Rattle.spelling.specs.Lines.{act, grade, graded, shapeOf, saidBy, said, actsFrom}
+use Rattle.spelling.specs.Lines.{act, grade, graded, keyIn, shapeOf, saidBy, said, actsFrom}
 use Rattle.spelling.proofs.Feeding.{line, Feeds, also, ends, numbered}
 
 abbrev none : List Word
@@ -93,22 +93,22 @@ dequeue-word x = record { on = λ r. refl }
 
 pub nodes-said : (x : ℕ) (r : List ℕ) → x ≤ 18446744073709551615
     → actsFrom noLine (text "nodes " ++ decimal x ++ newline ++ r) ≡ act 1 x 0 0 0 ∷ actsFrom noLine r
-unfolding said ended shapeOf saidBy keyOf wordOn text grown letterMore graded
+unfolding said ended keyIn shapeOf saidBy keyOf wordOn text grown letterMore graded
 nodes-said x r h = ends (also nodes-word (numbered 1 (begins (letters (keyOf "nodes"))) x (omega arith))) r ∙ rw (graded-good x 18446744073709551615 h)
 
 pub threads-said : (x : ℕ) (r : List ℕ) → x ≤ 255
     → actsFrom noLine (text "threads " ++ decimal x ++ newline ++ r) ≡ act 2 x 0 0 0 ∷ actsFrom noLine r
-unfolding said ended shapeOf saidBy keyOf wordOn text grown letterMore graded
+unfolding said ended keyIn shapeOf saidBy keyOf wordOn text grown letterMore graded
 threads-said x r h = ends (also threads-word (numbered 1 (begins (letters (keyOf "threads"))) x (omega arith))) r ∙ rw (graded-good x 255 h)
 
 pub head-said : (x : ℕ) (r : List ℕ) → x ≤ 4294967295
     → actsFrom noLine (text "head " ++ decimal x ++ newline ++ r) ≡ act 3 x 0 0 0 ∷ actsFrom noLine r
-unfolding said ended shapeOf saidBy keyOf wordOn text grown letterMore graded
+unfolding said ended keyIn shapeOf saidBy keyOf wordOn text grown letterMore graded
 head-said x r h = ends (also head-word (numbered 1 (begins (letters (keyOf "head"))) x (omega arith))) r ∙ rw (graded-good x 4294967295 h)
 
 pub node-said : (i l x v : ℕ) (r : List ℕ) → i ≤ 255 → l ≤ 255 → x ≤ 4294967295 → v ≤ 4294967295
     → actsFrom noLine (text "node " ++ decimal i ++ text " " ++ decimal l ++ text " " ++ decimal x ++ text " " ++ decimal v ++ newline ++ r) ≡ act 4 i l x v ∷ actsFrom noLine r
-unfolding said ended shapeOf saidBy keyOf wordOn text grown letterMore graded
+unfolding said ended keyIn shapeOf saidBy keyOf wordOn text grown letterMore graded
 node-said i l x v r hi hl hx hv =
     let u = letters (keyOf "node") in
     ends (also (also (also (also (also (also (also node-word (numbered 1 (begins u) i (omega arith))) (blank-1 u i))
@@ -119,7 +119,7 @@ node-said i l x v r hi hl hx hv =
 
 pub event-said : (k n v : ℕ) (r : List ℕ) → k ≤ 255 → n ≤ 255 → v ≤ 4294967295
     → actsFrom noLine (text "event " ++ decimal k ++ text " " ++ decimal n ++ text " " ++ decimal v ++ newline ++ r) ≡ act 5 k n v 1 ∷ actsFrom noLine r
-unfolding said ended shapeOf saidBy keyOf wordOn text grown letterMore graded
+unfolding said ended keyIn shapeOf saidBy keyOf wordOn text grown letterMore graded
 event-said k n v r hk hn hv =
     let u = letters (keyOf "event") in
     ends (also (also (also (also (also event-word (numbered 1 (begins u) k (omega arith))) (blank-1 u k))
@@ -128,27 +128,27 @@ event-said k n v r hk hn hv =
     ∙ rw (graded-good k 255 hk, graded-good n 255 hn, graded-good v 4294967295 hv)
 
 pub write-back-said : (x : ℕ) (r : List ℕ) → x ≤ 255 → actsFrom noLine (text "write-back " ++ decimal x ++ newline ++ r) ≡ act 5 4 x 0 1 ∷ actsFrom noLine r
-unfolding said ended shapeOf saidBy keyOf wordOn text grown letterMore graded
+unfolding said ended keyIn shapeOf saidBy keyOf wordOn text grown letterMore graded
 write-back-said x r h = ends (also write-back-word (numbered 1 (begins (letters (keyOf "write-back"))) x (omega arith))) r ∙ rw (graded-good x 255 h)
 
 pub crash-said : (r : List ℕ) → actsFrom noLine (text "crash" ++ newline ++ r) ≡ act 5 5 0 0 1 ∷ actsFrom noLine r
-unfolding said ended shapeOf saidBy keyOf wordOn text grown letterMore graded
+unfolding said ended keyIn shapeOf saidBy keyOf wordOn text grown letterMore graded
 crash-said r = ends crash-word r
 
 pub enqueue-said : (n v : ℕ) (r : List ℕ) → n ≤ 255 → v ≤ 4294967295
     → actsFrom noLine (decimal n ++ text " enqueue " ++ decimal v ++ newline ++ r) ≡ act 5 1 n v 1 ∷ actsFrom noLine r
-unfolding said ended shapeOf saidBy keyOf wordOn text grown letterMore graded
+unfolding said ended keyIn shapeOf saidBy keyOf wordOn text grown letterMore graded
 enqueue-said n v r hn hv =
     ends (also (also (numbered 0 none n (omega arith)) (enqueue-word n)) (numbered 2 (two (number n) (letters (keyOf "enqueue"))) v (omega arith))) r
     ∙ rw (graded-good n 255 hn, graded-good v 4294967295 hv)
 
 pub step-said : (n c : ℕ) (r : List ℕ) → n ≤ 255 → c ≤ 4294967295
     → actsFrom noLine (decimal n ++ text " step " ++ decimal c ++ newline ++ r) ≡ act 5 3 n 0 c ∷ actsFrom noLine r
-unfolding said ended shapeOf saidBy keyOf wordOn text grown letterMore graded
+unfolding said ended keyIn shapeOf saidBy keyOf wordOn text grown letterMore graded
 step-said n c r hn hc =
     ends (also (also (numbered 0 none n (omega arith)) (step-word n)) (numbered 2 (two (number n) (letters (keyOf "step"))) c (omega arith))) r
     ∙ rw (graded-good n 255 hn, graded-good c 18446744073709551615 (omega arith))
 
 pub dequeue-said : (n : ℕ) (r : List ℕ) → n ≤ 255 → actsFrom noLine (decimal n ++ text " dequeue" ++ newline ++ r) ≡ act 5 2 n 0 1 ∷ actsFrom noLine r
-unfolding said ended shapeOf saidBy keyOf wordOn text grown letterMore graded
+unfolding said ended keyIn shapeOf saidBy keyOf wordOn text grown letterMore graded
 dequeue-said n r hn = ends (also (numbered 0 none n (omega arith)) (dequeue-word n)) r ∙ rw (graded-good n 255 hn)

@@ -1,5 +1,5 @@
 -- What a line says. A kind of line is one entry of `saidBy`: its word, where that stands, how many words there are, and the bounds of its numbers.
-use Prim.Native.Nat.{ℕ, _+_, _*_}
+use Prim.Native.Nat.{ℕ, _+_, _*_, _%_}
 use Prim.Native.String.{String}
 use mathlib.Core.Bool.{Bool, true, false}
 use mathlib.Core.List.{List, [], _∷_}
@@ -45,8 +45,12 @@ firstIs s c = keyOf s * 16 + c
 abbrev pub secondIs : String → ℕ → ℕ
 secondIs s c = keyOf s * 16 + 8 + c
 
+-- the key of a word of letters, which has at most fifty bits; 0 for any other word
+unfoldable pub keyIn : Word → ℕ
+keyIn w = pick (eqb (w .kind) 1) (w .value % 1125899906842624) 0
+
 unfoldable pub shapeOf : Word → Word → ℕ → ℕ
-shapeOf u v c = pick (eqb (u .kind) 1) (u .value * 16 + c) (pick (eqb (v .kind) 1) (v .value * 16 + 8 + c) c)
+shapeOf u v c = pick (ltb 0 (keyIn u)) (keyIn u * 16 + c) (pick (ltb 0 (keyIn v)) (keyIn v * 16 + 8 + c) c)
 
 unfoldable pub saidBy : ℕ → Word → Word → Word → Word → Word → Act
 saidBy shape u v w x y =

@@ -1,7 +1,10 @@
 // Schedules as words, a line each: written into a lent buffer, and read.
 mod entries;
+mod saying;
 mod spelling_lines;
+mod surveying;
 mod texts;
+mod words;
 
 pub use spelling_lines::spell_lines;
 
