@@ -8,5 +8,6 @@ pub mod RoundTrip
 pub mod Runs
 pub mod SpellLaws
 pub mod SurveyLaws
+pub mod TurnLaws
 pub mod Unique
 pub mod Zeroed
