@@ -2,8 +2,10 @@ pub mod ByteLaws
 pub mod EntryLaws
 pub mod Examples
 pub mod Feeding
+pub mod PutLaws
 pub mod ReadBack
 pub mod Acts
+pub mod ReadLaws
 pub mod RoundTrip
 pub mod Runs
 pub mod SpellLaws

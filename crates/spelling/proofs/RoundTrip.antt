@@ -40,19 +40,19 @@ survey-also i v (x ∷ a) b =
     let e : suc i + length a ≡ i + suc (length a) = omega arith in
     survey-also (suc i) (surveyed i v x) a b ∙ ap (λ k. surveyFrom k (surveyFrom (suc i) (surveyed i v x) a) b) e
 
-unfoldable pub reachAll : ℕ → List Act → ℕ
-reachAll p [] = p
-reachAll p (a ∷ l) = reachAll (reachBy p a) l
+unfoldable pub reachAll : ℕ → ℕ → List Act → ℕ
+reachAll z p [] = p
+reachAll z p (a ∷ l) = reachAll z (reachBy z p a) l
 
-put-also : (x : List ℕ) (p : ℕ) (a b : List Act) → putAll x p (a ++ b) ≡ putAll (putAll x p a) (reachAll p a) b
+put-also : (z : ℕ) (x : List ℕ) (p : ℕ) (a b : List Act) → putAll z x p (a ++ b) ≡ putAll z (putAll z x p a) (reachAll z p a) b
 unfolding putAll reachAll
-put-also x p [] b = refl
-put-also x p (y ∷ a) b = put-also (putBy x p y) (reachBy p y) a b
+put-also z x p [] b = refl
+put-also z x p (y ∷ a) b = put-also z (putBy z x p y) (reachBy z p y) a b
 
-reach-also : (p : ℕ) (a b : List Act) → reachAll p (a ++ b) ≡ reachAll (reachAll p a) b
+reach-also : (z p : ℕ) (a b : List Act) → reachAll z p (a ++ b) ≡ reachAll z (reachAll z p a) b
 unfolding reachAll
-reach-also p [] b = refl
-reach-also p (y ∷ a) b = reach-also (reachBy p y) a b
+reach-also z p [] b = refl
+reach-also z p (y ∷ a) b = reach-also z (reachBy z p y) a b
 
 -- ---- bytes of a schedule
 
@@ -222,11 +222,15 @@ module _ (s : List ℕ) (bs : num.Bytes s) (h : accepted (scheduleAnswer s) ≡ 
       let e : nodesIn s * 9 + countIn s * 6 ≡ length s - 18 = omega (arith, size) in
       ap₂ (λ a n. a ++ zeroed.zero n) head-there e
 
-  heads-put : (x : List ℕ) (p : ℕ) → putAll x p (acts.headActs s) ≡ x
+  -- the size
+  abbrev Z : ℕ
+  Z = 18 + nodesIn s * 9 + countIn s * 6
+
+  heads-put : (x : List ℕ) (p : ℕ) → putAll Z x p (acts.headActs s) ≡ x
   unfolding putAll putBy reachBy
   heads-put x p = refl
 
-  heads-reach : (p : ℕ) → reachAll p (acts.headActs s) ≡ p
+  heads-reach : (p : ℕ) → reachAll Z p (acts.headActs s) ≡ p
   unfolding reachAll reachBy
   heads-reach p = refl
 
@@ -249,47 +253,47 @@ module _ (s : List ℕ) (bs : num.Bytes s) (h : accepted (scheduleAnswer s) ≡ 
       let b = both-true (eqb (nodeAt s i .index) 0) (eqb (nodeAt s i .item) 0) (a .1) in
       sym (node-nine i p) ∙ rw (eqb-true (nodeAt s i .linked) 0 (a .0), eqb-true (nodeAt s i .index) 0 (b .0), eqb-true (nodeAt s i .item) 0 (b .1))
 
-  one-node : (x : List ℕ) (p i l y v : ℕ) → putAll x p (act 4 i l y v ∷ []) ≡ over x (18 + i * 9) (l % 256 ∷ (le4 y ++ le4 v))
+  one-node : (x : List ℕ) (p i l y v : ℕ) → 18 + i * 9 + 9 ≤ Z → putAll Z x p (act 4 i l y v ∷ []) ≡ over x (18 + i * 9) (l % 256 ∷ (le4 y ++ le4 v))
   unfolding putAll putBy reachBy
-  one-node x p i l y v = refl
+  one-node x p i l y v h = rw (le-leb (18 + i * 9 + 9) Z h)
 
-  none-put : (x : List ℕ) (p : ℕ) → putAll x p [] ≡ x
+  none-put : (x : List ℕ) (p : ℕ) → putAll Z x p [] ≡ x
   unfolding putAll
   none-put x p = refl
 
-  node-puts : (q i : ℕ) → i < nodesIn s → putAll (zeroed.file s (18 + i * 9)) q (acts.nodeActs s i) ≡ zeroed.file s (18 + i * 9 + 9)
+  node-puts : (q i : ℕ) → i < nodesIn s → putAll Z (zeroed.file s (18 + i * 9)) q (acts.nodeActs s i) ≡ zeroed.file s (18 + i * 9 + 9)
   node-puts q i p = by (isBlankNode (nodeAt s i)) refl
     where
-      by : (b : Bool) → isBlankNode (nodeAt s i) ≡ b → putAll (zeroed.file s (18 + i * 9)) q (acts.nodeActs s i) ≡ zeroed.file s (18 + i * 9 + 9)
+      by : (b : Bool) → isBlankNode (nodeAt s i) ≡ b → putAll Z (zeroed.file s (18 + i * 9)) q (acts.nodeActs s i) ≡ zeroed.file s (18 + i * 9 + 9)
       by true e = rw e (none-put (zeroed.file s (18 + i * 9)) q ∙ zeroed.put-none s (18 + i * 9) 9 (node-place i p) (blank-nine i p e))
       by false e =
           rw e
-          (one-node (zeroed.file s (18 + i * 9)) q i (nodeAt s i .linked) (nodeAt s i .index) (nodeAt s i .item)
+          (one-node (zeroed.file s (18 + i * 9)) q i (nodeAt s i .linked) (nodeAt s i .index) (nodeAt s i .item) (omega arith)
           ∙ ap (over (zeroed.file s (18 + i * 9)) (18 + i * 9)) (node-nine i p)
           ∙ zeroed.put-next s (18 + i * 9) 9 (node-place i p))
 
-  node-reaches : (q i : ℕ) → reachAll q (acts.nodeActs s i) ≡ q
+  node-reaches : (q i : ℕ) → reachAll Z q (acts.nodeActs s i) ≡ q
   unfolding reachAll reachBy
   node-reaches q i = by (isBlankNode (nodeAt s i)) refl
     where
-      by : (b : Bool) → isBlankNode (nodeAt s i) ≡ b → reachAll q (acts.nodeActs s i) ≡ q
+      by : (b : Bool) → isBlankNode (nodeAt s i) ≡ b → reachAll Z q (acts.nodeActs s i) ≡ q
       by true e = rw e refl
       by false e = rw e refl
 
-  nodes-reach : (q m : ℕ) → reachAll q (joined (acts.nodeActs s) m) ≡ q
+  nodes-reach : (q m : ℕ) → reachAll Z q (joined (acts.nodeActs s) m) ≡ q
   unfolding joined reachAll
   nodes-reach q zero = refl
   nodes-reach q (suc m) =
-      reach-also q (joined (acts.nodeActs s) m) (acts.nodeActs s m)
-      ∙ ap (λ z. reachAll z (acts.nodeActs s m)) (nodes-reach q m) ∙ node-reaches q m
+      reach-also Z q (joined (acts.nodeActs s) m) (acts.nodeActs s m)
+      ∙ ap (λ z. reachAll Z z (acts.nodeActs s m)) (nodes-reach q m) ∙ node-reaches q m
 
-  nodes-put : (q m : ℕ) → m ≤ nodesIn s → putAll (zeroed.file s 18) q (joined (acts.nodeActs s) m) ≡ zeroed.file s (18 + m * 9)
+  nodes-put : (q m : ℕ) → m ≤ nodesIn s → putAll Z (zeroed.file s 18) q (joined (acts.nodeActs s) m) ≡ zeroed.file s (18 + m * 9)
   unfolding joined putAll
   nodes-put q zero p = ap (zeroed.file s) (sym (add-zero 18) ∙ ap (λ z. 18 + z) (sym (zero-mul 9)))
   nodes-put q (suc m) p =
       let e : 18 + m * 9 + 9 ≡ 18 + suc m * 9 = omega arith in
-      put-also (zeroed.file s 18) q (joined (acts.nodeActs s) m) (acts.nodeActs s m)
-      ∙ ap₂ (λ x z. putAll x z (acts.nodeActs s m)) (nodes-put q m (omega arith)) (nodes-reach q m)
+      put-also Z (zeroed.file s 18) q (joined (acts.nodeActs s) m) (acts.nodeActs s m)
+      ∙ ap₂ (λ x z. putAll Z x z (acts.nodeActs s m)) (nodes-put q m (omega arith)) (nodes-reach q m)
       ∙ node-puts q m (omega arith)
       ∙ ap (zeroed.file s) e
 
@@ -321,74 +325,74 @@ module _ (s : List ℕ) (bs : num.Bytes s) (h : accepted (scheduleAnswer s) ≡ 
       ∙ ap (take 6) (sym (drop-drop (i * 6) (place j) s)))
       ∙ tabs.joined-parts (drop (place j) s) 6 d
 
-  one-put : (x : List ℕ) (q a b c d : ℕ) → putAll x q (act 5 a b c d ∷ []) ≡ over x q (times d (a % 256 ∷ b % 256 ∷ le4 c))
+  one-put : (x : List ℕ) (q a b c d : ℕ) → q + d * 6 ≤ Z → putAll Z x q (act 5 a b c d ∷ []) ≡ over x q (times d (a % 256 ∷ b % 256 ∷ le4 c))
   unfolding putAll putBy reachBy
-  one-put x q a b c d = refl
+  one-put x q a b c d h = rw (le-leb (q + d * 6) Z h)
 
-  one-reach : (q a b c d : ℕ) → reachAll q (act 5 a b c d ∷ []) ≡ q + d * 6
+  one-reach : (q a b c d : ℕ) → q + d * 6 ≤ Z → reachAll Z q (act 5 a b c d ∷ []) ≡ q + d * 6
   unfolding reachAll reachBy
-  one-reach q a b c d = refl
+  one-reach q a b c d h = rw (le-leb (q + d * 6) Z h)
 
-  none-reach : (q : ℕ) → reachAll q [] ≡ q
+  none-reach : (q : ℕ) → reachAll Z q [] ≡ q
   unfolding reachAll
   none-reach q = refl
 
   event-puts : (j : ℕ) → j < countIn s
-      → putAll (zeroed.file s (place (runs.upto s j))) (place (runs.upto s j)) (acts.eventActs s j) ≡ zeroed.file s (place (runs.upto s (suc j)))
+      → putAll Z (zeroed.file s (place (runs.upto s j))) (place (runs.upto s j)) (acts.eventActs s j) ≡ zeroed.file s (place (runs.upto s (suc j)))
   event-puts j p = by (follows s j) refl
     where
       by : (b : Bool) → follows s j ≡ b
-          → putAll (zeroed.file s (place (runs.upto s j))) (place (runs.upto s j)) (acts.eventActs s j) ≡ zeroed.file s (place (runs.upto s (suc j)))
+          → putAll Z (zeroed.file s (place (runs.upto s j))) (place (runs.upto s j)) (acts.eventActs s j) ≡ zeroed.file s (place (runs.upto s (suc j)))
       by true e =
-          ap (putAll (zeroed.file s (place (runs.upto s j))) (place (runs.upto s j))) (joins j e)
+          ap (putAll Z (zeroed.file s (place (runs.upto s j))) (place (runs.upto s j))) (joins j e)
           ∙ none-put (zeroed.file s (place (runs.upto s j))) (place (runs.upto s j))
           ∙ ap (λ u. zeroed.file s (place u)) (runs.upto-follows s j p e ∙ sym (next j p))
       by false e =
           let g = runs.run-ge s j in
           let l = runs.run-le s j p in
           let d : place j + (runEnd s j - j) * 6 ≡ place (runs.upto s (suc j)) = omega (arith, next j p, g) in
-          ap (λ u. putAll (zeroed.file s (place u)) (place u) (acts.eventActs s j)) (runs.upto-leads s j p e)
-          ∙ ap (putAll (zeroed.file s (place j)) (place j)) (leads j e)
-          ∙ one-put (zeroed.file s (place j)) (place j) (eventIn s j .kind) (eventIn s j .number) (eventIn s j .item) (runEnd s j - j)
+          ap (λ u. putAll Z (zeroed.file s (place u)) (place u) (acts.eventActs s j)) (runs.upto-leads s j p e)
+          ∙ ap (putAll Z (zeroed.file s (place j)) (place j)) (leads j e)
+          ∙ one-put (zeroed.file s (place j)) (place j) (eventIn s j .kind) (eventIn s j .number) (eventIn s j .item) (runEnd s j - j) (omega (arith, g, l))
           ∙ ap (over (zeroed.file s (place j)) (place j)) (run-bytes j (runEnd s j - j) (omega (arith, g)) p)
           ∙ zeroed.put-next s (place j) ((runEnd s j - j) * 6) (omega (arith, size, g, l))
           ∙ ap (zeroed.file s) d
 
-  event-reaches : (j : ℕ) → j < countIn s → reachAll (place (runs.upto s j)) (acts.eventActs s j) ≡ place (runs.upto s (suc j))
+  event-reaches : (j : ℕ) → j < countIn s → reachAll Z (place (runs.upto s j)) (acts.eventActs s j) ≡ place (runs.upto s (suc j))
   event-reaches j p = by (follows s j) refl
     where
-      by : (b : Bool) → follows s j ≡ b → reachAll (place (runs.upto s j)) (acts.eventActs s j) ≡ place (runs.upto s (suc j))
+      by : (b : Bool) → follows s j ≡ b → reachAll Z (place (runs.upto s j)) (acts.eventActs s j) ≡ place (runs.upto s (suc j))
       by true e =
-          ap (reachAll (place (runs.upto s j))) (joins j e) ∙ none-reach (place (runs.upto s j))
+          ap (reachAll Z (place (runs.upto s j))) (joins j e) ∙ none-reach (place (runs.upto s j))
           ∙ ap place (runs.upto-follows s j p e ∙ sym (next j p))
       by false e =
           let d : place j + (runEnd s j - j) * 6 ≡ place (runs.upto s (suc j)) = omega (arith, next j p, runs.run-ge s j) in
-          ap (λ u. reachAll (place u) (acts.eventActs s j)) (runs.upto-leads s j p e)
-          ∙ ap (reachAll (place j)) (leads j e)
-          ∙ one-reach (place j) (eventIn s j .kind) (eventIn s j .number) (eventIn s j .item) (runEnd s j - j)
+          ap (λ u. reachAll Z (place u) (acts.eventActs s j)) (runs.upto-leads s j p e)
+          ∙ ap (reachAll Z (place j)) (leads j e)
+          ∙ one-reach (place j) (eventIn s j .kind) (eventIn s j .number) (eventIn s j .item) (runEnd s j - j) (omega (arith, runs.run-ge s j, runs.run-le s j p))
           ∙ d
 
   start : 18 + nodesIn s * 9 ≡ place (runs.upto s 0)
   start = omega (arith, runs.upto-zero s)
 
-  events-reach : (m : ℕ) → m ≤ countIn s → reachAll (18 + nodesIn s * 9) (joined (acts.eventActs s) m) ≡ place (runs.upto s m)
+  events-reach : (m : ℕ) → m ≤ countIn s → reachAll Z (18 + nodesIn s * 9) (joined (acts.eventActs s) m) ≡ place (runs.upto s m)
   unfolding joined reachAll
   events-reach zero p = start
   events-reach (suc m) p =
-      reach-also (18 + nodesIn s * 9) (joined (acts.eventActs s) m) (acts.eventActs s m)
-      ∙ ap (λ z. reachAll z (acts.eventActs s m)) (events-reach m (omega arith))
+      reach-also Z (18 + nodesIn s * 9) (joined (acts.eventActs s) m) (acts.eventActs s m)
+      ∙ ap (λ z. reachAll Z z (acts.eventActs s m)) (events-reach m (omega arith))
       ∙ event-reaches m (omega arith)
 
   events-put : (m : ℕ) → m ≤ countIn s
-      → putAll (zeroed.file s (18 + nodesIn s * 9)) (18 + nodesIn s * 9) (joined (acts.eventActs s) m) ≡ zeroed.file s (place (runs.upto s m))
+      → putAll Z (zeroed.file s (18 + nodesIn s * 9)) (18 + nodesIn s * 9) (joined (acts.eventActs s) m) ≡ zeroed.file s (place (runs.upto s m))
   unfolding joined putAll
   events-put zero p = ap (zeroed.file s) start
   events-put (suc m) p =
-      put-also (zeroed.file s (18 + nodesIn s * 9)) (18 + nodesIn s * 9) (joined (acts.eventActs s) m) (acts.eventActs s m)
-      ∙ ap₂ (λ x z. putAll x z (acts.eventActs s m)) (events-put m (omega arith)) (events-reach m (omega arith))
+      put-also Z (zeroed.file s (18 + nodesIn s * 9)) (18 + nodesIn s * 9) (joined (acts.eventActs s) m) (acts.eventActs s m)
+      ∙ ap₂ (λ x z. putAll Z x z (acts.eventActs s m)) (events-put m (omega arith)) (events-reach m (omega arith))
       ∙ event-puts m (omega arith)
 
-  last-puts : (x : List ℕ) (q : ℕ) → putAll x q (act 0 0 0 0 0 ∷ []) ≡ x
+  last-puts : (x : List ℕ) (q : ℕ) → putAll Z x q (act 0 0 0 0 0 ∷ []) ≡ x
   unfolding putAll putBy reachBy
   last-puts x q = refl
 
@@ -411,16 +415,16 @@ module _ (s : List ℕ) (bs : num.Bytes s) (h : accepted (scheduleAnswer s) ≡ 
       let z = act 0 0 0 0 0 ∷ [] in
       let p = 18 + nodesIn s * 9 in
       let f = zeroed.file s 18 in
-      let r : reachAll p (a ++ b) ≡ p = reach-also p a b ∙ ap (λ q. reachAll q b) (heads-reach p) ∙ nodes-reach p (nodesIn s) in
-      let ab : putAll f p (a ++ b) ≡ zeroed.file s p =
-      put-also f p a b ∙ ap₂ (λ x q. putAll x q b) (heads-put f p) (heads-reach p) ∙ nodes-put p (nodesIn s) (omega arith) in
-      let abc : putAll f p (a ++ b ++ c) ≡ s =
-      put-also f p (a ++ b) c ∙ ap₂ (λ x q. putAll x q c) ab r ∙ events-put (countIn s) (omega arith)
+      let r : reachAll Z p (a ++ b) ≡ p = reach-also Z p a b ∙ ap (λ q. reachAll Z q b) (heads-reach p) ∙ nodes-reach p (nodesIn s) in
+      let ab : putAll Z f p (a ++ b) ≡ zeroed.file s p =
+      put-also Z f p a b ∙ ap₂ (λ x q. putAll Z x q b) (heads-put f p) (heads-reach p) ∙ nodes-put p (nodesIn s) (omega arith) in
+      let abc : putAll Z f p (a ++ b ++ c) ≡ s =
+      put-also Z f p (a ++ b) c ∙ ap₂ (λ x q. putAll Z x q c) ab r ∙ events-put (countIn s) (omega arith)
       ∙ ap (λ u. zeroed.file s (place u)) (runs.upto-all s) ∙ all-there in
-      ap (λ v. putAll (blankFile v) (18 + v .n * 9) (actsOf (wordsOf s))) words-survey
-      ∙ ap₂ (λ x l. putAll x p l) blank-there (acts.words-acts s bs few (taken .count))
-      ∙ put-also f p (a ++ b ++ c) z
-      ∙ last-puts (putAll f p (a ++ b ++ c)) (reachAll p (a ++ b ++ c))
+      ap (λ v. putAll (18 + v .n * 9 + v .count * 6) (blankFile v) (18 + v .n * 9) (actsOf (wordsOf s))) words-survey
+      ∙ ap₂ (λ x l. putAll Z x p l) blank-there (acts.words-acts s bs few (taken .count))
+      ∙ put-also Z f p (a ++ b ++ c) z
+      ∙ last-puts (putAll Z f p (a ++ b ++ c)) (reachAll Z p (a ++ b ++ c))
       ∙ abc
 
   -- and they are taken, where there is room for it

@@ -87,20 +87,23 @@ eventSaid a = a .a % 256 ∷ a .b % 256 ∷ le4 (a .c)
 unfoldable pub times : ℕ → List ℕ → List ℕ
 times d l = joined (λ i. l) d
 
--- what a line puts into the file x, whose events reach up to p; and up to where they then reach
-unfoldable pub putBy : List ℕ → ℕ → Act → List ℕ
-putBy x p a = pick (eqb (a .tag) 4) (over x (18 + a .a * 9) (nodeSaid a)) (pick (eqb (a .tag) 5) (over x p (times (a .d) (eventSaid a))) x)
+-- what a line puts into a file of z bytes whose events reach up to p; and up to where they then reach. What does not fit is not put: where no line
+-- is at fault everything fits
+unfoldable pub putBy : ℕ → List ℕ → ℕ → Act → List ℕ
+putBy z x p a =
+    pick (eqb (a .tag) 4) (pick (leb (18 + a .a * 9 + 9) z) (over x (18 + a .a * 9) (nodeSaid a)) x)
+    (pick (eqb (a .tag) 5) (pick (leb (p + a .d * 6) z) (over x p (times (a .d) (eventSaid a))) x) x)
 
-unfoldable pub reachBy : ℕ → Act → ℕ
-reachBy p a = pick (eqb (a .tag) 5) (p + a .d * 6) p
+unfoldable pub reachBy : ℕ → ℕ → Act → ℕ
+reachBy z p a = pick (eqb (a .tag) 5) (pick (leb (p + a .d * 6) z) (p + a .d * 6) p) p
 
-unfoldable pub putAll : List ℕ → ℕ → List Act → List ℕ
-putAll x p [] = x
-putAll x p (a ∷ l) = putAll (putBy x p a) (reachBy p a) l
+unfoldable pub putAll : ℕ → List ℕ → ℕ → List Act → List ℕ
+putAll z x p [] = x
+putAll z x p (a ∷ l) = putAll z (putBy z x p a) (reachBy z p a) l
 
 -- the schedule that a text says
 unfoldable pub fileOf : List ℕ → List ℕ
-fileOf t = let v = surveyOf t in putAll (blankFile v) (eventsPlace v) (actsOf t)
+fileOf t = let v = surveyOf t in putAll (sizeOf v) (blankFile v) (eventsPlace v) (actsOf t)
 
 -- ---- answers
 

@@ -1,11 +1,14 @@
 // Schedules as words, a line each: written into a lent buffer, and read.
 mod entries;
+mod putting;
+mod reading;
 mod saying;
 mod spelling_lines;
 mod surveying;
 mod texts;
 mod words;
 
+pub use reading::read_words;
 pub use spelling_lines::spell_lines;
 
 // A word, as far as it was read: 0 none yet; 1 letters, by their key; 2 a number; 3 a number beyond 64 bits; 4 any other.

@@ -100,7 +100,7 @@ pub fn survey_act(i: u64, v: Survey, a: Act) -> Survey
     faulted(v, 1, i)
 }
 
-fn next_line(l: Line, x: u8) -> Line
+pub fn next_line(l: Line, x: u8) -> Line
     ensures { λ r. ⌜ r ≡ lineNext l x ⌝ }
 {
     if x == 10 {
