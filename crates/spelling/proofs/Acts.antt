@@ -40,7 +40,7 @@ says-none = record { on = λ r. refl }
 
 pub says-also : {a b : List ℕ} {k l : List Act} → Says a k → Says b l → Says (a ++ b) (k ++ l)
 says-also {a} {b} {k} {l} f g = record {
-  on = λ r. ap (actsFrom noLine) (append-assoc a b r) ∙ f .on (b ++ r) ∙ ap (λ z. k ++ z) (g .on r) ∙ sym (append-assoc k l (actsFrom noLine r))
+  on = λ r. ap (actsFrom noLine) (append-assoc a b r) ∙ f .on (b ++ r) ∙ ap (λ z. k ++ z) (g .on r) ∙ sym (append-assoc k l (actsFrom noLine r));
 }
 
 pub says-as : {a b : List ℕ} {k l : List Act} → a ≡ b → k ≡ l → Says a k → Says b l
@@ -142,8 +142,10 @@ module _ (s : List ℕ) (bs : num.Bytes s) (few : nodesIn s ≤ 64) (short : cou
       by true e = rw e says-none
       by false e =
           rw e
-          (record { on = λ r. back.node-said i (nodeAt s i .linked) (nodeAt s i .index) (nodeAt s i .item) r (omega arith) (omega (arith, part-bytes s bs (10 + i * 9)))
-          (small4 (imagePart s) (10 + i * 9 + 1) (part-bytes s bs)) (small4 (imagePart s) (10 + i * 9 + 5) (part-bytes s bs)) })
+          (record {
+            on = λ r. back.node-said i (nodeAt s i .linked) (nodeAt s i .index) (nodeAt s i .item) r (omega arith) (omega (arith, part-bytes s bs (10 + i * 9)))
+                (small4 (imagePart s) (10 + i * 9 + 1) (part-bytes s bs)) (small4 (imagePart s) (10 + i * 9 + 5) (part-bytes s bs));
+          })
 
   event-says : (j : ℕ) → j < countIn s → Says (eventEntry s j) (eventActs s j)
   unfolding eventEntry

@@ -40,7 +40,6 @@ p6-read = refl
 
 -- ---- what is refused; the lines are counted from 0
 
-
 pub empty-text : readAnswer (text "") 100 ≡ Strange 0
 unfolding text ended keyIn shapeOf saidBy said actsFrom actsOf surveyed surveyFrom lastFrom surveyOf readAnswer keyOf wordOn grown digitMore letterMore
 empty-text = refl

@@ -114,15 +114,19 @@ module _ (t b : List ℕ) where
     where
       none-bytes : isTaken (readAnswer t (length b)) ≡ false → 0 ≡ readBytes t (length b)
       none-bytes h = sym (bytes-none t (length b) h)
+
       none-written : isTaken (readAnswer t (length b)) ≡ false → b ≡ readWritten t b
       none-written h = sym (written-none t b h)
 
   pub gives-some : (v : Survey) (m x : List ℕ) → v ≡ surveyOf t → readAnswer t (length b) ≡ Taken → sizeOf v ≤ length b
       → x ≡ over b 0 (blankFile v) → m ≡ putAll (sizeOf v) x (eventsPlace v) (actsOf t) → Gives Taken (sizeOf v) m
-  gives-some v m x e h l p q =
-      (ap tells (sym h),
-      (ap sizeOf e ∙ sym (bytes-some t (length b) (ap isTaken h)),
+  gives-some v m x e h l p q = (
+    ap tells (sym h),
+    (
+      ap sizeOf e ∙ sym (bytes-some t (length b) (ap isTaken h)),
       q ∙ ap (λ y. putAll (sizeOf v) y (eventsPlace v) (actsOf t)) p
-      ∙ puts.all-front b (sizeOf v) (blankFile v) (eventsPlace v) (actsOf t) (puts.length-blank v) l
-      ∙ ap (over b 0) (file-of t v e)
-      ∙ sym (written-some t b (ap isTaken h))))
+          ∙ puts.all-front b (sizeOf v) (blankFile v) (eventsPlace v) (actsOf t) (puts.length-blank v) l
+          ∙ ap (over b 0) (file-of t v e)
+          ∙ sym (written-some t b (ap isTaken h)),
+    ),
+  )

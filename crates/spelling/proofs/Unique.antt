@@ -16,7 +16,6 @@ use Rattle.spelling.specs.declared.spelling_lines.Spelled.{Spelled}
 use Rattle.spelling.specs.Writing.{spellAnswer, spellWritten, wordsOf}
 use Rattle.spelling.proofs.spelling_lines.spell_lines.Reads as spell
 use Rattle.spelling.proofs.SpellLaws as spells
-
 use Rattle.schedule.specs.Layout.{scheduleAnswer}
 use Rattle.codec.proofs.Numbers as num
 use Rattle.spelling.specs.declared.Said.{Said}
@@ -88,6 +87,7 @@ pub read-back : (κs : Lfts 2) (s : List ℕ) (t b z : RefT (List ℕ)) (r : Spe
     → read.Post κs (t, (b, tt)) r (t, (z, tt)) → (isTaken (r .answer) ≡ true) × (now z ≡ over (now b) 0 s)
 read-back κs s t b z r bs h e l p =
     let a = ap (λ w. readAnswer w (length (now b))) e ∙ round.words-taken s bs h (length (now b)) l in
-    let q = says-injective (r .answer) (readAnswer (now t) (length (now b))) (p .0) in
-    (ap isTaken (q ∙ a),
-    p .1 .1 ∙ reads.written-some (now t) (now b) (ap isTaken a) ∙ ap (over (now b) 0) (ap fileOf e ∙ round.words-back s bs h))
+    let q = says-injective (r .answer) (readAnswer (now t) (length (now b))) (p .0) in (
+      ap isTaken (q ∙ a),
+      p .1 .1 ∙ reads.written-some (now t) (now b) (ap isTaken a) ∙ ap (over (now b) 0) (ap fileOf e ∙ round.words-back s bs h),
+    )

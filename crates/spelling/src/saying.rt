@@ -8,7 +8,9 @@ use crate::Word;
 use crate::words::end_word;
 
 const BYTE: u64 = 255;
+
 const WORD: u64 = 4294967295;
+
 const WIDE: u64 = 18446744073709551615;
 
 // 0: a number of at most `most`; 1: a larger number; 2: no number.
@@ -98,7 +100,10 @@ fn said_by(shape: u64, u: Word, v: Word, w: Word, x: Word, y: Word) -> Act
     if shape == 7587925 {
         let g = worse_of(grade_of(v, WIDE), grade_of(w, BYTE));
         let h = worse_of(grade_of(x, WORD), grade_of(y, WORD));
-        return graded_act(worse_of(g, h), an_act(4, v.value, w.value, x.value, y.value));
+        return graded_act(
+            worse_of(g, h),
+            an_act(4, v.value, w.value, x.value, y.value),
+        );
     }
     if shape == 93711854171 {
         let g = worse_of(grade_of(u, BYTE), grade_of(w, WORD));

@@ -19,9 +19,12 @@ no-line-requires : tie.Need-no-line-requires Inv-loop μ-loop
 no-line-requires c κs = tt
 
 loop-holds : tie.Need-loop-holds Inv-loop μ-loop
-loop-holds c = let a = c .before .before .before .args in
-    (omega arith, omega arith, refl,
-    turns.put-start (a .t .now) (a .z) (a .b .now) (a .from) ∙ ap (λ (l : Line). putAll (a .z) (a .b .now) (a .from) (actsFrom l (drop 0 (a .t .now)))) (sym (c .no-line .ensures)))
+loop-holds c = let a = c .before .before .before .args in (
+  omega arith,
+  omega arith,
+  refl,
+  turns.put-start (a .t .now) (a .z) (a .b .now) (a .from) ∙ ap (λ (l : Line). putAll (a .z) (a .b .now) (a .from) (actsFrom l (drop 0 (a .t .now)))) (sym (c .no-line .ensures)),
+)
 
 shared-slice-read-x : tie.Need-shared-slice-read-x Inv-loop μ-loop
 shared-slice-read-x c = omega arith
@@ -43,9 +46,12 @@ loop-again c = let a = c .before .before .before .before .before .before .before
     let t = a .t .now in
     let p = c .before .before .before .before .before .before .before .loop in
     let q = c .before .before .before .next-put in
-    let m = c .next-line .ensures in
-    (omega arith, q .ensures .1 .1, q .kept .0 ∙ p .inv .2,
-    p .inv .3 ∙ turns.put-turn t (p .i) (a .z) (p .b) (p .p) (p .l) (omega arith) ∙ rw (← q .ensures .1 .0, ← q .ensures .0, ← m) refl)
+    let m = c .next-line .ensures in (
+      omega arith,
+      q .ensures .1 .1,
+      q .kept .0 ∙ p .inv .2,
+      p .inv .3 ∙ turns.put-turn t (p .i) (a .z) (p .b) (p .p) (p .l) (omega arith) ∙ rw (← q .ensures .1 .0, ← q .ensures .0, ← m) refl,
+    )
 
 said-of-requires : tie.Need-said-of-requires Inv-loop μ-loop
 said-of-requires c κs = tt

@@ -93,9 +93,14 @@ loop-again c = let a = c .before .before .before .before .before .before .before
     let y = subst (λ l. laws.Put (p .b) (p .p) l (u .last .0) (u .result)) g (u .ensures) in
     let o = fits.on-put f (a .from) (p .k) (a .b .now) 0 (omega arith) (p .inv .3, p .inv .4) y in
     let h : length (f (p .k)) ≤ length (a .b .now) - p .p = omega (arith, w .ensures .0 .0, c .before .before .before .before .before .if1 .left, m) in
-    let r : length (a .b .now) - p .p - length (f (p .k)) ≡ length (a .b .now) - u .result = omega (arith, y .0) in
-    (omega arith, omega arith, omega (arith, h, y .0), o .0, o .1,
-    p .inv .5 ∙ fits.fit-next f (p .k) (a .to) (length (a .b .now) - p .p) (omega arith) h ∙ ap (λ x. p .k + 1 + fitting f (p .k + 1) (a .to - (p .k + 1)) x) r)
+    let r : length (a .b .now) - p .p - length (f (p .k)) ≡ length (a .b .now) - u .result = omega (arith, y .0) in (
+      omega arith,
+      omega arith,
+      omega (arith, h, y .0),
+      o .0,
+      o .1,
+      p .inv .5 ∙ fits.fit-next f (p .k) (a .to) (length (a .b .now) - p .p) (omega arith) h ∙ ap (λ x. p .k + 1 + fitting f (p .k + 1) (a .to - (p .k + 1)) x) r,
+    )
 
 same-length-2 : tie.Need-same-length-2 Inv-loop μ-loop
 same-length-2 c = let a = c .before .before .before .before .args in

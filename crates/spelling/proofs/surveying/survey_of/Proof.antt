@@ -23,10 +23,12 @@ no-survey-requires : tie.Need-no-survey-requires Inv-loop μ-loop
 no-survey-requires c κs = tt
 
 loop-holds : tie.Need-loop-holds Inv-loop μ-loop
-loop-holds c = let t = c .before .before .before .args .t .now in
-    (omega arith, omega arith,
-    turns.survey-start t ∙ ap₂ (λ (v : Survey) (l : Line). surveyFrom 0 v (actsFrom l (drop 0 t))) (sym (c .no-survey .ensures)) (sym (c .before .no-line .ensures)),
-    turns.last-start t ∙ ap (λ (l : Line). lastFrom 0 (actsFrom l (drop 0 t))) (sym (c .before .no-line .ensures)))
+loop-holds c = let t = c .before .before .before .args .t .now in (
+  omega arith,
+  omega arith,
+  turns.survey-start t ∙ ap₂ (λ (v : Survey) (l : Line). surveyFrom 0 v (actsFrom l (drop 0 t))) (sym (c .no-survey .ensures)) (sym (c .before .no-line .ensures)),
+  turns.last-start t ∙ ap (λ (l : Line). lastFrom 0 (actsFrom l (drop 0 t))) (sym (c .before .no-line .ensures)),
+)
 
 shared-slice-read-x : tie.Need-shared-slice-read-x Inv-loop μ-loop
 shared-slice-read-x c = omega arith
@@ -51,10 +53,12 @@ loop-again c = let t = c .before .before .before .before .before .before .before
     let p = c .before .before .before .before .before .loop in
     let n = c .before .next-number .ensures in
     let m = c .next-line .ensures in
-    let w = c .before .before .next-survey .ensures in
-    (omega arith, omega (arith, n, turns.number-le (p .line) (getD t (p .i) 0) (p .i) (p .inv .1)),
-    p .inv .2 ∙ turns.survey-turn t (p .i) (p .line) (p .v) (p .l) (omega arith) ∙ rw (← n, ← w, ← m) refl,
-    p .inv .3 ∙ turns.last-turn t (p .i) (p .line) (p .v) (p .l) (omega arith) ∙ rw (← n, ← m) refl)
+    let w = c .before .before .next-survey .ensures in (
+      omega arith,
+      omega (arith, n, turns.number-le (p .line) (getD t (p .i) 0) (p .i) (p .inv .1)),
+      p .inv .2 ∙ turns.survey-turn t (p .i) (p .line) (p .v) (p .l) (omega arith) ∙ rw (← n, ← w, ← m) refl,
+      p .inv .3 ∙ turns.last-turn t (p .i) (p .line) (p .v) (p .l) (omega arith) ∙ rw (← n, ← m) refl,
+    )
 
 said-of-requires : tie.Need-said-of-requires Inv-loop μ-loop
 said-of-requires c κs = tt
@@ -64,9 +68,10 @@ survey-act-requires c κs = tt
 
 returns : tie.Need-returns Inv-loop μ-loop
 returns c = let t = c .before .before .before .before .before .before .before .args .t .now in
-    let p = c .before .before .before .loop in
-    (c .survey-act .ensures ∙ ap (surveyed (p .line) (p .v)) (c .before .said-of .ensures) ∙ sym (p .inv .2 ∙ turns.survey-end t (p .i) (p .line) (p .v) (p .l) (omega arith)),
-    sym (p .inv .3 ∙ turns.last-end t (p .i) (p .line) (p .v) (p .l) (omega arith)))
+    let p = c .before .before .before .loop in (
+      c .survey-act .ensures ∙ ap (surveyed (p .line) (p .v)) (c .before .said-of .ensures) ∙ sym (p .inv .2 ∙ turns.survey-end t (p .i) (p .line) (p .v) (p .l) (omega arith)),
+      sym (p .inv .3 ∙ turns.last-end t (p .i) (p .line) (p .v) (p .l) (omega arith)),
+    )
 
 pub survey-of-spec : {M : Type 1} → statement M
 survey-of-spec =
