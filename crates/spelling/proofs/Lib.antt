@@ -1,0 +1,15 @@
+pub mod ByteLaws
+pub mod EntryLaws
+pub mod Examples
+pub mod Feeding
+pub mod PutLaws
+pub mod ReadBack
+pub mod Acts
+pub mod ReadLaws
+pub mod RoundTrip
+pub mod Runs
+pub mod SpellLaws
+pub mod SurveyLaws
+pub mod TurnLaws
+pub mod Unique
+pub mod Zeroed
