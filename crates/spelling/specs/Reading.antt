@@ -1,17 +1,17 @@
 -- The schedule that a text's lines say, and what is wrong with a text that says none.
-use Prim.Native.Nat.{ℕ, zero, suc, _+_, _*_, _/_, _%_}
+use Prim.Native.Nat.{ℕ, suc, _+_, _*_}
 use mathlib.Core.Bool.{Bool, true, false, not}
 use mathlib.Core.List.{List, [], _∷_, _++_}
 use lib.ListN.{length, replicate}
 use lib.Dec.{eqb, ltb, leb}
 use Rattle.lists.specs.Find.{pick}
 use Rattle.lists.specs.Tab.{joined, over}
-use Rattle.image.specs.Bytes.{le4}
 use Rattle.spelling.specs.declared.Act.{Act}
 use Rattle.spelling.specs.declared.Survey.{Survey}
 use Rattle.spelling.specs.declared.Said.{Said}
 use Rattle.spelling.specs.declared.Said.the-variants.{Taken, Strange, Large, Many, Room}
 use Rattle.spelling.specs.Lines.{actsOf}
+use Rattle.spelling.specs.Layout.{nodeSpan, eventSpan, nodeStart, eventsPlace, sizeOf, headOf, nodeSaid, eventSaid}
 
 -- ---- what the lines say together
 
@@ -63,26 +63,9 @@ surveyOf t = surveyFrom 0 noSurvey (actsOf t)
 
 -- ---- the bytes
 
--- the schedule's size: 8 + 10 + 9 N, then 6 an event
-abbrev pub eventsPlace : Survey → ℕ
-eventsPlace v = 18 + v .n * 9
-
-abbrev pub sizeOf : Survey → ℕ
-sizeOf v = eventsPlace v + v .count * 6
-
-unfoldable pub headOf : Survey → List ℕ
-headOf v =
-    85 ∷ 81 ∷ 83 ∷ 1 ∷ 0 ∷ v .t % 256 ∷ v .count % 256 ∷ v .count / 256 % 256 ∷ 85 ∷ 81 ∷ 73 ∷ 1 ∷ 0 ∷ v .n % 256 ∷ le4 (v .head)
-
 -- the schedule with zeros for its nodes and events
 unfoldable pub blankFile : Survey → List ℕ
-blankFile v = headOf v ++ replicate (v .n * 9 + v .count * 6) 0
-
-abbrev pub nodeSaid : Act → List ℕ
-nodeSaid a = a .b % 256 ∷ (le4 (a .c) ++ le4 (a .d))
-
-abbrev pub eventSaid : Act → List ℕ
-eventSaid a = a .a % 256 ∷ a .b % 256 ∷ le4 (a .c)
+blankFile v = headOf v ++ replicate (v .n * nodeSpan + v .count * eventSpan) 0
 
 unfoldable pub times : ℕ → List ℕ → List ℕ
 times d l = joined (λ i. l) d
@@ -91,11 +74,11 @@ times d l = joined (λ i. l) d
 -- is at fault everything fits
 unfoldable pub putBy : ℕ → List ℕ → ℕ → Act → List ℕ
 putBy z x p a =
-    pick (eqb (a .tag) 4) (pick (leb (18 + a .a * 9 + 9) z) (over x (18 + a .a * 9) (nodeSaid a)) x)
-    (pick (eqb (a .tag) 5) (pick (leb (p + a .d * 6) z) (over x p (times (a .d) (eventSaid a))) x) x)
+    pick (eqb (a .tag) 4) (pick (leb (nodeStart (a .a) + nodeSpan) z) (over x (nodeStart (a .a)) (nodeSaid a)) x)
+    (pick (eqb (a .tag) 5) (pick (leb (p + a .d * eventSpan) z) (over x p (times (a .d) (eventSaid a))) x) x)
 
 unfoldable pub reachBy : ℕ → ℕ → Act → ℕ
-reachBy z p a = pick (eqb (a .tag) 5) (pick (leb (p + a .d * 6) z) (p + a .d * 6) p) p
+reachBy z p a = pick (eqb (a .tag) 5) (pick (leb (p + a .d * eventSpan) z) (p + a .d * eventSpan) p) p
 
 unfoldable pub putAll : ℕ → List ℕ → ℕ → List Act → List ℕ
 putAll z x p [] = x

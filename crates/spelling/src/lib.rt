@@ -1,15 +1,6 @@
-// Schedules as words, a line each: written into a lent buffer, and read.
-mod entries;
-mod putting;
-mod reading;
-mod saying;
-mod spelling_lines;
-mod surveying;
-mod texts;
-mod words;
-
-pub use reading::read_words;
-pub use spelling_lines::spell_lines;
+// Schedules as words, a line each: what the lines say, and the answers of the calls that write and read them. Definitions; the code is in
+// wordwriter, wordreader and desk.
+use answer::Answer;
 
 // A word, as far as it was read: 0 none yet; 1 letters, by their key; 2 a number; 3 a number beyond 64 bits; 4 any other.
 pub struct Word {
@@ -57,5 +48,12 @@ pub enum Said {
 // The answer, and how many bytes the schedule has: 0 on a refusal.
 pub struct Spelt {
     pub answer: Said,
+    pub bytes: usize,
+}
+
+// What writing words answers: how many entries of the schedule were written, and their bytes; none on a refusal.
+pub struct Spelled {
+    pub answer: Answer,
+    pub entries: u32,
     pub bytes: usize,
 }
