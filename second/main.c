@@ -172,7 +172,9 @@ static int mode_generate(int count, char **words)
             continue;
         }
         u64 length = same_text(words[2], "histories") ? generate_history(seed, i, input)
-            : same_text(words[2], "searches") ? generate_search(seed, i, input) : generate_input(seed, i, words[2], input);
+            : same_text(words[2], "searches") ? generate_search(seed, i, input)
+            : same_text(words[2], "texts") ? generate_text(seed, i, input)
+            : same_text(words[2], "pieces") ? generate_piece(seed, i, input) : generate_input(seed, i, words[2], input);
         put4(head, (u32)length);
         put_bytes(head, 4);
         put_bytes(input, length);
@@ -333,6 +335,7 @@ static const struct {
     {"judged", mode_judged}, {"drawn", mode_drawn}, {"histories", mode_histories},
     {"wrong", mode_wrong}, {"search", mode_search}, {"frame", mode_frame}, {"frames", mode_frames},
     {"cuts", mode_cuts}, {"values", mode_values}, {"sequence", mode_sequence}, {"sequences", mode_sequences},
+    {"words", mode_words}, {"unwords", mode_unwords}, {"words-many", mode_words_many}, {"unwords-many", mode_unwords_many}, {"pieces-many", mode_pieces_many},
 };
 
 static int run_mode(int count, char **words)

@@ -333,4 +333,13 @@ Finding hold_history(const u8 *bytes, u64 length);
 u64 generate_search(u64 seed, u64 number, u8 *to);
 u64 generate_history(u64 seed, u64 number, u8 *to);
 
+/* words.c, texts.c */
+int mode_words(int count, char **words);
+int mode_unwords(int count, char **words);
+int mode_words_many(int count, char **words);
+int mode_unwords_many(int count, char **words);
+int mode_pieces_many(int count, char **words);
+u64 generate_text(u64 seed, u64 number, u8 *to);
+u64 generate_piece(u64 seed, u64 number, u8 *to);
+
 #endif

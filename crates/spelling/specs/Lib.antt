@@ -1,0 +1,5 @@
+pub mod Words
+pub mod Lines
+pub mod Layout
+pub mod Reading
+pub mod Writing

@@ -1,0 +1,4 @@
+pub mod ByteLaws
+pub mod PutLaws
+pub mod SurveyLaws
+pub mod TurnLaws

@@ -1,0 +1,154 @@
+// What the lines of a text say together.
+ghost use mathlib.Core.Path.{_≡_};
+ghost use Prim.Native.Nat.{_<_, _≤_};
+ghost use Rattle.spelling.specs.Lines.{actsOf};
+ghost use Rattle.spelling.specs.Reading.{noSurvey, surveyed, surveyOf, lastFrom};
+ghost use Rattle.wordreader.specs.Turns.{lineNext, numberNext, surveyNext};
+use crate::saying::said_of;
+use crate::words::line_byte;
+use crate::words::no_line;
+use spelling::Act;
+use spelling::Line;
+use spelling::Survey;
+
+// What the lines said, and the number of the last of them.
+pub struct Surveyed {
+    pub survey: Survey,
+    pub last: u64,
+}
+
+pub fn no_survey() -> Survey
+    ensures { λ r. ⌜ r ≡ noSurvey ⌝ }
+{
+    Survey {
+        fault: 0,
+        line: 0,
+        begun: false,
+        n: 0,
+        t: 1,
+        head: 0,
+        count: 0,
+    }
+}
+
+fn faulted(v: Survey, f: u8, i: u64) -> Survey
+    ensures { λ r. ⌜ r ≡ record { fault = f; line = i; begun = v .begun; n = v .n; t = v .t; head = v .head; count = v .count } ⌝ }
+{
+    let mut r = v;
+    r.fault = f;
+    r.line = i;
+    r
+}
+
+// Line i says a.
+pub fn survey_act(i: u64, v: Survey, a: Act) -> Survey
+    ensures { λ r. ⌜ r ≡ surveyed i v a ⌝ }
+{
+    let k = a.tag;
+    if v.fault != 0 {
+        return v;
+    }
+    if k == 0 {
+        return v;
+    }
+    if k == 9 {
+        return faulted(v, 2, i);
+    }
+    if k == 1 {
+        if v.begun {
+            return faulted(v, 1, i);
+        }
+        if 255 < a.a {
+            return faulted(v, 2, i);
+        }
+        let mut r = v;
+        r.begun = true;
+        r.n = a.a;
+        return r;
+    }
+    if !v.begun {
+        return faulted(v, 1, i);
+    }
+    if k == 2 {
+        let mut r = v;
+        r.t = a.a;
+        return r;
+    }
+    if k == 3 {
+        let mut r = v;
+        r.head = a.a;
+        return r;
+    }
+    if k == 4 {
+        if a.a < v.n {
+            return v;
+        }
+        return faulted(v, 2, i);
+    }
+    if k == 5 {
+        let d = a.d;
+        if d <= 65535 {
+            if v.count <= 65535 - d {
+                let mut r = v;
+                r.count = v.count + d;
+                return r;
+            }
+            return faulted(v, 3, i);
+        }
+        return faulted(v, 3, i);
+    }
+    faulted(v, 1, i)
+}
+
+pub fn next_line(l: Line, x: u8) -> Line
+    ensures { λ r. ⌜ r ≡ lineNext l x ⌝ }
+{
+    if x == 10 {
+        return no_line();
+    }
+    line_byte(l, x)
+}
+
+fn next_number(i: u64, x: u8) -> u64
+    requires { ⌜ i < 18446744073709551615 ⌝ }
+    ensures { λ r. ⌜ r ≡ numberNext i x ⌝ }
+{
+    if x == 10 {
+        return i + 1;
+    }
+    i
+}
+
+fn next_survey(i: u64, v: Survey, l: Line, x: u8) -> Survey
+    ensures { λ r. ⌜ r ≡ surveyNext i v l x ⌝ }
+{
+    if x == 10 {
+        let a = said_of(l);
+        return survey_act(i, v, a);
+    }
+    v
+}
+
+// What the lines of the text say, and the number of its last line.
+pub fn survey_of(t: &[u8]) -> Surveyed
+    ensures survey { λ r. ⌜ r .survey ≡ surveyOf (now (t .entry)) ⌝ }
+    ensures last { λ r. ⌜ r .last ≡ lastFrom 0 (actsOf (now (t .entry))) ⌝ }
+{
+    let mut l = no_line();
+    let mut v = no_survey();
+    let mut line: u64 = 0;
+    let mut i = 0;
+    while i < t.len() {
+        let x = t[i];
+        let w = next_survey(line, v, l, x);
+        let n = next_number(line, x);
+        let m = next_line(l, x);
+        v = w;
+        line = n;
+        l = m;
+        i += 1;
+    }
+    let a = said_of(l);
+    let survey = survey_act(line, v, a);
+    Surveyed { survey, last: line }
+}

@@ -1,0 +1,133 @@
+// The entries of a schedule in words, each into the front of a buffer that has room for the longest line.
+ghost use mathlib.Core.Path.{_≡_};
+ghost use mathlib.Core.Bool.{true};
+ghost use mathlib.Core.List.{[], _++_};
+ghost use Prim.Native.Nat.{_+_, _≤_, _<_};
+ghost use lib.ListN.{length};
+ghost use Rattle.lists.specs.Find.{pick};
+ghost use Rattle.lists.specs.Tab.{over};
+ghost use Rattle.lists.specs.Text.{text, decimal};
+ghost use Rattle.answer.specs.Answers.{accepted};
+ghost use Rattle.image.specs.Layout.{headIn};
+ghost use Rattle.schedule.specs.Layout.{nodesIn, countIn, eventPlace, scheduleIn, scheduleAnswer};
+ghost use Rattle.page.specs.Printed.{newline};
+ghost use Rattle.spelling.specs.Writing.{nodeLine, isBlankNode, follows, runEnd, eventEntry, entryOf, entriesIn};
+use crate::texts::is_step;
+use crate::texts::put_event;
+use crate::texts::put_head;
+use crate::texts::put_node;
+use crate::texts::put_nodes;
+use crate::texts::put_threads;
+use codec::event_at;
+use image::Content;
+use image::Image;
+use schedule::Schedule;
+
+// Whether event j is a step like the one before it.
+fn is_following(s: &[u8], n: usize, j: usize) -> bool
+    requires { ⌜ (n ≡ nodesIn (now s)) × (n ≤ 64) × (j ≤ 4096) × (eventPlace n j + 6 ≤ length (now s)) ⌝ }
+    ensures { λ r. ⌜ r ≡ follows (now (s .entry)) j ⌝ }
+{
+    if j == 0 {
+        return false;
+    }
+    let e = event_at(s, n, j);
+    if !is_step(e) {
+        return false;
+    }
+    let f = event_at(s, n, j - 1);
+    if !is_step(f) {
+        return false;
+    }
+    e.number == f.number
+}
+
+// Where the run of steps that event j begins ends.
+fn run_end(s: &[u8], n: usize, count: usize, j: usize) -> usize
+    requires { ⌜ (n ≡ nodesIn (now s)) × (count ≡ countIn (now s)) × (n ≤ 64) × (count ≤ 4096) × (j < count) × (eventPlace n count ≤ length (now s)) ⌝ }
+    ensures run { λ r. ⌜ r ≡ runEnd (now (s .entry)) j ⌝ }
+    ensures within { λ r. ⌜ (j < r) × (r ≤ 4096) ⌝ }
+{
+    let mut i = j + 1;
+    while i < count {
+        if !is_following(s, n, i) {
+            return i;
+        }
+        i += 1;
+    }
+    i
+}
+
+fn is_blank(v: Content) -> bool
+    ensures { λ r. ⌜ r ≡ isBlankNode v ⌝ }
+{
+    if v.linked != 0 {
+        return false;
+    }
+    if v.index != 0 {
+        return false;
+    }
+    v.item == 0
+}
+
+// The head index.
+fn put_heads(b: &mut [u8], g: Image) -> usize
+    requires { ⌜ 64 ≤ length (now b) ⌝ }
+    ensures put { λ r. ⌜ (r ≡ length (text "head " ++ decimal (headIn g 0) ++ newline)) × (now (b .exit) ≡ over (now (b .entry)) 0 (text "head " ++ decimal (headIn g 0) ++ newline)) ⌝ }
+    ensures room { λ r. ⌜ r ≤ 64 ⌝ }
+{
+    let heads = g.heads;
+    put_head(b, heads[0])
+}
+
+// Node i, unless all of it is zero.
+fn put_node_entry(b: &mut [u8], i: usize, v: Content) -> usize
+    requires { ⌜ (i ≤ 64) × (64 ≤ length (now b)) ⌝ }
+    ensures put { λ r. ⌜ (r ≡ length (pick (isBlankNode v) [] (nodeLine i v))) × (now (b .exit) ≡ over (now (b .entry)) 0 (pick (isBlankNode v) [] (nodeLine i v))) ⌝ }
+    ensures room { λ r. ⌜ r ≤ 64 ⌝ }
+{
+    if is_blank(v) {
+        return 0;
+    }
+    put_node(b, i as u32, v)
+}
+
+// Event j with the steps like it behind it, unless it stands behind one like it.
+fn put_event_entry(s: &[u8], n: usize, count: usize, j: usize, b: &mut [u8]) -> usize
+    requires { ⌜ (n ≡ nodesIn (now s)) × (count ≡ countIn (now s)) × (n ≤ 64) × (count ≤ 4096) × (j < count) × (eventPlace n count ≤ length (now s)) × (64 ≤ length (now b)) ⌝ }
+    ensures put { λ r. ⌜ (r ≡ length (eventEntry (now (s .entry)) j)) × (now (b .exit) ≡ over (now (b .entry)) 0 (eventEntry (now (s .entry)) j)) ⌝ }
+    ensures room { λ r. ⌜ r ≤ 64 ⌝ }
+{
+    if is_following(s, n, j) {
+        return 0;
+    }
+    let e = event_at(s, n, j);
+    let r = run_end(s, n, count, j);
+    put_event(b, e, (r - j) as u32)
+}
+
+// Entry k of a schedule that is taken up to its events.
+pub fn put_entry(s: &[u8], d: Schedule, k: usize, b: &mut [u8]) -> usize
+    requires { ⌜ (accepted (scheduleAnswer (now s)) ≡ true) × (d ≡ scheduleIn (now s)) × (k < entriesIn (now s)) × (64 ≤ length (now b)) ⌝ }
+    ensures put { λ r. ⌜ (r ≡ length (entryOf (now (s .entry)) k)) × (now (b .exit) ≡ over (now (b .entry)) 0 (entryOf (now (s .entry)) k)) ⌝ }
+    ensures room { λ r. ⌜ r ≤ 64 ⌝ }
+{
+    let g = d.image;
+    let n = g.n;
+    if k == 0 {
+        return put_nodes(b, n);
+    }
+    if k == 1 {
+        return put_threads(b, d.t);
+    }
+    if k == 2 {
+        return put_heads(b, g);
+    }
+    let m = n as usize;
+    if k < 3 + m {
+        let i = k - 3;
+        let v = g.nodes[i];
+        return put_node_entry(b, i, v);
+    }
+    put_event_entry(s, m, d.count as usize, k - 3 - m, b)
+}
