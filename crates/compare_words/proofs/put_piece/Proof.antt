@@ -8,7 +8,7 @@ slice-relend-prefix-spell-lines : tie.Need-slice-relend-prefix-spell-lines
 slice-relend-prefix-spell-lines c = search needs
 
 slice-aggregate-spell-lines : tie.Need-slice-aggregate-spell-lines
-slice-aggregate-spell-lines c = let a = c .before .before .args in sym (length-take-le (a .room) (a .lent .now) (c .before .before .pre))
+slice-aggregate-spell-lines c = let a = c .before .before .before in sym (length-take-le (a .args .room) (a .args .lent .now) (a .pre))
 
 spell-lines-requires : tie.Need-spell-lines-requires
 spell-lines-requires c κs = search needs
