@@ -14,6 +14,7 @@ use compare::text::put_pair;
 use compare::text::put_refusal;
 use libc::STDIN_FILENO;
 use spelling::Said;
+use spelling::Spelled;
 use stream::half;
 use stream::next_item;
 
@@ -56,36 +57,34 @@ fn answer_text(s: &[u8], out: &mut [u8; 65536], at: usize) -> usize {
     put(out, third, b'\n')
 }
 
-// Lends the buffer's front, and puts what was answered and the whole of what was lent.
-fn put_piece(
-    out: &mut [u8; 65536],
-    at: usize,
-    s: &[u8],
-    k: u64,
-    lent: &mut [u8],
-    room: usize,
-) -> usize
+// The buffer's front lent.
+fn spell_front(s: &[u8], k: u64, lent: &mut [u8], room: usize) -> Spelled
     requires { ⌜ room ≤ length (now lent) ⌝ }
 {
-    let w = desk::spell_lines(s, k, &mut lent[..room]);
+    desk::spell_lines(s, k, &mut lent[..room])
+}
+
+fn put_spelled(out: &mut [u8; 65536], at: usize, w: Spelled) -> usize {
     let a = w.answer;
     let t = told_of(a);
     let first = put_pair(out, at, t.number as u64, t.place as u64);
     let second = put(out, first, b' ');
-    let third = put_pair(out, second, w.entries as u64, w.bytes as u64);
-    let fourth = put(out, third, b' ');
-    let fifth = put_front(out, fourth, lent, room);
-    put(out, fifth, b'\n')
+    put_pair(out, second, w.entries as u64, w.bytes as u64)
 }
 
+// What was answered, and the whole of what was lent.
 fn answer_piece(s: &[u8], out: &mut [u8; 65536], at: usize) -> usize {
     if s.len() < 4 {
         return at;
     }
     let k = half(s, 0);
-    let room = half(s, 2);
+    let room = half(s, 2) as usize;
     let mut lent = [0xaau8; 65536];
-    put_piece(out, at, &s[4..], k as u64, &mut lent, room as usize)
+    let w = spell_front(&s[4..], k as u64, &mut lent, room);
+    let first = put_spelled(out, at, w);
+    let second = put(out, first, b' ');
+    let third = put_front(out, second, &lent, room);
+    put(out, third, b'\n')
 }
 
 fn answer_one(mode: u8, s: &[u8], out: &mut [u8; 65536], at: usize) -> usize {
