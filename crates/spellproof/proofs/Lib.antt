@@ -3,6 +3,8 @@ pub mod Zeroed
 pub mod Feeding
 pub mod ReadBack
 pub mod Acts
+pub mod Parts
 pub mod RoundTrip
 pub mod Keys
+pub mod Whole
 pub mod Examples

@@ -29,6 +29,7 @@ use Rattle.spelling.specs.Layout.{headOf}
 use Rattle.spelling.specs.Reading.{noSurvey, surveyed, surveyFrom, surveyOf, blankFile, times, putBy, reachBy, putAll, fileOf, readAnswer}
 use Rattle.spelling.specs.Writing.{nodeAt, isBlankNode, follows, runEnd, wordsOf}
 use Rattle.spellproof.proofs.Acts as acts
+use Rattle.spellproof.proofs.Parts.{byte4, byte2, six, nine, marks-of}
 use Rattle.spellproof.proofs.Runs as runs
 use Rattle.spellproof.proofs.Zeroed as zeroed
 
@@ -54,49 +55,6 @@ reach-also : (z p : ℕ) (a b : List Act) → reachAll z p (a ++ b) ≡ reachAll
 unfolding reachAll
 reach-also z p [] b = refl
 reach-also z p (y ∷ a) b = reach-also z (reachBy z p y) a b
-
--- ---- bytes of a schedule
-
-byte4 : (s : List ℕ) (i : ℕ) → num.Bytes s → i + 4 ≤ length s → le4 (at4 s i) ≡ getD s i 0 ∷ getD s (i + 1) 0 ∷ getD s (i + 2) 0 ∷ getD s (i + 3) 0 ∷ []
-byte4 s i b l = num.le-at 4 s i b l ∙ num.four-at s i l
-
-byte2 : (s : List ℕ) (i : ℕ) → num.Bytes s → i + 2 ≤ length s → at2 s i % 256 ∷ at2 s i / 256 % 256 ∷ [] ≡ getD s i 0 ∷ getD s (i + 1) 0 ∷ []
-byte2 s i b l = num.le-at 2 s i b l ∙ num.two-at s i l
-
--- six bytes of an event, nine of a node
-six : (s : List ℕ) (p : ℕ) → num.Bytes s → p + 6 ≤ length s → getD s p 0 % 256 ∷ getD s (p + 1) 0 % 256 ∷ le4 (at4 s (p + 2)) ≡ take 6 (drop p s)
-unfolding tab
-six s p b h =
-    let t : take 6 (drop p s) ≡ getD s p 0 ∷ getD s (p + 1) 0 ∷ getD s (p + 2) 0 ∷ getD s (p + 3) 0 ∷ getD s (p + 4) 0 ∷ getD s (p + 5) 0 ∷ [] =
-    tabs.take-drop-tab s 0 p 6 h ∙ simp add-zero in
-    let x : getD s p 0 % 256 ≡ getD s p 0 = omega (arith, b p) in
-    let y : getD s (p + 1) 0 % 256 ≡ getD s (p + 1) 0 = omega (arith, b (p + 1)) in
-    rw (x, y) (ap (λ (u : List ℕ). getD s p 0 ∷ getD s (p + 1) 0 ∷ u) (byte4 s (p + 2) b (omega arith)) ∙ simp add-assoc (sym t))
-
-nine : (s : List ℕ) (p : ℕ) → num.Bytes s → p + 9 ≤ length s → getD s p 0 % 256 ∷ (le4 (at4 s (p + 1)) ++ le4 (at4 s (p + 5))) ≡ take 9 (drop p s)
-unfolding tab
-nine s p b h =
-    let t : take 9 (drop p s) ≡ getD s p 0 ∷ getD s (p + 1) 0 ∷ getD s (p + 2) 0 ∷ getD s (p + 3) 0 ∷ getD s (p + 4) 0 ∷ getD s (p + 5) 0 ∷ getD s (p + 6) 0 ∷ getD s (p + 7) 0 ∷ getD s (p + 8) 0 ∷ [] =
-    tabs.take-drop-tab s 0 p 9 h ∙ simp add-zero in
-    let x : getD s p 0 % 256 ≡ getD s p 0 = omega (arith, b p) in
-    rw x (ap₂ (λ (u v : List ℕ). getD s p 0 ∷ (u ++ v)) (byte4 s (p + 1) b (omega arith)) (byte4 s (p + 5) b (omega arith)) ∙ simp add-assoc (sym t))
-
--- a mark's five bytes
-pub record Marks (s : List ℕ) (c : ℕ) : Type 0 where
-  pub m0 : getD s 0 0 ≡ 85
-  pub m1 : getD s 1 0 ≡ 81
-  pub m2 : getD s 2 0 ≡ c
-  pub m3 : getD s 3 0 ≡ 1
-  pub m4 : getD s 4 0 ≡ 0
-
-marks-of : (s : List ℕ) (c : ℕ) → marked 85 81 c s ≡ true → Marks s c
-unfolding marked
-marks-of s c m =
-    let a = both-true (eqb (getD s 0 0) 85) _ m in
-    let b = both-true (eqb (getD s 1 0) 81) _ (a .1) in
-    let d = both-true (eqb (getD s 2 0) c) _ (b .1) in
-    let e = both-true (eqb (getD s 3 0) 1) _ (d .1) in
-    record { m0 = eqb-true _ _ (a .0); m1 = eqb-true _ _ (b .0); m2 = eqb-true _ _ (d .0); m3 = eqb-true _ _ (e .0); m4 = eqb-true _ _ (e .1) }
 
 module _ (s : List ℕ) (bs : num.Bytes s) (h : accepted (scheduleAnswer s) ≡ true) where
   abbrev taken : acc.ScheduleTaken s

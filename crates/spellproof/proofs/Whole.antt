@@ -1,0 +1,129 @@
+-- Every entry has at most 64 bytes: a buffer of 64 bytes for each entry takes the whole text.
+use Prim.Native.Nat.{ℕ, zero, suc, _+_, _-_, _*_, _≤_, _<_}
+use mathlib.Core.Path.{_≡_, refl, ap, _∙_}
+use mathlib.Core.Bool.{Bool, true, false}
+use mathlib.Core.List.{List, [], _++_}
+use native.Mathlib.Omega.{arith}
+use borrow.Author.Tests.{ltb-false, le-ltb}
+use lib.ListN.{length, length-append}
+use lib.Dec.{eqb, ltb}
+use Rattle.lists.specs.Find.{pick, both}
+use Rattle.lists.specs.Text.{text, decimal}
+use Rattle.lists.proofs.BoolLaws.{no-of}
+use Rattle.answer.specs.Answers.{accepted}
+use Rattle.image.specs.Bytes.{at4}
+use Rattle.image.specs.Layout.{nodePlace}
+use Rattle.image.specs.declared.Content.{Content}
+use Rattle.image.proofs.ByteLaws as num
+use Rattle.machine.specs.declared.Event.{Event}
+use Rattle.schedule.specs.Layout.{threadsIn, countIn, nodesIn, imagePart, eventIn, eventPlace, scheduleAnswer}
+use Rattle.page.specs.Filled.{fitting}
+use Rattle.page.specs.Printed.{newline}
+use Rattle.printing.proofs.Short as short
+use Rattle.codec.proofs.Accepted as acc
+use Rattle.spelling.specs.Writing.{nodeLine, eventLine, nodeAt, isBlankNode, nodeEntry, follows, runEnd, eventEntry, entryOf, entriesIn}
+use Rattle.spellproof.proofs.Acts as acts
+use Rattle.spellproof.proofs.Runs as runs
+
+ten : (n : ℕ) → n ≤ 4294967295 → length (decimal n) ≤ 10
+ten n h = short.decimal-short 10 n (omega arith) (omega arith)
+
+-- ---- lines
+
+one-short : (a c : List ℕ) (n : ℕ) → length a ≤ 12 → length c ≤ 12 → n ≤ 4294967295 → length (a ++ decimal n ++ c) ≤ 64
+one-short a c n p q h = simp length-append (omega (arith, ten n h))
+
+two-short : (a c : List ℕ) (n m : ℕ) → length a ≤ 12 → length c ≤ 12 → n ≤ 4294967295 → m ≤ 4294967295 → length (decimal n ++ a ++ decimal m ++ c) ≤ 64
+two-short a c n m p q h g = simp length-append (omega (arith, ten n h, ten m g))
+
+last-short : (a c : List ℕ) (n : ℕ) → length a ≤ 12 → length c ≤ 12 → n ≤ 4294967295 → length (decimal n ++ a ++ c) ≤ 64
+last-short a c n p q h = simp length-append (omega (arith, ten n h))
+
+node-short : (i : ℕ) (v : Content) → i ≤ 4294967295 → v .linked ≤ 4294967295 → v .index ≤ 4294967295 → v .item ≤ 4294967295 → length (nodeLine i v) ≤ 64
+unfolding nodeLine text
+node-short i v p q r h = simp length-append (omega (arith, ten i p, ten (v .linked) q, ten (v .index) r, ten (v .item) h))
+
+either : (b : Bool) (x y : List ℕ) → length x ≤ 64 → length y ≤ 64 → length (pick b x y) ≤ 64
+either true x y p q = p
+either false x y p q = q
+
+module _ (e : Event) (r : ℕ) (k : e .kind ≤ 4294967295) (n : e .number ≤ 4294967295) (i : e .item ≤ 4294967295) (c : r ≤ 4294967295) where
+  abbrev plain : List ℕ
+  plain = text "event " ++ decimal (e .kind) ++ text " " ++ decimal (e .number) ++ text " " ++ decimal (e .item) ++ newline
+
+  plain-short : length plain ≤ 64
+  unfolding text
+  plain-short = simp length-append (omega (arith, ten (e .kind) k, ten (e .number) n, ten (e .item) i))
+
+  event-short : length (eventLine e r) ≤ 64
+  unfolding eventLine text
+  event-short =
+      either (eqb (e .kind) 1) _ _ (two-short (text " enqueue ") newline (e .number) (e .item) (omega arith) (omega arith) n i)
+      (either (both (eqb (e .kind) 2) (eqb (e .item) 0)) _ _ (last-short (text " dequeue") newline (e .number) (omega arith) (omega arith) n)
+      (either (both (eqb (e .kind) 3) (eqb (e .item) 0)) _ _ (two-short (text " step ") newline (e .number) r (omega arith) (omega arith) n c)
+      (either (both (eqb (e .kind) 4) (eqb (e .item) 0)) _ _ (one-short (text "write-back ") newline (e .number) (omega arith) (omega arith) n)
+      (either (both (eqb (e .kind) 5) (both (eqb (e .number) 0) (eqb (e .item) 0))) _ _ (omega arith) plain-short))))
+
+-- ---- entries of a schedule that is taken up to its events
+
+module _ (s : List ℕ) (bs : num.Bytes s) (few : nodesIn s ≤ 64) (many : countIn s ≤ 4096) where
+  part : num.Bytes (imagePart s)
+  part = acts.part-bytes s bs
+
+  node-entry : (i : ℕ) → i ≤ 5000 → length (nodeEntry s i) ≤ 64
+  unfolding nodeEntry
+  node-entry i p =
+      let at = nodePlace i in
+      either (isBlankNode (nodeAt s i)) [] (nodeLine i (nodeAt s i)) (omega arith)
+      (node-short i (nodeAt s i) (omega arith) (omega (arith, part at)) (acts.small4 (imagePart s) (at + 1) part) (acts.small4 (imagePart s) (at + 5) part))
+
+  event-entry : (j : ℕ) → j < countIn s → length (eventEntry s j) ≤ 64
+  unfolding eventEntry
+  event-entry j p =
+      let at = eventPlace (nodesIn s) j in
+      either (follows s j) [] (eventLine (eventIn s j) (runEnd s j - j)) (omega arith)
+      (event-short (eventIn s j) (runEnd s j - j) (omega (arith, bs at)) (omega (arith, bs (at + 1))) (acts.small4 s (at + 2) bs) (omega (arith, runs.run-le s j p)))
+
+  abbrev from3 : ℕ → List ℕ
+  from3 k = pick (ltb k (3 + nodesIn s)) (nodeEntry s (k - 3)) (eventEntry s (k - 3 - nodesIn s))
+
+  abbrev from2 : ℕ → List ℕ
+  from2 k = pick (eqb k 2) (text "head " ++ decimal (at4 (imagePart s) 6) ++ newline) (from3 k)
+
+  abbrev from1 : ℕ → List ℕ
+  from1 k = pick (eqb k 1) (text "threads " ++ decimal (threadsIn s) ++ newline) (from2 k)
+
+  third : (k : ℕ) → k < entriesIn s → (b : Bool) → ltb k (3 + nodesIn s) ≡ b → length (pick b (nodeEntry s (k - 3)) (eventEntry s (k - 3 - nodesIn s))) ≤ 64
+  third k p true e = node-entry (k - 3) (omega arith)
+  third k p false e = event-entry (k - 3 - nodesIn s) (omega (arith, ltb-false k (3 + nodesIn s) e))
+
+  entry-short : (k : ℕ) → k < entriesIn s → length (entryOf s k) ≤ 64
+  unfolding entryOf text
+  entry-short k p =
+      either (eqb k 0) (text "nodes " ++ decimal (nodesIn s) ++ newline) (from1 k) (one-short (text "nodes ") newline (nodesIn s) (omega arith) (omega arith) (omega arith))
+      (either (eqb k 1) (text "threads " ++ decimal (threadsIn s) ++ newline) (from2 k) (one-short (text "threads ") newline (threadsIn s) (omega arith) (omega arith) (omega (arith, bs 5)))
+      (either (eqb k 2) (text "head " ++ decimal (at4 (imagePart s) 6) ++ newline) (from3 k) (one-short (text "head ") newline (at4 (imagePart s) 6) (omega arith) (omega arith) (acts.small4 (imagePart s) 6 part))
+      (third k p (ltb k (3 + nodesIn s)) refl)))
+
+-- ---- the whole text
+
+all-fit : (f : ℕ → List ℕ) (c k room : ℕ) → ((i : ℕ) → i < k + c → length (f i) ≤ 64) → c * 64 ≤ room → fitting f k c room ≡ c
+unfolding fitting
+all-fit f zero k room h p = refl
+all-fit f (suc c) k room h p =
+    no-of 0 (suc (fitting f (suc k) c (room - length (f k)))) (ltb room (length (f k))) (le-ltb room (length (f k)) (omega (arith, h k (omega arith))))
+    ∙ ap suc (all-fit f c (suc k) (room - length (f k)) (λ i q. h i (omega arith)) (omega (arith, h k (omega arith))))
+
+module _ (s : List ℕ) (bs : num.Bytes s) (h : accepted (scheduleAnswer s) ≡ true) where
+  abbrev taken : acc.ScheduleTaken s
+  taken = acc.schedule-taken s h
+
+  pub entries-short : (k : ℕ) → k < entriesIn s → length (entryOf s k) ≤ 64
+  entries-short = entry-short s bs (acc.nodes-most (nodesIn s) (taken .part .nodes)) (taken .count)
+
+  pub entries-few : entriesIn s ≤ 4163
+  entries-few = omega (arith, acc.nodes-most (nodesIn s) (taken .part .nodes), taken .count)
+
+  -- so 266,432 bytes are room for the words of every schedule
+  pub whole : (room : ℕ) → entriesIn s * 64 ≤ room → fitting (entryOf s) 0 (entriesIn s) room ≡ entriesIn s
+  whole room p = all-fit (entryOf s) (entriesIn s) 0 room (λ i q. entries-short i (omega arith)) p
