@@ -2,6 +2,7 @@
 use answer::Answer;
 
 pub mod blank;
+pub mod form;
 pub mod heads;
 pub mod recovered;
 pub mod same;
@@ -9,6 +10,9 @@ pub mod same;
 pub use blank::blank_image;
 pub use blank::no_contents;
 pub use blank::no_heads;
+pub use form::is_known;
+pub use form::top_of;
+pub use form::whole_of;
 pub use heads::largest_of;
 pub use recovered::dummy_of;
 pub use recovered::first_twin;
@@ -21,17 +25,18 @@ pub use same::is_same;
 
 // The content of a node's line.
 pub struct Content {
-    pub linked: u8,
-    pub index: u32,
+    pub index: u64,
     pub item: u32,
+    pub linked: u8,
 }
 
-// N, the indices of the head lines, and the contents of the N nodes. There is one head line: indices behind the first are not part of
-// it, nor are nodes at n and beyond.
+// The form (docs/DECISIONS.md), N, the indices of the head lines, and the contents of the N nodes. There is one head line: indices
+// behind the first are not part of it, nor are nodes at n and beyond.
 pub struct Image {
-    pub n: u8,
-    pub heads: [u32; 8],
+    pub heads: [u64; 8],
     pub nodes: [Content; 64],
+    pub form: u8,
+    pub n: u8,
 }
 
 // What reading an image gives: on a refusal the image is the blank one.

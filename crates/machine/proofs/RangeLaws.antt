@@ -13,9 +13,12 @@ use Rattle.lists.proofs.FindLaws.{any-none}
 use Rattle.answer.specs.Answers.{accepted}
 use Rattle.image.specs.declared.Content.{Content}
 use Rattle.image.specs.declared.Image.{Image}
-use Rattle.image.specs.Recovered.{dummyOf}
+use Rattle.image.specs.Form.{topOf}
+use Rattle.image.specs.Layout.{contentAt, headLines, headIn}
+use Rattle.image.specs.Recovered.{headOf, dummyOf}
+use Rattle.image.proofs.HeadLaws.{one-head, heads-at, head-one}
 use Rattle.machine.specs.Record.{none, node, kept}
-use Rattle.machine.specs.Range.{isLink, sizesFit, endsFit, freeFits, nodeFits, threadFits, inRange}
+use Rattle.machine.specs.Range.{isLink, isIndex, sizesFit, endsFit, freeFits, headFits, nodeFits, threadFits, inRange}
 use Rattle.machine.specs.Start.{queueOf, behind, startWith, startOf, startAnswer, spare}
 use Rattle.machine.specs.Rising.{among}
 use Rattle.machine.specs.declared.Machine.{Machine}
@@ -25,11 +28,8 @@ use Rattle.machine.proofs.LinkLaws as links
 use Rattle.machine.proofs.StartLaws as starts
 use Rattle.lists.proofs.WordLaws.{wordOf-lt}
 
-all-of : (a b c d e : Bool) → a ≡ true → b ≡ true → c ≡ true → d ≡ true → e ≡ true → both a (both b (both c (both d e))) ≡ true
-all-of a b c d e p q r s t = rw (p, q, r, s, t)
-
-four : (a b c d : Bool) → a ≡ true → b ≡ true → c ≡ true → d ≡ true → both a (both b (both c d)) ≡ true
-four a b c d p q r s = rw (p, q, r, s)
+all-of : (a b c d e f : Bool) → a ≡ true → b ≡ true → c ≡ true → d ≡ true → e ≡ true → f ≡ true → both a (both b (both c (both d (both e f)))) ≡ true
+all-of a b c d e f p q r s t u = rw (p, q, r, s, t, u)
 
 -- none, or a node
 link-fits : (m : Machine) (x : ℕ) → (x ≡ none) ⊎ (x < m .n) → isLink m x ≡ true
@@ -49,7 +49,7 @@ module _ (g : Image) (t : ℕ) (ok : accepted (startAnswer g t) ≡ true) where
 
   sizes : sizesFit (startOf g t) ≡ true
   unfolding startWith
-  sizes = rw (le-leb 2 (g .n) (fit .nodes .0), le-leb (g .n) 64 (fit .nodes .1), le-leb 1 t (fit .threads .0), le-leb t 8 (fit .threads .1))
+  sizes = rw (fit .form, le-leb 2 (g .n) (fit .nodes .0), le-leb (g .n) 64 (fit .nodes .1), le-leb 1 t (fit .threads .0), le-leb t 8 (fit .threads .1))
 
   ends : endsFit (startOf g t) ≡ true
   unfolding startWith
@@ -78,36 +78,67 @@ module _ (g : Image) (t : ℕ) (ok : accepted (startAnswer g t) ≡ true) where
   kept-flag : (i : ℕ) → i < g .n → kept (startOf g t) i .linked ≤ 1
   kept-flag i h = let e = ap (λ (v : Content). v .linked) (starts.kept-is g t i h) in omega (arith, e, fit .clear i h)
 
+  index : (i : ℕ) → i < g .n → node (startOf g t) i .index ≤ topOf (g .form)
+  index i h = by (eqb i (dummyOf g)) (ap (λ (v : Node). v .index) (starts.node-is g t i h))
+    where
+      by : (b : Bool) → node (startOf g t) i .index ≡ pick b (headOf g) (contentAt (g .nodes) i .index) → node (startOf g t) i .index ≤ topOf (g .form)
+      by true e = omega (arith, e, head-one g, fit .fits .head)
+      by false e = omega (arith, e, fit .fits .at i h)
+
+  kept-index : (i : ℕ) → i < g .n → kept (startOf g t) i .index ≤ topOf (g .form)
+  kept-index i h = let e = ap (λ (v : Content). v .index) (starts.kept-is g t i h) in omega (arith, e, fit .fits .at i h)
+
+  head-index : (k : ℕ) → k < headLines (g .n) → headIn g k ≤ topOf (g .form)
+  head-index k h = let z : k ≡ 0 = omega (arith, one-head (g .n)) in rw z (fit .fits .head)
+
+  form-is : startOf g t .form ≡ g .form
+  unfolding startWith
+  form-is = refl
+
+  head-fits : (k : ℕ) → k < headLines (g .n) → headFits (startOf g t) k ≡ true
+  unfolding startWith
+  head-fits k h =
+      let e = heads-at (g .n) (headIn g) k h in
+      let l = le-leb (headIn g k) (topOf (g .form)) (head-index k h) in
+      rw (e, l)
+
   node-fits : (i : ℕ) → i < g .n → nodeFits (startOf g t) i ≡ true
   unfolding nodeFits
   node-fits i h =
-      four
+      all-of
       (isLink (startOf g t) (node (startOf g t) i .next))
       (leb (node (startOf g t) i .linked) 1)
       (leb (kept (startOf g t) i .linked) 1)
+      (isIndex (startOf g t) (node (startOf g t) i .index))
+      (isIndex (startOf g t) (kept (startOf g t) i .index))
       (ltb (node (startOf g t) i .waits) (2 ^ startOf g t .t))
       (link i h)
       (le-leb (node (startOf g t) i .linked) 1 (flag i h))
       (le-leb (kept (startOf g t) i .linked) 1 (kept-flag i h))
+      (rw form-is (le-leb (node (startOf g t) i .index) (topOf (g .form)) (index i h)))
+      (rw form-is (le-leb (kept (startOf g t) i .index) (topOf (g .form)) (kept-index i h)))
       (lt-ltb (node (startOf g t) i .waits) (2 ^ startOf g t .t) (omega (arith, starts.none-waits g t i h, positive (startOf g t .t))))
 
   thread-fits : (k : ℕ) → k < 8 → threadFits (startOf g t) k ≡ true
   unfolding threadFits
-  thread-fits k h = rw (starts.thread-is g t k h)
+  thread-fits k h = rw (starts.thread-is g t k h, le-leb 0 (topOf (startOf g t .form)) (omega arith))
 
   pub start-in-range : inRange (startOf g t) ≡ true
   unfolding inRange
   start-in-range =
+      let heads = any-none (λ k. not (headFits (startOf g t) k)) (headLines (startOf g t .n)) (λ k h. ap not (head-fits k (omega (arith, ap headLines (starts.sizes-are g t .0))))) in
       let nodes = any-none (λ i. not (nodeFits (startOf g t) i)) (startOf g t .n) (λ i h. ap not (node-fits i (omega (arith, starts.sizes-are g t .0)))) in
       let threads = any-none (λ k. not (threadFits (startOf g t) k)) (startOf g t .t) (λ k h. ap not (thread-fits k (omega (arith, starts.sizes-are g t .1, fit .threads .1)))) in
       all-of
       (sizesFit (startOf g t))
       (endsFit (startOf g t))
       (freeFits (startOf g t))
+      (not (any (λ k. not (headFits (startOf g t) k)) (headLines (startOf g t .n))))
       (not (any (λ i. not (nodeFits (startOf g t) i)) (startOf g t .n)))
       (not (any (λ k. not (threadFits (startOf g t) k)) (startOf g t .t)))
       sizes
       ends
       free
+      (ap not heads)
       (ap not nodes)
       (ap not threads)

@@ -3,8 +3,10 @@ use Prim.Native.Nat.{ℕ, _^_}
 use mathlib.Core.Bool.{Bool, true, false, not}
 use lib.Dec.{eqb, ltb, leb}
 use Rattle.lists.specs.Find.{pick, both, any}
+use Rattle.image.specs.Form.{known, topOf}
+use Rattle.image.specs.Layout.{headLines}
 use Rattle.image.specs.Refusals.{nodesFit}
-use Rattle.machine.specs.Record.{none, node, kept, thread}
+use Rattle.machine.specs.Record.{none, node, kept, headAt, keptHead, thread}
 use Rattle.machine.specs.Stage.{A12, D7, number, own, t, theHead, theNext, uses, stage}
 use Rattle.machine.specs.Start.{threadsFit}
 use Rattle.machine.specs.declared.Machine.{Machine}
@@ -20,9 +22,17 @@ isLink m x = pick (eqb x none) true (isNode m x)
 abbrev pub isFlag : ℕ → Bool
 isFlag x = leb x 1
 
--- "N, T": 2 to 64 nodes, 1 to 8 threads
+-- an index is at most the largest of the form: "A record's index above its width is 18"
+abbrev pub isIndex : Machine → ℕ → Bool
+isIndex m x = leb x (topOf (m .form))
+
+-- "N, T": a form that is read, 2 to 64 nodes, 1 to 8 threads
 abbrev pub sizesFit : Machine → Bool
-sizesFit m = both (nodesFit (m .n)) (threadsFit (m .t))
+sizesFit m = both (known (m .form)) (both (nodesFit (m .n)) (threadsFit (m .t)))
+
+-- both copies of a head line's index are indices
+abbrev pub headFits : Machine → ℕ → Bool
+headFits m k = both (isIndex m (headAt m k)) (isIndex m (keptHead m k))
 
 -- Head and Tail are nodes
 abbrev pub endsFit : Machine → Bool
@@ -32,11 +42,13 @@ endsFit m = both (isNode m (m .head)) (isNode m (m .tail))
 abbrev pub freeFits : Machine → Bool
 freeFits m = ltb (m .free) (2 ^ m .n)
 
--- a node's link is a node or none, its flags are flags, it waits for threads only
+-- a node's link is a node or none, its flags are flags, its indices indices, it waits for threads only
 unfoldable pub nodeFits : Machine → ℕ → Bool
 nodeFits m i =
     both (isLink m (node m i .next))
-    (both (isFlag (node m i .linked)) (both (isFlag (kept m i .linked)) (ltb (node m i .waits) (2 ^ m .t))))
+    (both (isFlag (node m i .linked))
+    (both (isFlag (kept m i .linked))
+    (both (isIndex m (node m i .index)) (both (isIndex m (kept m i .index)) (ltb (node m i .waits) (2 ^ m .t))))))
 
 -- a number that a step reads is a node where the step uses it, and a node or none elsewhere
 abbrev pub readFits : Machine → Bool → ℕ → Bool
@@ -54,11 +66,12 @@ threadFits m k =
     let v = thread m k in
     let s = stage m k in
     both (leb (v .step) (number D7))
+    (both (isIndex m (v .index))
     (both (readFits m (uses s own) (v .node))
     (both (readFits m (uses s t) (v .tail))
     (both (readFits m (uses s theHead) (v .head))
     (both (readFits m (uses s theNext) (v .next))
-    (both (isLink m (v .held)) (nextFits m (eqb (v .step) (number A12)) (v .tail)))))))
+    (both (isLink m (v .held)) (nextFits m (eqb (v .step) (number A12)) (v .tail))))))))
 
 -- the whole record
 unfoldable pub inRange : Machine → Bool
@@ -66,4 +79,5 @@ inRange m =
     both (sizesFit m)
     (both (endsFit m)
     (both (freeFits m)
-    (both (not (any (λ i. not (nodeFits m i)) (m .n))) (not (any (λ k. not (threadFits m k)) (m .t))))))
+    (both (not (any (λ k. not (headFits m k)) (headLines (m .n))))
+    (both (not (any (λ i. not (nodeFits m i)) (m .n))) (not (any (λ k. not (threadFits m k)) (m .t)))))))

@@ -9,7 +9,7 @@ use lib.ListN.{length, getD, take, length-append}
 use Rattle.lists.specs.Text.{text, decimal}
 use Rattle.answer.specs.Answers.{told}
 use Rattle.answer.specs.declared.Answer.{Answer}
-use Rattle.answer.specs.declared.Answer.the-variants.{Taken, Done, Full, WornOut, Item, Empty, Length, Mark, Nodes, Threads, Events, Linked, Twin, NoDummy, Kind, Number, Busy, Idle, NotZero, Contents, Endings, NoEnding, Room, Record}
+use Rattle.answer.specs.declared.Answer.the-variants.{Taken, Done, Full, WornOut, Item, Empty, Length, Mark, Nodes, Threads, Events, Linked, Twin, NoDummy, Kind, Number, Busy, Idle, NotZero, Contents, Endings, NoEnding, Room, Record, Clean, Narrow}
 use Rattle.image.specs.declared.Image.{Image}
 use Rattle.image.specs.Layout.{contentAt}
 use Rattle.image.specs.Recovered.{headOf}
@@ -175,6 +175,8 @@ number-small Endings = omega arith
 number-small NoEnding = omega arith
 number-small Room = omega arith
 number-small Record = omega arith
+number-small (Clean p) = omega arith
+number-small (Narrow p) = omega arith
 
 pub answer-short : (a : Answer) → told a .place < 4294967296 → length (refusedLine a) ≤ refusedRoom
 unfolding refusedLine refusedText
