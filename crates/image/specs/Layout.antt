@@ -31,6 +31,10 @@ headLines n = 1
 unfoldable pub noHeads : List ℕ
 noHeads = replicate 8 0
 
+-- an image's contents in form f
+abbrev pub inForm : ℕ → Image → Image
+inForm f g = record { form = f; n = g .n; heads = g .heads; nodes = g .nodes }
+
 -- the index in head line k
 abbrev pub headIn : Image → ℕ → ℕ
 headIn g k = getD (g .heads) k 0

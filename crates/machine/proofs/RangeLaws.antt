@@ -13,12 +13,12 @@ use Rattle.lists.proofs.FindLaws.{any-none}
 use Rattle.answer.specs.Answers.{accepted}
 use Rattle.image.specs.declared.Content.{Content}
 use Rattle.image.specs.declared.Image.{Image}
-use Rattle.image.specs.Form.{topOf}
+use Rattle.image.specs.Form.{known, topOf}
 use Rattle.image.specs.Layout.{contentAt, headLines, headIn}
 use Rattle.image.specs.Recovered.{headOf, dummyOf}
 use Rattle.image.proofs.HeadLaws.{one-head, heads-at, head-one}
-use Rattle.machine.specs.Record.{none, node, kept}
-use Rattle.machine.specs.Range.{isLink, isIndex, sizesFit, endsFit, freeFits, headFits, nodeFits, threadFits, inRange}
+use Rattle.machine.specs.Record.{none, node, kept, thread}
+use Rattle.machine.specs.Range.{isLink, sizesFit, endsFit, freeFits, nodeFits, threadFits, rangesFit, isIndex, headFits, indexFits, formFits, inRange}
 use Rattle.machine.specs.Start.{queueOf, behind, startWith, startOf, startAnswer, spare}
 use Rattle.machine.specs.Rising.{among}
 use Rattle.machine.specs.declared.Machine.{Machine}
@@ -28,8 +28,11 @@ use Rattle.machine.proofs.LinkLaws as links
 use Rattle.machine.proofs.StartLaws as starts
 use Rattle.lists.proofs.WordLaws.{wordOf-lt}
 
-all-of : (a b c d e f : Bool) → a ≡ true → b ≡ true → c ≡ true → d ≡ true → e ≡ true → f ≡ true → both a (both b (both c (both d (both e f)))) ≡ true
-all-of a b c d e f p q r s t u = rw (p, q, r, s, t, u)
+all-of : (a b c d e : Bool) → a ≡ true → b ≡ true → c ≡ true → d ≡ true → e ≡ true → both a (both b (both c (both d e))) ≡ true
+all-of a b c d e p q r s t = rw (p, q, r, s, t)
+
+four : (a b c d : Bool) → a ≡ true → b ≡ true → c ≡ true → d ≡ true → both a (both b (both c d)) ≡ true
+four a b c d p q r s = rw (p, q, r, s)
 
 -- none, or a node
 link-fits : (m : Machine) (x : ℕ) → (x ≡ none) ⊎ (x < m .n) → isLink m x ≡ true
@@ -49,7 +52,7 @@ module _ (g : Image) (t : ℕ) (ok : accepted (startAnswer g t) ≡ true) where
 
   sizes : sizesFit (startOf g t) ≡ true
   unfolding startWith
-  sizes = rw (fit .form, le-leb 2 (g .n) (fit .nodes .0), le-leb (g .n) 64 (fit .nodes .1), le-leb 1 t (fit .threads .0), le-leb t 8 (fit .threads .1))
+  sizes = rw (le-leb 2 (g .n) (fit .nodes .0), le-leb (g .n) 64 (fit .nodes .1), le-leb 1 t (fit .threads .0), le-leb t 8 (fit .threads .1))
 
   ends : endsFit (startOf g t) ≡ true
   unfolding startWith
@@ -78,6 +81,46 @@ module _ (g : Image) (t : ℕ) (ok : accepted (startAnswer g t) ≡ true) where
   kept-flag : (i : ℕ) → i < g .n → kept (startOf g t) i .linked ≤ 1
   kept-flag i h = let e = ap (λ (v : Content). v .linked) (starts.kept-is g t i h) in omega (arith, e, fit .clear i h)
 
+  node-fits : (i : ℕ) → i < g .n → nodeFits (startOf g t) i ≡ true
+  unfolding nodeFits
+  node-fits i h =
+      four
+      (isLink (startOf g t) (node (startOf g t) i .next))
+      (leb (node (startOf g t) i .linked) 1)
+      (leb (kept (startOf g t) i .linked) 1)
+      (ltb (node (startOf g t) i .waits) (2 ^ startOf g t .t))
+      (link i h)
+      (le-leb (node (startOf g t) i .linked) 1 (flag i h))
+      (le-leb (kept (startOf g t) i .linked) 1 (kept-flag i h))
+      (lt-ltb (node (startOf g t) i .waits) (2 ^ startOf g t .t) (omega (arith, starts.none-waits g t i h, positive (startOf g t .t))))
+
+  thread-fits : (k : ℕ) → k < 8 → threadFits (startOf g t) k ≡ true
+  unfolding threadFits
+  thread-fits k h = rw (starts.thread-is g t k h)
+
+  start-ranges : rangesFit (startOf g t) ≡ true
+  unfolding rangesFit
+  start-ranges =
+      let nodes = any-none (λ i. not (nodeFits (startOf g t) i)) (startOf g t .n) (λ i h. ap not (node-fits i (omega (arith, starts.sizes-are g t .0)))) in
+      let threads = any-none (λ k. not (threadFits (startOf g t) k)) (startOf g t .t) (λ k h. ap not (thread-fits k (omega (arith, starts.sizes-are g t .1, fit .threads .1)))) in
+      all-of
+      (sizesFit (startOf g t))
+      (endsFit (startOf g t))
+      (freeFits (startOf g t))
+      (not (any (λ i. not (nodeFits (startOf g t) i)) (startOf g t .n)))
+      (not (any (λ k. not (threadFits (startOf g t) k)) (startOf g t .t)))
+      sizes
+      ends
+      free
+      (ap not nodes)
+      (ap not threads)
+
+  -- ---- its form and its indices
+
+  form-is : startOf g t .form ≡ g .form
+  unfolding startWith
+  form-is = refl
+
   index : (i : ℕ) → i < g .n → node (startOf g t) i .index ≤ topOf (g .form)
   index i h = by (eqb i (dummyOf g)) (ap (λ (v : Node). v .index) (starts.node-is g t i h))
     where
@@ -91,54 +134,36 @@ module _ (g : Image) (t : ℕ) (ok : accepted (startAnswer g t) ≡ true) where
   head-index : (k : ℕ) → k < headLines (g .n) → headIn g k ≤ topOf (g .form)
   head-index k h = let z : k ≡ 0 = omega (arith, one-head (g .n)) in rw z (fit .fits .head)
 
-  form-is : startOf g t .form ≡ g .form
-  unfolding startWith
-  form-is = refl
-
   head-fits : (k : ℕ) → k < headLines (g .n) → headFits (startOf g t) k ≡ true
-  unfolding startWith
-  head-fits k h =
-      let e = heads-at (g .n) (headIn g) k h in
-      let l = le-leb (headIn g k) (topOf (g .form)) (head-index k h) in
-      rw (e, l)
+  unfolding startWith headFits
+  head-fits k h = rw (heads-at (g .n) (headIn g) k h, le-leb (headIn g k) (topOf (g .form)) (head-index k h))
 
-  node-fits : (i : ℕ) → i < g .n → nodeFits (startOf g t) i ≡ true
-  unfolding nodeFits
-  node-fits i h =
-      all-of
-      (isLink (startOf g t) (node (startOf g t) i .next))
-      (leb (node (startOf g t) i .linked) 1)
-      (leb (kept (startOf g t) i .linked) 1)
-      (isIndex (startOf g t) (node (startOf g t) i .index))
-      (isIndex (startOf g t) (kept (startOf g t) i .index))
-      (ltb (node (startOf g t) i .waits) (2 ^ startOf g t .t))
-      (link i h)
-      (le-leb (node (startOf g t) i .linked) 1 (flag i h))
-      (le-leb (kept (startOf g t) i .linked) 1 (kept-flag i h))
-      (rw form-is (le-leb (node (startOf g t) i .index) (topOf (g .form)) (index i h)))
-      (rw form-is (le-leb (kept (startOf g t) i .index) (topOf (g .form)) (kept-index i h)))
-      (lt-ltb (node (startOf g t) i .waits) (2 ^ startOf g t .t) (omega (arith, starts.none-waits g t i h, positive (startOf g t .t))))
+  index-fits : (i : ℕ) → i < g .n → indexFits (startOf g t) i ≡ true
+  unfolding indexFits
+  index-fits i h =
+      rw (form-is, le-leb (node (startOf g t) i .index) (topOf (g .form)) (index i h))
+      (le-leb (kept (startOf g t) i .index) (topOf (g .form)) (kept-index i h))
 
-  thread-fits : (k : ℕ) → k < 8 → threadFits (startOf g t) k ≡ true
-  unfolding threadFits
-  thread-fits k h = rw (starts.thread-is g t k h, le-leb 0 (topOf (startOf g t .form)) (omega arith))
+  thread-index : (k : ℕ) → k < 8 → isIndex (startOf g t) (thread (startOf g t) k .index) ≡ true
+  thread-index k h = rw (starts.thread-is g t k h) (le-leb 0 (topOf (startOf g t .form)) (omega arith))
 
-  pub start-in-range : inRange (startOf g t) ≡ true
-  unfolding inRange
-  start-in-range =
-      let heads = any-none (λ k. not (headFits (startOf g t) k)) (headLines (startOf g t .n)) (λ k h. ap not (head-fits k (omega (arith, ap headLines (starts.sizes-are g t .0))))) in
-      let nodes = any-none (λ i. not (nodeFits (startOf g t) i)) (startOf g t .n) (λ i h. ap not (node-fits i (omega (arith, starts.sizes-are g t .0)))) in
-      let threads = any-none (λ k. not (threadFits (startOf g t) k)) (startOf g t .t) (λ k h. ap not (thread-fits k (omega (arith, starts.sizes-are g t .1, fit .threads .1)))) in
-      all-of
-      (sizesFit (startOf g t))
-      (endsFit (startOf g t))
-      (freeFits (startOf g t))
+  start-form : formFits (startOf g t) ≡ true
+  unfolding formFits
+  start-form =
+      let n = starts.sizes-are g t .0 in
+      let heads = any-none (λ k. not (headFits (startOf g t) k)) (headLines (startOf g t .n)) (λ k h. ap not (head-fits k (omega (arith, ap headLines n)))) in
+      let nodes = any-none (λ i. not (indexFits (startOf g t) i)) (startOf g t .n) (λ i h. ap not (index-fits i (omega (arith, n)))) in
+      let threads = any-none (λ k. not (isIndex (startOf g t) (thread (startOf g t) k .index))) (startOf g t .t) (λ k h. ap not (thread-index k (omega (arith, starts.sizes-are g t .1, fit .threads .1)))) in
+      four
+      (known (startOf g t .form))
       (not (any (λ k. not (headFits (startOf g t) k)) (headLines (startOf g t .n))))
-      (not (any (λ i. not (nodeFits (startOf g t) i)) (startOf g t .n)))
-      (not (any (λ k. not (threadFits (startOf g t) k)) (startOf g t .t)))
-      sizes
-      ends
-      free
+      (not (any (λ i. not (indexFits (startOf g t) i)) (startOf g t .n)))
+      (not (any (λ k. not (isIndex (startOf g t) (thread (startOf g t) k .index))) (startOf g t .t)))
+      (rw form-is (fit .form))
       (ap not heads)
       (ap not nodes)
       (ap not threads)
+
+  pub start-in-range : inRange (startOf g t) ≡ true
+  unfolding inRange
+  start-in-range = rw start-ranges start-form

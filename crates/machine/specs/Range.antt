@@ -22,17 +22,9 @@ isLink m x = pick (eqb x none) true (isNode m x)
 abbrev pub isFlag : ℕ → Bool
 isFlag x = leb x 1
 
--- an index is at most the largest of the form: "A record's index above its width is 18"
-abbrev pub isIndex : Machine → ℕ → Bool
-isIndex m x = leb x (topOf (m .form))
-
--- "N, T": a form that is read, 2 to 64 nodes, 1 to 8 threads
+-- "N, T": 2 to 64 nodes, 1 to 8 threads
 abbrev pub sizesFit : Machine → Bool
-sizesFit m = both (known (m .form)) (both (nodesFit (m .n)) (threadsFit (m .t)))
-
--- both copies of a head line's index are indices
-abbrev pub headFits : Machine → ℕ → Bool
-headFits m k = both (isIndex m (headAt m k)) (isIndex m (keptHead m k))
+sizesFit m = both (nodesFit (m .n)) (threadsFit (m .t))
 
 -- Head and Tail are nodes
 abbrev pub endsFit : Machine → Bool
@@ -42,13 +34,11 @@ endsFit m = both (isNode m (m .head)) (isNode m (m .tail))
 abbrev pub freeFits : Machine → Bool
 freeFits m = ltb (m .free) (2 ^ m .n)
 
--- a node's link is a node or none, its flags are flags, its indices indices, it waits for threads only
+-- a node's link is a node or none, its flags are flags, it waits for threads only
 unfoldable pub nodeFits : Machine → ℕ → Bool
 nodeFits m i =
     both (isLink m (node m i .next))
-    (both (isFlag (node m i .linked))
-    (both (isFlag (kept m i .linked))
-    (both (isIndex m (node m i .index)) (both (isIndex m (kept m i .index)) (ltb (node m i .waits) (2 ^ m .t))))))
+    (both (isFlag (node m i .linked)) (both (isFlag (kept m i .linked)) (ltb (node m i .waits) (2 ^ m .t))))
 
 -- a number that a step reads is a node where the step uses it, and a node or none elsewhere
 abbrev pub readFits : Machine → Bool → ℕ → Bool
@@ -66,18 +56,39 @@ threadFits m k =
     let v = thread m k in
     let s = stage m k in
     both (leb (v .step) (number D7))
-    (both (isIndex m (v .index))
     (both (readFits m (uses s own) (v .node))
     (both (readFits m (uses s t) (v .tail))
     (both (readFits m (uses s theHead) (v .head))
     (both (readFits m (uses s theNext) (v .next))
-    (both (isLink m (v .held)) (nextFits m (eqb (v .step) (number A12)) (v .tail))))))))
+    (both (isLink m (v .held)) (nextFits m (eqb (v .step) (number A12)) (v .tail)))))))
 
--- the whole record
-unfoldable pub inRange : Machine → Bool
-inRange m =
+-- N, T, and every node, line, thread and step number and count
+unfoldable pub rangesFit : Machine → Bool
+rangesFit m =
     both (sizesFit m)
     (both (endsFit m)
     (both (freeFits m)
+    (both (not (any (λ i. not (nodeFits m i)) (m .n))) (not (any (λ k. not (threadFits m k)) (m .t))))))
+
+-- ---- "A record's index above its width is 18"
+
+abbrev pub isIndex : Machine → ℕ → Bool
+isIndex m x = leb x (topOf (m .form))
+
+-- of a head line and of a node both copies
+unfoldable pub headFits : Machine → ℕ → Bool
+headFits m k = both (isIndex m (headAt m k)) (isIndex m (keptHead m k))
+
+unfoldable pub indexFits : Machine → ℕ → Bool
+indexFits m i = both (isIndex m (node m i .index)) (isIndex m (kept m i .index))
+
+-- the form is one that is read, and every index is within its width
+unfoldable pub formFits : Machine → Bool
+formFits m =
+    both (known (m .form))
     (both (not (any (λ k. not (headFits m k)) (headLines (m .n))))
-    (both (not (any (λ i. not (nodeFits m i)) (m .n))) (not (any (λ k. not (threadFits m k)) (m .t)))))))
+    (both (not (any (λ i. not (indexFits m i)) (m .n))) (not (any (λ k. not (isIndex m (thread m k .index))) (m .t)))))
+
+-- the whole record
+unfoldable pub inRange : Machine → Bool
+inRange m = both (rangesFit m) (formFits m)
