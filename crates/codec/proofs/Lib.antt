@@ -1,5 +1,6 @@
 pub mod Accepted
 pub mod Laws
+pub mod Lying
 pub mod ReadWrite
 pub mod Same
 pub mod Unique

@@ -6,12 +6,15 @@ mod images;
 mod nodes;
 mod opening;
 mod reading;
+mod sound;
 mod writing;
 
 pub use events::event_at;
 pub use images::image_in;
 pub use images::put_image;
+pub use opening::check_schedule;
 pub use opening::open_schedule;
+pub use reading::check_part;
 pub use reading::read_part;
 pub use writing::write_image;
 ghost use mathlib.Core.Path.{_≡_};

@@ -1,10 +1,11 @@
 // A schedule read up to its events.
 ghost use mathlib.Core.Path.{_≡_};
 ghost use Rattle.codec.specs.Parts.{refusedOpened};
-ghost use Rattle.schedule.specs.Layout.{readSchedule};
+ghost use Rattle.schedule.specs.Layout.{scheduleAnswer, readSchedule};
 use crate::bytes::half_at;
 use crate::bytes::is_marked;
-use crate::reading::read_part;
+use crate::images::image_in;
+use crate::reading::check_part;
 use answer::Answer;
 use answer::is_taken;
 use machine::Machine;
@@ -27,33 +28,41 @@ fn refused(a: Answer) -> Opened
     }
 }
 
+// What is wrong with a schedule, up to its events. It builds none.
+pub fn check_schedule(s: &[u8]) -> Answer
+    ensures { λ r. ⌜ r ≡ scheduleAnswer (now (s .entry)) ⌝ }
+{
+    if s.len() < 8 {
+        return Answer::Length;
+    }
+    if !is_marked(s, 85, 81, 83) {
+        return Answer::Mark;
+    }
+    let t = s[5];
+    if t < 1 {
+        return Answer::Threads;
+    }
+    if 8 < t {
+        return Answer::Threads;
+    }
+    let count = half_at(s, 6);
+    if Machine::EVENTS < count {
+        return Answer::Events;
+    }
+    check_part(&s[8..], (count as usize) * 6)
+}
+
 // The schedule up to its events, or what is wrong.
 pub fn open_schedule(s: &[u8]) -> Opened
     ensures { λ r. ⌜ r ≡ readSchedule (now (s .entry)) ⌝ }
 {
-    if s.len() < 8 {
-        return refused(Answer::Length);
-    }
-    if !is_marked(s, 85, 81, 83) {
-        return refused(Answer::Mark);
-    }
-    let t = s[5];
-    if t < 1 {
-        return refused(Answer::Threads);
-    }
-    if 8 < t {
-        return refused(Answer::Threads);
-    }
-    let count = half_at(s, 6);
-    if Machine::EVENTS < count {
-        return refused(Answer::Events);
-    }
-    let r = read_part(&s[8..], (count as usize) * 6);
-    let a = r.answer;
+    let a = check_schedule(s);
     if !is_taken(a) {
         return refused(a);
     }
-    let image = r.image;
+    let t = s[5];
+    let count = half_at(s, 6);
+    let image = image_in(&s[8..]);
     let schedule = Schedule { t, count, image };
     Opened {
         answer: a,

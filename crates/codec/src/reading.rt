@@ -1,9 +1,11 @@
 // An image read from bytes, alone or in front of others.
 ghost use mathlib.Core.Path.{_≡_};
 ghost use Prim.Native.Nat.{_≤_};
+ghost use Rattle.image.specs.Refusals.{imageAnswer};
 ghost use Rattle.codec.specs.Parts.{refusedRead, readPart};
 use crate::bytes::is_marked;
 use crate::images::image_in;
+use crate::sound::sound_at;
 use answer::Answer;
 use answer::is_taken;
 use image::Read;
@@ -16,33 +18,41 @@ fn refused(a: Answer) -> Read
     Read { answer: a, image }
 }
 
+// 1, 2, 3, 1, 6, 7, 8: what is wrong with the image that the bytes begin with, `more` bytes behind it. It builds none.
+pub fn check_part(s: &[u8], more: usize) -> Answer
+    requires { ⌜ more ≤ 24576 ⌝ }
+    ensures { λ r. ⌜ r ≡ imageAnswer more (now (s .entry)) ⌝ }
+{
+    let len = s.len();
+    if len < 10 {
+        return Answer::Length;
+    }
+    if !is_marked(s, 85, 81, 73) {
+        return Answer::Mark;
+    }
+    let n = s[5];
+    if n < 2 {
+        return Answer::Nodes;
+    }
+    if 64 < n {
+        return Answer::Nodes;
+    }
+    let k = n as usize;
+    if len != 10 + k * 9 + more {
+        return Answer::Length;
+    }
+    sound_at(s, k)
+}
+
 // The image that the bytes begin with, `more` bytes behind it; or what is wrong.
 pub fn read_part(s: &[u8], more: usize) -> Read
     requires { ⌜ more ≤ 24576 ⌝ }
     ensures { λ r. ⌜ r ≡ readPart more (now (s .entry)) ⌝ }
 {
-    let len = s.len();
-    if len < 10 {
-        return refused(Answer::Length);
-    }
-    if !is_marked(s, 85, 81, 73) {
-        return refused(Answer::Mark);
-    }
-    let n = s[5];
-    if n < 2 {
-        return refused(Answer::Nodes);
-    }
-    if 64 < n {
-        return refused(Answer::Nodes);
-    }
-    let k = n as usize;
-    if len != 10 + k * 9 + more {
-        return refused(Answer::Length);
-    }
-    let image = image_in(s);
-    let a = image::sound_of(image);
+    let a = check_part(s, more);
     if !is_taken(a) {
         return refused(a);
     }
+    let image = image_in(s);
     Read { answer: a, image }
 }

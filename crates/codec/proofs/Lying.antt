@@ -1,0 +1,35 @@
+-- An image's nodes and its head index, as the bytes have them.
+use Prim.Native.Nat.{ℕ, _+_, _*_, _<_}
+use mathlib.Core.Path.{_≡_, refl, ap, _∙_}
+use mathlib.Core.List.{List}
+use native.Mathlib.Omega.{arith}
+use lib.Dec.{eqb, ltb}
+use Rattle.lists.proofs.TabLaws as tabs
+use Rattle.answer.specs.Answers.{check}
+use Rattle.answer.specs.declared.Answer.the-variants.{Taken, Linked, Twin, NoDummy}
+use Rattle.image.specs.Bytes.{at1, at4}
+use Rattle.image.specs.Layout.{noContent, noContents, contentAt, nodePlace, readContent, readNodes, readHeads, imageIn}
+use Rattle.image.specs.Recovered.{headOf, firstUnclear, firstTwin, dummyOf}
+use Rattle.image.specs.Refusals.{startable, sound}
+use Rattle.image.specs.declared.Image.{Image}
+use Rattle.image.proofs.HeadLaws.{one-head, heads-at, head-one}
+
+pub nodes-in : (s : List ℕ) → imageIn s .n ≡ at1 s 5
+unfolding imageIn
+nodes-in s = refl
+
+-- node i's content is read from its place
+pub content-in : (s : List ℕ) (i : ℕ) → i < at1 s 5 → contentAt (imageIn s .nodes) i ≡ readContent s (nodePlace i)
+unfolding imageIn readNodes
+content-in s i h = tabs.front-at (λ k. readContent s (nodePlace k)) (at1 s 5) noContents i noContent h
+
+-- the head index is that of the one head line
+pub head-in : (s : List ℕ) → headOf (imageIn s) ≡ at4 s 6
+unfolding imageIn readHeads
+head-in s = head-one (imageIn s) ∙ heads-at (at1 s 5) (λ k. at4 s (6 + k * 4)) 0 (omega (arith, one-head (at1 s 5)))
+
+-- 6, 7, 8 by the three numbers that the searches find
+pub sound-by : (g : Image) (n u t d : ℕ) → n ≡ g .n → u ≡ firstUnclear g → t ≡ firstTwin g → d ≡ dummyOf g
+    → check (ltb u n) (Linked u) (check (ltb t n) (Twin t) (check (eqb d n) NoDummy Taken)) ≡ sound g Taken
+unfolding sound startable
+sound-by g n u t d e p q r = rw (e, p, q, r)

@@ -1,0 +1,133 @@
+// The tests of an image where its bytes lie: unclear linked bytes (6), twins (7), the dummy (8). Nothing is copied.
+// Where a node's bytes are is known to `linked_at` and `index_at` alone.
+ghost use mathlib.Core.Path.{_≡_};
+ghost use Prim.Native.Nat.{_<_};
+ghost use Rattle.answer.specs.declared.Answer.the-variants.{Taken};
+ghost use Rattle.image.specs.Bytes.{at1};
+ghost use Rattle.image.specs.Layout.{contentAt, imageIn};
+ghost use Rattle.image.specs.Recovered.{headOf, recoveredAt, twins, firstUnclear, firstTwin, dummyOf};
+ghost use Rattle.image.specs.Refusals.{sound};
+ghost use Rattle.codec.specs.Parts.{Lies};
+use crate::bytes::word_at;
+use answer::Answer;
+
+// Node i's linked byte.
+fn linked_at(s: &[u8], i: usize) -> u8
+    requires { ⌜ (i < at1 (now s) 5) × Lies (now s) ⌝ }
+    ensures { λ r. ⌜ r ≡ contentAt (imageIn (now (s .entry)) .nodes) i .linked ⌝ }
+{
+    s[10 + i * 9]
+}
+
+// Node i's index.
+fn index_at(s: &[u8], i: usize) -> u32
+    requires { ⌜ (i < at1 (now s) 5) × Lies (now s) ⌝ }
+    ensures { λ r. ⌜ r ≡ contentAt (imageIn (now (s .entry)) .nodes) i .index ⌝ }
+{
+    word_at(s, 10 + i * 9 + 1)
+}
+
+// The head index that a start takes.
+fn head_at(s: &[u8]) -> u32
+    requires { ⌜ Lies (now s) ⌝ }
+    ensures { λ r. ⌜ r ≡ headOf (imageIn (now (s .entry))) ⌝ }
+{
+    word_at(s, 6)
+}
+
+// Node i is recovered: h is the head index.
+fn recovered_at(s: &[u8], i: usize, h: u32) -> bool
+    requires { ⌜ (i < at1 (now s) 5) × (Lies (now s) × (h ≡ headOf (imageIn (now s)))) ⌝ }
+    ensures { λ r. ⌜ r ≡ recoveredAt (imageIn (now (s .entry))) i ⌝ }
+{
+    if linked_at(s, i) == 1 {
+        let x = index_at(s, i);
+        return h < x;
+    }
+    false
+}
+
+// Nodes i and j are recovered, with one index.
+fn twins_at(s: &[u8], i: usize, j: usize, h: u32) -> bool
+    requires { ⌜ (i < at1 (now s) 5) × ((j < at1 (now s) 5) × (Lies (now s) × (h ≡ headOf (imageIn (now s))))) ⌝ }
+    ensures { λ r. ⌜ r ≡ twins (imageIn (now (s .entry))) i j ⌝ }
+{
+    if recovered_at(s, i, h) {
+        if recovered_at(s, j, h) {
+            let x = index_at(s, i);
+            let y = index_at(s, j);
+            return x == y;
+        }
+        return false;
+    }
+    false
+}
+
+// The first node whose linked byte is above 1, and N where none is.
+fn first_unclear_at(s: &[u8], n: usize) -> usize
+    requires { ⌜ (n ≡ at1 (now s) 5) × Lies (now s) ⌝ }
+    ensures { λ r. ⌜ r ≡ firstUnclear (imageIn (now (s .entry))) ⌝ }
+{
+    let mut i = 0;
+    while i < n {
+        if linked_at(s, i) > 1 {
+            return i;
+        }
+        i += 1;
+    }
+    i
+}
+
+// The smallest node number that has a lower-numbered twin, and N where none has.
+fn first_twin_at(s: &[u8], n: usize, h: u32) -> usize
+    requires { ⌜ (n ≡ at1 (now s) 5) × (Lies (now s) × (h ≡ headOf (imageIn (now s)))) ⌝ }
+    ensures { λ r. ⌜ r ≡ firstTwin (imageIn (now (s .entry))) ⌝ }
+{
+    let mut i = 0;
+    'pairs: while i < n {
+        let mut j = 0;
+        while j < i {
+            if twins_at(s, i, j, h) {
+                break 'pairs;
+            }
+            j += 1;
+        }
+        i += 1;
+    }
+    i
+}
+
+// The lowest-numbered node that is not recovered, and N where every node is.
+fn dummy_at(s: &[u8], n: usize, h: u32) -> usize
+    requires { ⌜ (n ≡ at1 (now s) 5) × (Lies (now s) × (h ≡ headOf (imageIn (now s)))) ⌝ }
+    ensures { λ r. ⌜ r ≡ dummyOf (imageIn (now (s .entry))) ⌝ }
+{
+    let mut i = 0;
+    while i < n {
+        if !recovered_at(s, i, h) {
+            return i;
+        }
+        i += 1;
+    }
+    i
+}
+
+// 6, 7, 8.
+pub fn sound_at(s: &[u8], n: usize) -> Answer
+    requires { ⌜ (n ≡ at1 (now s) 5) × Lies (now s) ⌝ }
+    ensures { λ r. ⌜ r ≡ sound (imageIn (now (s .entry))) Taken ⌝ }
+{
+    let i = first_unclear_at(s, n);
+    if i < n {
+        return Answer::Linked(i as u32);
+    }
+    let h = head_at(s);
+    let j = first_twin_at(s, n, h);
+    if j < n {
+        return Answer::Twin(j as u32);
+    }
+    if dummy_at(s, n, h) == n {
+        return Answer::NoDummy;
+    }
+    Answer::Taken
+}
