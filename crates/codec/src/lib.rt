@@ -67,5 +67,5 @@ pub fn event_of(s: &[u8], i: usize) -> Event
     }
     let g = d.image;
     let n = g.n as usize;
-    event_at(s, n, i)
+    event_at(s, g.form, n, i)
 }

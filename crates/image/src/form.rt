@@ -4,9 +4,11 @@ use super::recovered::sound_of;
 use answer::Answer;
 use answer::is_taken;
 ghost use mathlib.Core.Path.{_≡_};
+ghost use mathlib.Core.Bool.{true};
 ghost use Prim.Native.Nat.{_≤_};
 ghost use Rattle.answer.specs.declared.Answer.the-variants.{Taken};
-ghost use Rattle.image.specs.Form.{known, topOf};
+ghost use Rattle.image.specs.Form.{known, widthOf, topOf};
+ghost use Rattle.image.specs.Layout.{nodePlace};
 ghost use Rattle.image.specs.Recovered.{firstTooWide};
 ghost use Rattle.image.specs.Refusals.{fitting, whole};
 
@@ -28,6 +30,28 @@ pub fn top_of(form: u8) -> u64
         return 18446744073709551615;
     }
     4294967295
+}
+
+// How many bytes an index has.
+pub fn width_of(form: u8) -> usize
+    requires { ⌜ known form ≡ true ⌝ }
+    ensures { λ r. ⌜ r ≡ widthOf form ⌝ }
+{
+    if form == 2 {
+        return 8;
+    }
+    4
+}
+
+// Where node i begins.
+pub fn place_of(form: u8, i: usize) -> usize
+    requires { ⌜ (known form ≡ true) × (i ≤ 64) ⌝ }
+    ensures { λ r. ⌜ r ≡ nodePlace form i ⌝ }
+{
+    if form == 2 {
+        return 14 + i * 13;
+    }
+    10 + i * 9
 }
 
 // The first node whose index is above the largest of the form, and N where none is.
