@@ -11,13 +11,14 @@ use Rattle.lists.specs.Word.{has, with, without, wordOf}
 use Rattle.answer.specs.Answers.{told, accepted, replied}
 use Rattle.answer.specs.declared.Answer.{Answer}
 use Rattle.answer.specs.declared.Told.{Told}
+use Rattle.image.specs.Form.{known, topOf, widthOf}
 use Rattle.image.specs.Layout.{noContents, noHeads, headLines, headsOf}
 use Rattle.image.specs.Recovered.{largest, headOf, recovered, twins, hasTwin, firstTwin, dummyOf}
 use Rattle.image.specs.Refusals.{startable}
 use Rattle.machine.specs.Record.{blankNodes, idleThreads}
 use Rattle.machine.specs.Start.{insert, risen, behind, lastOf, startWith, freshOf}
 use Rattle.machine.specs.Retire.{out, nextFree, releasedAt, released, others, retired}
-use Rattle.machine.specs.Range.{inRange, nodeFits, threadFits}
+use Rattle.machine.specs.Range.{rangesFit, headFits, indexFits, formFits, inRange, nodeFits, threadFits}
 use Rattle.machine.specs.Event.{eventAt, eventOn}
 use Rattle.machine.specs.declared.Machine.{Machine}
 use Rattle.machine.specs.declared.Event.{Event}
@@ -37,7 +38,7 @@ pub record Facts (c : Point) : Type 0 where
 
 pub facts : (c : Point) → Facts c
 unfolding leaves least any count tab joined over front has with without wordOf noContents noHeads headLines headsOf largest headOf recovered twins hasTwin firstTwin dummyOf startable
-    blankNodes idleThreads insert risen behind lastOf startWith nextFree releasedAt released others retired inRange nodeFits threadFits eventAt eventOn
+    blankNodes idleThreads insert risen behind lastOf startWith nextFree releasedAt released others retired rangesFit headFits indexFits formFits known topOf widthOf inRange nodeFits threadFits eventAt eventOn
 facts P1 = record { old = refl; new = refl; answer = refl }
 facts P2 = record { old = refl; new = refl; answer = refl }
 facts P3 = record { old = refl; new = refl; answer = refl }
@@ -82,12 +83,12 @@ firstStep = after (enqueue 7 ∷ step ∷ [])
 
 second : stepNumber firstStep ≡ 2
 unfolding leaves least any count tab joined over front has with without wordOf noContents noHeads headLines headsOf largest headOf recovered twins hasTwin firstTwin dummyOf startable
-    blankNodes idleThreads insert risen behind lastOf startWith nextFree releasedAt released others retired inRange nodeFits threadFits eventAt eventOn
+    blankNodes idleThreads insert risen behind lastOf startWith nextFree releasedAt released others retired rangesFit headFits indexFits formFits known topOf widthOf inRange nodeFits threadFits eventAt eventOn
 second = refl
 
 last-step : stepNumber (after (before P2 ++ (step ∷ []))) ≡ 11
 unfolding leaves least any count tab joined over front has with without wordOf noContents noHeads headLines headsOf largest headOf recovered twins hasTwin firstTwin dummyOf startable
-    blankNodes idleThreads insert risen behind lastOf startWith nextFree releasedAt released others retired inRange nodeFits threadFits eventAt eventOn
+    blankNodes idleThreads insert risen behind lastOf startWith nextFree releasedAt released others retired rangesFit headFits indexFits formFits known topOf widthOf inRange nodeFits threadFits eventAt eventOn
 last-step = refl
 
 -- "One that performs the first step and afterwards only claims to", at P2: after P2's events its machine is still that of the first step
@@ -100,7 +101,7 @@ only-claims b h e =
 
 third : stepNumber (eventOn firstStep step .machine) ≡ 3
 unfolding leaves least any count tab joined over front has with without wordOf noContents noHeads headLines headsOf largest headOf recovered twins hasTwin firstTwin dummyOf startable
-    blankNodes idleThreads insert risen behind lastOf startWith nextFree releasedAt released others retired inRange nodeFits threadFits eventAt eventOn
+    blankNodes idleThreads insert risen behind lastOf startWith nextFree releasedAt released others retired rangesFit headFits indexFits formFits known topOf widthOf inRange nodeFits threadFits eventAt eventOn
 third = refl
 
 -- and already where it first only claims: at the second step, whatever it answers

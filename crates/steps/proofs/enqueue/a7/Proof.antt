@@ -36,10 +36,10 @@ leave-requires : tie.Need-leave-requires
 leave-requires c κs = search needs
 
 returns : tie.Need-returns
-returns c = rw (c .leave .ensures, c .before .with-bit .ensures, ← c .before .before .before .top-of .ensures, le-leb _ _ (c .before .before .if1 .taken))
+returns c = rw (c .leave .ensures, c .before .with-bit .ensures, ← c .before .before .before .before .top-of .ensures, le-leb _ _ (c .before .before .if1 .taken))
 
 add-r : tie.Need-add-r
-add-r c = omega (arith, c .before .top-of .ensures, c .if1 .left, top-small _)
+add-r c = omega (arith, c .before .before .before .top-of .ensures, c .before .if1 .left, top-small (c .before .before .before .before .before .before .before .before .args .m .form))
 
 mul-r : tie.Need-mul-r
 mul-r c = search needs
@@ -54,7 +54,7 @@ way-write-given-r-2 : tie.Need-way-write-given-r-2
 way-write-given-r-2 c = search needs
 
 returns-2 : tie.Need-returns-2
-returns-2 c = rw (← c .before .before .before .before .top-of .ensures, lt-leb _ _ (c .before .before .before .if1 .left))
+returns-2 c = rw (← c .before .before .before .before .before .top-of .ensures, lt-leb _ _ (c .before .before .before .if1 .left))
 
 pub a7-spec : {M : Type 1} → statement M
 a7-spec =
