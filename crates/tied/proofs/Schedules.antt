@@ -36,7 +36,7 @@ Bytes s = (i : ℕ) → getD s i 0 < 256
 check-no : (b : Bool) (w rest : Answer) → b ≡ false → accepted rest ≡ true → accepted (check b w rest) ≡ true
 check-no b w rest e a = rw e a
 
-whole-of : (g : Image) → accepted (sound g Taken) ≡ true → Fitting g → accepted (whole g Taken) ≡ true
+pub whole-of : (g : Image) → accepted (sound g Taken) ≡ true → Fitting g → accepted (whole g Taken) ≡ true
 unfolding whole
 whole-of g s f = ap accepted (sound-then g (fitting g Taken) s ∙ is-fitting g Taken f)
 
