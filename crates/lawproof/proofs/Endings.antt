@@ -12,7 +12,8 @@ use Rattle.image.specs.declared.Image.{Image}
 use Rattle.image.specs.Layout as layout
 use Rattle.image.specs.Layout.{noContent, noContents, contentAt}
 use Rattle.machine.specs.Record.{top}
-use Rattle.machine.specs.Line as memory
+use Rattle.machine.specs.declared.Line as memory
+use Rattle.machine.specs.declared.Line.the-variants as line
 use Rattle.machine.specs.Line.{numberOf}
 use Rattle.image.proofs.HeadLaws.{one-head, heads-at}
 use Rattle.machine.proofs.LineLaws.{LineIn}
@@ -100,7 +101,7 @@ module _ (b : schedule.Bench) (B : Bench) (r : BenchT b B) (c : List Content) (p
   E-head = refl
 
   small-at : (i : ℕ) → i < m .n → Small (contentAt (e .nodes) i)
-  small-at i h = subst Small (sym (e-at i h)) (small (memory.ofNode i) h)
+  small-at i h = subst Small (sym (e-at i h)) (small (line.OfNode i) h)
 
   pub chosenT : ImageT e (m .t) E
   chosenT = record {
@@ -109,7 +110,7 @@ module _ (b : schedule.Bench) (B : Bench) (r : BenchT b B) (c : List Content) (p
     head = E-head;
     at = λ i h. E-at i (omega (arith, e-size));
     flag = λ i h. small-at i (omega (arith, e-size)) .0;
-    narrow-head = subst (λ x. x ≤ top) (sym e-head) (small (memory.ofHead 0) (omega (arith, one-head (m .n))) .1);
+    narrow-head = subst (λ x. x ≤ top) (sym e-head) (small (line.OfHead 0) (omega (arith, one-head (m .n))) .1);
     narrow = λ i h. small-at i (omega (arith, e-size)) .1;
   }
 
@@ -119,13 +120,13 @@ module _ (b : schedule.Bench) (B : Bench) (r : BenchT b B) (c : List Content) (p
     where
       has : (l : Line) → Within (B .mach .core .conf) l → Has (B .mach) l (imageHas E l)
       has (ofHead zero) h =
-          let hn = there (memory.ofHead 0) (omega (arith, one-head (m .n))) in
+          let hn = there (line.OfHead 0) (omega (arith, one-head (m .n))) in
           subst (Has (B .mach) (ofHead 0))
           (r .kept .all .pinv .head .plain 0 h (shownContent (contentAt c 0)) hn ∙ ap core.hd (sym (E-head ∙ e-head))) hn
       has (ofHead (suc k)) h = let z : suc k < 1 = subst (λ (c : Conf). suc k < headLines c) (r .tied .conf) h in absurd (omega arith)
       has (ofNode i) h =
           let hi : i < m .n = subst (λ (c : Conf). i < c .nodes) (r .tied .conf) h in
-          subst (Has (B .mach) (ofNode i)) (sym (E-at i hi ∙ ap shownContent (e-at i hi))) (there (memory.ofNode i) hi)
+          subst (Has (B .mach) (ofNode i)) (sym (E-at i hi ∙ ap shownContent (e-at i hi))) (there (line.OfNode i) hi)
 
 -- ---- every ending of an accepted run
 
