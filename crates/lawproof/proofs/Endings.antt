@@ -113,7 +113,7 @@ module _ (b : schedule.Bench) (B : Bench) (r : BenchT b B) (c : List Content) (p
     head = E-head;
     at = λ i h. E-at i (omega (arith, e-size));
     flag = λ i h. small-at i (omega (arith, e-size)) .0;
-    narrow-head = subst (λ x. x ≤ top) (sym e-head) (small (line.OfHead 0) (omega (arith, one-head (m .n))) .1);
+    narrow-head = subst (λ x. x ≤ topOf (e .form)) (sym e-head) (omega (arith, small (line.OfHead 0) (omega (arith, one-head (m .n))) .1, e-top));
     narrow = λ i h. omega (arith, small-at i (omega (arith, e-size)) .1, e-top);
   }
 
