@@ -12,19 +12,20 @@ use Rattle.lists.proofs.TabLaws as tabs
 use Rattle.answer.specs.Answers.{accepted}
 use Rattle.answer.specs.declared.Answer.the-variants.{Taken}
 use Rattle.image.specs.declared.Content.{Content}
-use Rattle.machine.specs.Line.{lineCount, cachedAt}
+use Rattle.machine.specs.Line.{lineCount, lineAt, cachedAt}
 use Rattle.machine.specs.Start.{startWith}
 use Rattle.machine.specs.Event.{Deed, crashes, deedOf, done, eventAt}
 use Rattle.machine.specs.declared.Machine.{Machine}
 use Rattle.machine.specs.declared.Event.{Event}
-use Rattle.schedule.specs.Run.{Bench, begins, andBefore, run}
-use Rattle.endtable.specs.Touches.{touchIn}
+use Rattle.schedule.specs.Run.{Bench, begins, forward, benchAt, andBefore, run}
+use Rattle.endtable.specs.Touched.{touchedRow}
+use Rattle.endtable.specs.declared.touched.Touched.{Touched}
 use Rattle.endtable.specs.Opened.{openedTable, openedCounts}
 use Rattle.endtable.specs.Tables.{tableAfter, countsAfter}
-use Rattle.endtable.specs.Frame.{lineOf, Even}
-use Rattle.endtable.specs.Benches.{turnedBy, benchAt, Stands}
-use Rattle.endtable.proofs.Steps as events
-use Rattle.endtable.proofs.Moments as moments
+use Rattle.moments.specs.Frame.{Even}
+use Rattle.endtable.specs.Benches.{Stands}
+use Rattle.moments.proofs.Steps as events
+use Rattle.moments.proofs.Moments as moments
 use Rattle.endtable.proofs.TableLaws as tables
 
 -- ---- what the code holds
@@ -40,20 +41,23 @@ module _ (p : ℕ) (b : Bench) (e : Event) (t : List (List Content)) (cs : List 
   abbrev m′ : Machine
   m′ = eventAt p (b .machine) e .machine
 
+  -- the row that it changes
+  abbrev w′ : Touched
+  w′ = touchedRow (m′ .n) (eventAt p (b .machine) e .touch)
+
   -- an event that is no crash
   pub stands-event : Even (b .machine) → (deedOf (e .kind) ≡ crashes → ⊥)
-      → Stands (turnedBy p b e) (eventAt p (b .machine) e .machine)
-      (tableAfter t cs (touchIn (b .machine) e) (cachedAt (eventAt p (b .machine) e .machine) (lineOf (eventAt p (b .machine) e .machine .n) (touchIn (b .machine) e))))
-      (countsAfter t cs (touchIn (b .machine) e) (cachedAt (eventAt p (b .machine) e .machine) (lineOf (eventAt p (b .machine) e .machine .n) (touchIn (b .machine) e))))
+      → Stands (forward p b e) (eventAt p (b .machine) e .machine)
+      (tableAfter t cs w′ (cachedAt m′ (lineAt (m′ .n) (w′ .line)))) (countsAfter t cs w′ (cachedAt m′ (lineAt (m′ .n) (w′ .line))))
   stands-event k ne = record {
     machine = same;
     small = subst (λ (x : Machine). x .n ≤ 64) same (omega (arith, events.frame-event p (b .machine) e k taken ne .size, h .small));
-    timed = tables.timed-event p b e (h .timed) taken ne;
-    tables = tables.tables-event p b e (h .timed) (h .small) k taken ne t cs (h .tables);
+    timed = tables.timed-event p b e taken ne (h .timed);
+    tables = tables.tables-event p b e taken ne (h .timed) (h .small) k t cs (h .tables);
   }
     where
-      same : m′ ≡ turnedBy p b e .machine
-      same = sym (ap (λ (x : Bench). x .machine) (events.turned-on p b m′ e taken ne))
+      same : m′ ≡ forward p b e .machine
+      same = sym (ap (λ (x : Bench). x .machine) (events.turned-on p b e taken ne))
 
   -- a crash
   crash-size : deedOf (e .kind) ≡ crashes → m′ .n ≡ b .machine .n
@@ -61,12 +65,12 @@ module _ (p : ℕ) (b : Bench) (e : Event) (t : List (List Content)) (cs : List 
   crash-size q = ap (λ o. o .machine .n) (events.event-done p (b .machine) e taken) ∙ ap (λ (d : Deed). done (b .machine) e d .machine .n) q
 
   pub stands-crash : deedOf (e .kind) ≡ crashes
-      → Stands (turnedBy p b e) (eventAt p (b .machine) e .machine) (openedTable m′ (lineCount (m′ .n))) (openedCounts m′ (lineCount (m′ .n)))
+      → Stands (forward p b e) (eventAt p (b .machine) e .machine) (openedTable m′ (lineCount (m′ .n))) (openedCounts m′ (lineCount (m′ .n)))
   stands-crash q = record {
     machine = rw q;
     small = rw q (omega (arith, crash-size q, h .small));
-    timed = tables.timed-crash b m′ e q;
-    tables = tables.tables-crash b m′ e q (omega (arith, crash-size q, h .small));
+    timed = tables.timed-crash b (eventAt p (b .machine) e) e q;
+    tables = tables.tables-crash b (eventAt p (b .machine) e) e q (omega (arith, crash-size q, h .small));
   }
 
 -- ---- the run

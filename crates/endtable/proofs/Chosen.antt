@@ -18,7 +18,7 @@ use Rattle.endtable.specs.Opened.{blankCounts}
 use Rattle.endtable.specs.Picks.{prod, digits, Ready, pickedAt, pickedNode, pickedImage, picksOf, endingFrom}
 use Rattle.endtable.specs.Tables.{Tables}
 use Rattle.endtable.proofs.Digits as digits
-use Rattle.endtable.proofs.Choices as choices
+use Rattle.moments.proofs.Choices as choices
 
 -- the counts of the first n lists are their lengths
 abbrev pub Lengths : List ℕ → List (List Content) → ℕ → Type 0

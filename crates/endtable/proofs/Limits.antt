@@ -11,7 +11,8 @@ use lib.Dec.{ltb}
 use borrow.Author.Tests.{lt-ltb, le-ltb, ltb-false}
 use Rattle.lists.proofs.FindLaws as find
 use Rattle.image.specs.declared.Content.{Content}
-use Rattle.machine.specs.Line.{Line, lineAt, cachedAt, persistedAt}
+use Rattle.machine.specs.Line.{lineAt, cachedAt, persistedAt}
+use Rattle.machine.specs.declared.Line.{Line}
 use Rattle.schedule.specs.Run.{Bench}
 use Rattle.page.specs.Contents.{joins, gathered, contentsOf, tableOf}
 use Rattle.page.specs.Endings.{product}
@@ -20,8 +21,8 @@ use Rattle.answer.specs.Answers.{check}
 use Rattle.answer.specs.declared.Answer.the-variants.{Taken, Contents, Endings}
 use Rattle.endtable.specs.Picks.{isCrowded, crowdedAt, prod, countsAnswer, Counted}
 use Rattle.endtable.specs.Tables.{Tables}
-use Rattle.endtable.proofs.Joins as joined
-use Rattle.endtable.proofs.Moments as moments
+use Rattle.moments.proofs.Joins as joined
+use Rattle.moments.proofs.Moments as moments
 use Rattle.endtable.proofs.Chosen as chosen
 
 -- ---- no line is without a content

@@ -19,7 +19,7 @@ use Rattle.endtable.specs.Opened.{blankCounts}
 use Rattle.endtable.specs.Picks.{prod, capped, countsAnswer, Counted, Filled, Ready, picksOf, endingFrom}
 use Rattle.endtable.specs.Tables.{Tables}
 use Rattle.endtable.proofs.Digits as digits
-use Rattle.endtable.proofs.Moments as moments
+use Rattle.moments.proofs.Moments as moments
 use Rattle.endtable.proofs.Chosen as chosen
 use Rattle.endtable.proofs.Limits as limits
 

@@ -13,10 +13,11 @@ use Rattle.lists.proofs.FindLaws.{least-le, least-same, least-found}
 use Rattle.image.specs.Layout.{noContent, contentAt, sameContent}
 use Rattle.image.specs.declared.Content.{Content}
 use Rattle.page.specs.Contents.{joins}
-use Rattle.endtable.specs.Rows.{isAt, seatOf, rowJoined, countJoined}
+use Rattle.moments.specs.Seats.{isAt, seatOf}
+use Rattle.endtable.specs.Rows.{rowJoined, countJoined}
 use Rattle.endtable.specs.Opened.{openedRow, openedCount}
 use Rattle.endtable.specs.Tables.{Held}
-use Rattle.endtable.proofs.Joins as joined
+use Rattle.moments.proofs.Joins as joined
 
 -- ---- seats
 

@@ -2,7 +2,7 @@
 use Prim.Native.Nat.{ℕ, _≤_, _<_}
 use mathlib.Core.Path.{_≡_, refl, sym, ap, subst, _∙_}
 use mathlib.Core.Bool.{Bool, true, false}
-use mathlib.Core.Logic.{inl, inr}
+use mathlib.Core.Logic.{inr}
 use mathlib.Core.List.{List, []}
 use native.Mathlib.Omega.{arith}
 use native.Mathlib.Decide.{decLt, ℕ-discrete}
@@ -15,25 +15,29 @@ use Rattle.lists.specs.Tab.{front}
 use Rattle.lists.proofs.TabLaws as tabs
 use Rattle.answer.specs.Answers.{accepted}
 use Rattle.image.specs.declared.Content.{Content}
-use Rattle.machine.specs.Line.{Line, lineCount, lineAt, cachedAt, persistedAt}
+use Rattle.machine.specs.Line.{lineCount, lineAt, numberOf, cachedAt, persistedAt}
+use Rattle.machine.specs.declared.Line.{Line}
 use Rattle.machine.specs.Event.{crashes, deedOf, eventAt}
 use Rattle.machine.specs.declared.Machine.{Machine}
 use Rattle.machine.specs.declared.Event.{Event}
+use Rattle.machine.specs.declared.Acted.{Acted}
 use Rattle.image.proofs.HeadLaws.{one-head}
-use Rattle.machine.proofs.LineLaws.{line-one}
-use Rattle.schedule.specs.Run.{noLine, aLine, Bench, begins, goesOn, turned}
+use Rattle.machine.proofs.LineLaws.{number-line}
+use Rattle.schedule.specs.Run.{Bench, begins, goesOn, turned, forward}
 use Rattle.page.specs.Contents.{contentsOf, tableOf}
-use Rattle.endtable.specs.declared.touch.Touch.{Touch}
+use Rattle.machine.specs.declared.Touch.{Touch}
+use Rattle.machine.specs.declared.Touch.the-variants.{Nothing as nothing, Store as aStore, Persist as aPersist}
+use Rattle.endtable.specs.declared.touched.Touched.{Touched}
 use Rattle.endtable.specs.Rows.{rowAfter, countAfter}
-use Rattle.endtable.specs.Touches.{touchIn}
+use Rattle.endtable.specs.Touched.{touchedRow}
 use Rattle.endtable.specs.Opened.{blankTable, blankCounts, lineOpened, lineCounted, openedTable, openedCounts}
 use Rattle.endtable.specs.Tables.{Held, Tables, tableAfter, countsAfter}
-use Rattle.endtable.specs.Moments.{Timed}
-use Rattle.endtable.specs.Frame.{lineOf, persistsOf, Even, Frame}
+use Rattle.moments.specs.Moments.{Timed}
+use Rattle.moments.specs.Frame.{StoresTo, Persists, Even, Frame}
 use Rattle.endtable.proofs.RowLaws as rows
 use Rattle.endtable.proofs.Openings as openings
-use Rattle.endtable.proofs.Moments as moments
-use Rattle.endtable.proofs.Steps as steps
+use Rattle.moments.proofs.Moments as moments
+use Rattle.moments.proofs.Steps as steps
 
 -- ---- a start
 
@@ -76,7 +80,7 @@ tables-still t cs lists next h e all = record {
 -- ---- an event
 
 -- the code's two ways: a line that is none, and one to be stored to
-module _ (t : List (List Content)) (cs : List ℕ) (w : Touch) (c : Content) where
+module _ (t : List (List Content)) (cs : List ℕ) (w : Touched) (c : Content) where
   pub table-untouched : 65 ≤ w .line → tableAfter t cs w c ≡ t
   unfolding tableAfter
   table-untouched h = rw (le-ltb (w .line) 65 h)
@@ -93,87 +97,108 @@ module _ (t : List (List Content)) (cs : List ℕ) (w : Touch) (c : Content) whe
   unfolding countsAfter
   counts-touched h = rw (lt-ltb (w .line) 65 h)
 
-persists-other : (b : Bool) (x l : Line) → (l ≡ x → ⊥) → pick b (aLine x) noLine ≡ aLine l → ⊥
-persists-other true x l ne e = ne (cc)
-persists-other false x l ne e = let z : _≡_ {A = ℕ} 0 1 = cc in omega arith
+-- a line of another number is not touched
+not-stored : (n : ℕ) (w : Touch) (l : ℕ) → (l ≡ touchedRow n w .line → ⊥) → StoresTo w (lineAt n l) → ⊥
+not-stored n nothing l ne p = p
+not-stored n (aStore x) l ne p = ne (sym (number-line n l) ∙ ap (numberOf n) p)
+not-stored n (aPersist x) l ne p = p
 
-module _ (b : Bench) (timed : Timed b) (small : b .machine .n ≤ 64) (m : Machine) (w : Touch) (f : Frame (b .machine) m w) where
-  abbrev after : Bench
-  after = goesOn b m (persistsOf (b .machine .n) w)
+not-persisted : (n : ℕ) (w : Touch) (l : ℕ) → (l ≡ touchedRow n w .line → ⊥) → Persists w (lineAt n l) → ⊥
+not-persisted n nothing l ne p = p
+not-persisted n (aStore x) l ne p = p
+not-persisted n (aPersist x) l ne p = ne (sym (number-line n l) ∙ ap (numberOf n) p)
 
-  -- the line of a number, and the one that is touched
+module _ (b : Bench) (timed : Timed b) (small : b .machine .n ≤ 64) (m : Machine) where
+  -- the line of a number
   abbrev line : ℕ → Line
   line l = lineAt (b .machine .n) l
 
-  abbrev L : Line
-  L = lineOf (b .machine .n) w
+  -- the line that a touch names
+  abbrev lineOf : Touch → Line
+  lineOf w = line (touchedRow (b .machine .n) w .line)
 
-  after-at : (l : ℕ) → l < lineCount (b .machine .n) → getD (tableOf after) l [] ≡ contentsOf after (line l)
-  after-at l p = moments.table-at after l (subst (λ n. l < lineCount n) (sym (f .size)) p) ∙ ap (λ n. contentsOf after (lineAt n l)) (f .size)
+  -- the row of the line that is touched
+  touched-row : (w : Touch) → Frame (b .machine) m w → touchedRow (b .machine .n) w .line < 65 → (row : List Content) (n : ℕ) → Held row n (contentsOf b (lineOf w))
+      → Held (rowAfter row n (cachedAt m (lineOf w)) (touchedRow (b .machine .n) w .persisted))
+      (countAfter row n (cachedAt m (lineOf w)) (touchedRow (b .machine .n) w .persisted)) (contentsOf (goesOn b m w) (lineOf w))
+  touched-row nothing f p row n h = absurd (omega arith)
+  touched-row (aStore x) f p row n h =
+      rw (moments.contents-joined b timed m (aStore x) (lineOf (aStore x)) (λ z. z) (f .kept (lineOf (aStore x)) (λ z. z)))
+      (rows.held-joined row n (contentsOf b (lineOf (aStore x))) (cachedAt m (lineOf (aStore x))) h)
+  touched-row (aPersist x) f p row n h =
+      rw (f .numbered x (inr refl)) (rw (moments.contents-persisted b m x (f .present x refl)) (rows.held-cleared row (cachedAt m x) (h .wide)))
 
-  size : length (tableOf after) ≡ length (tableOf b)
-  size = moments.table-length after ∙ ap lineCount (f .size) ∙ sym (moments.table-length b)
+  module _ (w : Touch) (f : Frame (b .machine) m w) where
+    abbrev after : Bench
+    after = goesOn b m w
 
-  -- the lines that are not touched
-  others : (l : ℕ) → l < length (tableOf b) → (l ≡ w .line → ⊥) → getD (tableOf after) l [] ≡ getD (tableOf b) l []
-  others l p ne =
-      let q : l < lineCount (b .machine .n) = omega (arith, moments.table-length b) in
-      let un : line l ≡ L → ⊥ = λ e. ne (line-one (b .machine .n) l (w .line) e) in
-      after-at l q
-      ∙ moments.contents-kept b timed m (persistsOf (b .machine .n) w) (line l) (persists-other (w .persisted) L (line l) un) (f .kept (line l) (inr un)) (f .cached (line l) (inr un))
-      ∙ sym (moments.table-at b l q)
+    abbrev v : Touched
+    v = touchedRow (b .machine .n) w
 
-  -- the line that is
-  touched-row : (row : List Content) (n : ℕ) → Held row n (contentsOf b L) → (p : Bool) → w .persisted ≡ p
-      → Held (rowAfter row n (cachedAt m L) p) (countAfter row n (cachedAt m L) p) (contentsOf (goesOn b m (pick p (aLine L) noLine)) L)
-  touched-row row n h true e = rw (moments.contents-persisted b m L (f .present e)) (rows.held-cleared row (cachedAt m L) (h .wide))
-  touched-row row n h false e =
-      rw (moments.contents-joined b timed m noLine L (λ z. let y : _≡_ {A = ℕ} 0 1 = cc in omega arith) (f .kept L (inl e)))
-      (rows.held-joined row n (contentsOf b L) (cachedAt m L) h)
+    after-at : (l : ℕ) → l < lineCount (b .machine .n) → getD (tableOf after) l [] ≡ contentsOf after (line l)
+    after-at l p = moments.table-at after l (subst (λ n. l < lineCount n) (sym (f .size)) p) ∙ ap (λ n. contentsOf after (lineAt n l)) (f .size)
 
-  pub tables-after : (t : List (List Content)) (cs : List ℕ) → Tables t cs (tableOf b)
-      → Tables (tableAfter t cs w (cachedAt m L)) (countsAfter t cs w (cachedAt m L)) (tableOf after)
-  unfolding tableAfter countsAfter
-  tables-after t cs h = by (decLt (w .line) 65)
-    where
-      this : w .line < length (tableOf b)
-          → Held (rowAfter (getD t (w .line) []) (getD cs (w .line) 0) (cachedAt m L) (w .persisted))
-          (countAfter (getD t (w .line) []) (getD cs (w .line) 0) (cachedAt m L) (w .persisted)) (getD (tableOf after) (w .line) [])
-      this p =
-          let q : w .line < lineCount (b .machine .n) = omega (arith, moments.table-length b) in
-          rw (after-at (w .line) q)
-          (touched-row (getD t (w .line) []) (getD cs (w .line) 0) (rw (moments.table-at b (w .line) q) at (h .held (w .line) p)) (w .persisted) refl)
+    size : length (tableOf after) ≡ length (tableOf b)
+    size = moments.table-length after ∙ ap lineCount (f .size) ∙ sym (moments.table-length b)
 
-      by : Dec (w .line < 65)
-          → Tables (pick (ltb (w .line) 65) (set t (w .line) (rowAfter (getD t (w .line) []) (getD cs (w .line) 0) (cachedAt m L) (w .persisted))) t)
-          (pick (ltb (w .line) 65) (set cs (w .line) (countAfter (getD t (w .line) []) (getD cs (w .line) 0) (cachedAt m L) (w .persisted))) cs) (tableOf after)
-      by (yes p) =
-          rw (lt-ltb (w .line) 65 p)
-          (tables-line t cs (tableOf b) (tableOf after) (w .line) _ _ h size (omega (arith, one-head (b .machine .n), moments.table-length b)) others this)
-      by (no p) =
-          rw (le-ltb (w .line) 65 (omega arith))
-          (tables-still t cs (tableOf b) (tableOf after) h size (λ l q. others l q (λ e. omega (arith, one-head (b .machine .n), moments.table-length b))))
+    -- the lines that are not touched
+    others : (l : ℕ) → l < length (tableOf b) → (l ≡ v .line → ⊥) → getD (tableOf after) l [] ≡ getD (tableOf b) l []
+    others l p ne =
+        let q : l < lineCount (b .machine .n) = omega (arith, moments.table-length b) in
+        let un = not-persisted (b .machine .n) w l ne in
+        after-at l q
+        ∙ moments.contents-kept b timed m w (line l) un (f .kept (line l) un) (f .cached (line l) (not-stored (b .machine .n) w l ne))
+        ∙ sym (moments.table-at b l q)
+
+    pub tables-after : (t : List (List Content)) (cs : List ℕ) → Tables t cs (tableOf b)
+        → Tables (tableAfter t cs v (cachedAt m (lineOf w))) (countsAfter t cs v (cachedAt m (lineOf w))) (tableOf after)
+    unfolding tableAfter countsAfter
+    tables-after t cs h = by (decLt (v .line) 65)
+      where
+        this : v .line < 65 → v .line < length (tableOf b)
+            → Held (rowAfter (getD t (v .line) []) (getD cs (v .line) 0) (cachedAt m (lineOf w)) (v .persisted))
+            (countAfter (getD t (v .line) []) (getD cs (v .line) 0) (cachedAt m (lineOf w)) (v .persisted)) (getD (tableOf after) (v .line) [])
+        this k p =
+            let q : v .line < lineCount (b .machine .n) = omega (arith, moments.table-length b) in
+            rw (after-at (v .line) q)
+            (touched-row w f k (getD t (v .line) []) (getD cs (v .line) 0) (rw (moments.table-at b (v .line) q) at (h .held (v .line) p)))
+
+        by : Dec (v .line < 65)
+            → Tables (pick (ltb (v .line) 65) (set t (v .line) (rowAfter (getD t (v .line) []) (getD cs (v .line) 0) (cachedAt m (lineOf w)) (v .persisted))) t)
+            (pick (ltb (v .line) 65) (set cs (v .line) (countAfter (getD t (v .line) []) (getD cs (v .line) 0) (cachedAt m (lineOf w)) (v .persisted))) cs) (tableOf after)
+        by (yes p) =
+            rw (lt-ltb (v .line) 65 p)
+            (tables-line t cs (tableOf b) (tableOf after) (v .line) _ _ h size (omega (arith, one-head (b .machine .n), moments.table-length b)) others (this p))
+        by (no p) =
+            rw (le-ltb (v .line) 65 (omega arith))
+            (tables-still t cs (tableOf b) (tableOf after) h size (λ l q. others l q (λ e. omega (arith, one-head (b .machine .n), moments.table-length b))))
 
 -- a taken event that is no crash, as a run turns by it
-pub tables-event : (p : ℕ) (b : Bench) (e : Event) → Timed b → b .machine .n ≤ 64 → Even (b .machine)
-    → accepted (eventAt p (b .machine) e .answer) ≡ true → (deedOf (e .kind) ≡ crashes → ⊥) → (t : List (List Content)) (cs : List ℕ) → Tables t cs (tableOf b)
-    → Tables (tableAfter t cs (touchIn (b .machine) e) (cachedAt (eventAt p (b .machine) e .machine) (lineOf (eventAt p (b .machine) e .machine .n) (touchIn (b .machine) e))))
-    (countsAfter t cs (touchIn (b .machine) e) (cachedAt (eventAt p (b .machine) e .machine) (lineOf (eventAt p (b .machine) e .machine .n) (touchIn (b .machine) e))))
-    (tableOf (turned b (eventAt p (b .machine) e .machine) e (deedOf (e .kind))))
-tables-event p b e timed small k a ne t cs h =
-    rw (steps.turned-on p b (eventAt p (b .machine) e .machine) e a ne, steps.frame-event p (b .machine) e k a ne .size)
-    (tables-after b timed small (eventAt p (b .machine) e .machine) (touchIn (b .machine) e) (steps.frame-event p (b .machine) e k a ne) t cs h)
+module _ (p : ℕ) (b : Bench) (e : Event) (a : accepted (eventAt p (b .machine) e .answer) ≡ true) (ne : deedOf (e .kind) ≡ crashes → ⊥) where
+  abbrev m′ : Machine
+  m′ = eventAt p (b .machine) e .machine
 
-pub timed-event : (p : ℕ) (b : Bench) (e : Event) → Timed b → accepted (eventAt p (b .machine) e .answer) ≡ true
-    → (deedOf (e .kind) ≡ crashes → ⊥) → Timed (turned b (eventAt p (b .machine) e .machine) e (deedOf (e .kind)))
-timed-event p b e timed a ne =
-    rw (steps.turned-on p b (eventAt p (b .machine) e .machine) e a ne)
-    (moments.timed-goes b (eventAt p (b .machine) e .machine) (persistsOf (b .machine .n) (touchIn (b .machine) e)) timed)
+  -- the row that it changes, on a machine of n nodes
+  abbrev w′ : ℕ → Touched
+  w′ n = touchedRow n (eventAt p (b .machine) e .touch)
+
+  pub tables-event : Timed b → b .machine .n ≤ 64 → Even (b .machine) → (t : List (List Content)) (cs : List ℕ) → Tables t cs (tableOf b)
+      → Tables (tableAfter t cs (w′ (m′ .n)) (cachedAt m′ (lineAt (m′ .n) (w′ (m′ .n) .line))))
+      (countsAfter t cs (w′ (m′ .n)) (cachedAt m′ (lineAt (m′ .n) (w′ (m′ .n) .line)))) (tableOf (forward p b e))
+  tables-event timed small k t cs h =
+      let f = steps.frame-event p (b .machine) e k a ne in
+      subst (λ x. Tables (tableAfter t cs (w′ (m′ .n)) (cachedAt m′ (lineAt (m′ .n) (w′ (m′ .n) .line)))) (countsAfter t cs (w′ (m′ .n)) (cachedAt m′ (lineAt (m′ .n) (w′ (m′ .n) .line)))) (tableOf x))
+      (sym (steps.turned-on p b e a ne))
+      (subst (λ n. Tables (tableAfter t cs (w′ n) (cachedAt m′ (lineAt n (w′ n .line)))) (countsAfter t cs (w′ n) (cachedAt m′ (lineAt n (w′ n .line)))) (tableOf (goesOn b m′ (eventAt p (b .machine) e .touch))))
+      (sym (f .size)) (tables-after b timed small m′ (eventAt p (b .machine) e .touch) f t cs h))
+
+  pub timed-event : Timed b → Timed (forward p b e)
+  timed-event timed = subst Timed (sym (steps.turned-on p b e a ne)) (moments.timed-goes b m′ (eventAt p (b .machine) e .touch) timed)
 
 -- a crash is a start
-pub tables-crash : (b : Bench) (m : Machine) (e : Event) → deedOf (e .kind) ≡ crashes → m .n ≤ 64
-    → Tables (openedTable m (lineCount (m .n))) (openedCounts m (lineCount (m .n))) (tableOf (turned b m e (deedOf (e .kind))))
-tables-crash b m e q h = rw q (tables-begin m h)
+pub tables-crash : (b : Bench) (o : Acted) (e : Event) → deedOf (e .kind) ≡ crashes → o .machine .n ≤ 64
+    → Tables (openedTable (o .machine) (lineCount (o .machine .n))) (openedCounts (o .machine) (lineCount (o .machine .n))) (tableOf (turned b o (deedOf (e .kind))))
+tables-crash b o e q h = rw q (tables-begin (o .machine) h)
 
-pub timed-crash : (b : Bench) (m : Machine) (e : Event) → deedOf (e .kind) ≡ crashes → Timed (turned b m e (deedOf (e .kind)))
-timed-crash b m e q = rw q (moments.timed-begins m)
+pub timed-crash : (b : Bench) (o : Acted) (e : Event) → deedOf (e .kind) ≡ crashes → Timed (turned b o (deedOf (e .kind)))
+timed-crash b o e q = rw q (moments.timed-begins (o .machine))

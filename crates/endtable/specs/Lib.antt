@@ -1,9 +1,6 @@
 pub mod Rows
-pub mod Touches
+pub mod Touched
 pub mod Opened
 pub mod Picks
 pub mod Tables
-pub mod Moments
-pub mod Frame
-pub mod Distinct
 pub mod Benches

@@ -12,7 +12,8 @@ use Rattle.answer.specs.declared.Answer.the-variants.{Taken, Contents, Endings}
 use Rattle.image.specs.Layout.{contentAt, noContents, headsOf}
 use Rattle.image.specs.declared.Content.{Content}
 use Rattle.image.specs.declared.Image.{Image}
-use Rattle.machine.specs.Line.{ofHead, ofNode, lineCount, numberOf}
+use Rattle.machine.specs.Line.{lineCount, numberOf}
+use Rattle.machine.specs.declared.Line.the-variants.{OfHead as ofHead, OfNode as ofNode}
 use Rattle.endtable.specs.Opened.{blankCounts}
 
 -- ---- how many

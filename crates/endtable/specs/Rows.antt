@@ -4,17 +4,9 @@ use mathlib.Core.Bool.{Bool, true, false}
 use mathlib.Core.List.{List}
 use lib.ListN.{set}
 use lib.Dec.{ltb}
-use Rattle.lists.specs.Find.{pick, least}
-use Rattle.image.specs.Layout.{contentAt, sameContent}
+use Rattle.lists.specs.Find.{pick}
 use Rattle.image.specs.declared.Content.{Content}
-
--- whether the row has c at place j
-abbrev pub isAt : List Content → Content → ℕ → Bool
-isAt row c j = sameContent (contentAt row j) c
-
--- the first of the row's n contents that equals c; n where none does
-unfoldable pub seatOf : List Content → ℕ → Content → ℕ
-seatOf row n c = least (isAt row c) n 0
+use Rattle.moments.specs.Seats.{seatOf}
 
 -- the row after its line's cached content became c: a full row stays, what does not fit is told by the count
 unfoldable pub rowJoined : List Content → ℕ → Content → List Content

@@ -8,7 +8,7 @@ use Rattle.lists.specs.Find.{pick}
 use Rattle.image.specs.Layout.{contentAt}
 use Rattle.image.specs.declared.Content.{Content}
 use Rattle.endtable.specs.Rows.{rowAfter, countAfter}
-use Rattle.endtable.specs.declared.touch.Touch.{Touch}
+use Rattle.endtable.specs.declared.touched.Touched.{Touched}
 
 -- a row and its count stand for the list l: its first sixteen contents, and how many they are, 17 where there are more
 pub record Held (row : List Content) (n : ℕ) (l : List Content) : Type 0 where
@@ -24,10 +24,10 @@ pub record Tables (t : List (List Content)) (cs : List ℕ) (lists : List (List 
 
 -- ---- the table and the counts after an event that touched w and left that line with the cached content c
 
-unfoldable pub tableAfter : List (List Content) → List ℕ → Touch → Content → List (List Content)
+unfoldable pub tableAfter : List (List Content) → List ℕ → Touched → Content → List (List Content)
 tableAfter t cs w c =
     pick (ltb (w .line) 65) (set t (w .line) (rowAfter (getD t (w .line) []) (getD cs (w .line) 0) c (w .persisted))) t
 
-unfoldable pub countsAfter : List (List Content) → List ℕ → Touch → Content → List ℕ
+unfoldable pub countsAfter : List (List Content) → List ℕ → Touched → Content → List ℕ
 countsAfter t cs w c =
     pick (ltb (w .line) 65) (set cs (w .line) (countAfter (getD t (w .line) []) (getD cs (w .line) 0) c (w .persisted))) cs

@@ -2,5 +2,5 @@
 pub mod ending;
 pub mod opened;
 pub mod row;
-pub mod touch;
+pub mod touched;
 pub mod turn;

@@ -43,7 +43,7 @@ pub fn cached_at(m: Machine, l: usize) -> Content
     content_of(v)
 }
 
-fn blank_table() -> [[Content; 16]; 65]
+pub fn blank_table() -> [[Content; 16]; 65]
     ensures { λ r. ⌜ r ≡ blankTable ⌝ }
 {
     let zero = Content {
@@ -55,7 +55,7 @@ fn blank_table() -> [[Content; 16]; 65]
     [row; Machine::LINES]
 }
 
-fn blank_counts() -> [u8; 65]
+pub fn blank_counts() -> [u8; 65]
     ensures { λ r. ⌜ r ≡ blankCounts ⌝ }
 {
     [0; Machine::LINES]

@@ -2,7 +2,8 @@
 // A count of 17 says that there were more; the row then holds the first sixteen.
 ghost use mathlib.Core.Path.{_≡_};
 ghost use Prim.Native.Nat.{ℕ, _<_, _≤_};
-ghost use Rattle.endtable.specs.Rows.{seatOf, rowAfter, countAfter};
+ghost use Rattle.moments.specs.Seats.{seatOf};
+ghost use Rattle.endtable.specs.Rows.{rowAfter, countAfter};
 use image::Content;
 use image::is_same;
 

@@ -12,19 +12,20 @@ use Rattle.machine.specs.Line.{persisted}
 use Rattle.machine.specs.Range.{inRange}
 use Rattle.machine.specs.Place.{placesOf, noPlaces, countPlaces}
 use Rattle.machine.specs.Saved.{saveAnswer, saved}
-use Rattle.machine.specs.Event.{Deed, eventAnswer, ifTaken, done, eventAt, eventOn}
-use Rattle.machine.specs.Retire.{out}
+use Rattle.machine.specs.Event.{Deed, eventAnswer, ifTaken, done, eventAt, handed, eventOn}
+use Rattle.machine.specs.Retire.{out, quiet}
 use Rattle.machine.specs.declared.Machine.{Machine}
 use Rattle.machine.specs.declared.Event.{Event}
+use Rattle.machine.specs.declared.Acted.{Acted}
 use Rattle.machine.specs.declared.Out.{Out}
 use Rattle.machine.specs.declared.Counted.{Counted}
 use Rattle.events.specs.Arms.{eventBy}
 
 module _ (p : ℕ) (m : Machine) (e : Event) (d : Deed) where
-  abbrev split : Answer → Bool → Out
-  split a b = elim b [ true ↦ done m e d | false ↦ out a m ]
+  abbrev split : Answer → Bool → Acted
+  split a b = elim b [ true ↦ done m e d | false ↦ quiet a m ]
 
-  pub refused : (a : Answer) → eventAnswer p m e d ≡ a → accepted a ≡ false → out a m ≡ eventBy p m e d
+  pub refused : (a : Answer) → eventAnswer p m e d ≡ a → accepted a ≡ false → quiet a m ≡ eventBy p m e d
   unfolding eventBy
   refused a q f = sym (ap (λ (x : Answer). ifTaken x m e d) q ∙ ap (split a) f)
 
@@ -37,11 +38,11 @@ module _ (p : ℕ) (m : Machine) (e : Event) (d : Deed) where
 module _ (m : Machine) where
   pub on-out : (e : Event) → inRange m ≡ false → eventOn m e ≡ out Record m
   unfolding eventOn
-  on-out e h = ap (λ (b : Bool). elim b as (λ _. Out) [ true ↦ eventAt 0 m e | false ↦ out Record m ]) h
+  on-out e h = ap (λ (b : Bool). elim b as (λ _. Out) [ true ↦ handed (eventAt 0 m e) | false ↦ out Record m ]) h
 
-  pub on-in : (e : Event) → inRange m ≡ true → eventOn m e ≡ eventAt 0 m e
+  pub on-in : (e : Event) → inRange m ≡ true → eventOn m e ≡ handed (eventAt 0 m e)
   unfolding eventOn
-  on-in e h = ap (λ (b : Bool). elim b as (λ _. Out) [ true ↦ eventAt 0 m e | false ↦ out Record m ]) h
+  on-in e h = ap (λ (b : Bool). elim b as (λ _. Out) [ true ↦ handed (eventAt 0 m e) | false ↦ out Record m ]) h
 
   pub save-out : (b : List ℕ) → inRange m ≡ false → (saveAnswer m (length b) ≡ Record) × (saved m b ≡ b)
   unfolding saveAnswer saved

@@ -12,17 +12,19 @@ use Rattle.answer.specs.declared.Answer.the-variants.{Full, WornOut, Record}
 use Rattle.image.specs.Form.{topOf}
 use Rattle.machine.specs.Record.{none, node, thread, ownNode, withNext, withIndex, putNode, putFree, putHead, headAt}
 use Rattle.machine.specs.Stage.{Stage, noStep, A1, A2, A3, A4, A5, A6, A7, A8, A9, A10, A11, A12, D1, D2, D3, D4, D5, D6, D7, stage}
-use Rattle.machine.specs.Retire.{out, moving, going, answering, nextFree, freed}
-use Rattle.machine.specs.Event.{Deed, unknown, enqueues, dequeues, steps, writesBack, crashes, deedOf, eventAnswer, done, stepped, eventAt, eventOn}
+use Rattle.machine.specs.Retire.{out, quiet, moving, going, answering, storing, nextFree, freed}
+use Rattle.machine.specs.Event.{Deed, unknown, enqueues, dequeues, steps, writesBack, crashes, deedOf, eventAnswer, done, stepped, eventAt, handed, eventOn}
 use Rattle.machine.specs.Range.{inRange}
 use Rattle.machine.specs.declared.Machine.{Machine}
 use Rattle.machine.specs.declared.Event.{Event}
+use Rattle.machine.specs.declared.Acted.{Acted}
 use Rattle.machine.specs.declared.Out.{Out}
+use Rattle.machine.specs.declared.Line.the-variants.{OfHead as ofHead, OfNode as ofNode}
 
-abbrev Fine : Out → Type 0
+abbrev Fine : Acted → Type 0
 Fine o = accepted (o .answer) ≡ true
 
-pick-fine : (b : Bool) (x y : Out) → Fine x → Fine y → Fine (pick b x y)
+pick-fine : (b : Bool) (x y : Acted) → Fine x → Fine y → Fine (pick b x y)
 pick-fine true x y p q = p
 pick-fine false x y p q = q
 
@@ -41,7 +43,7 @@ step-taken m k A7 =
     let i = thread m k .node in
     let t = thread m k .tail in
     pick-fine (leb (topOf (m .form)) (node m t .index)) (answering WornOut (freed m i) k)
-    (going (putNode m i (withIndex (node m i) (node m t .index + 1))) k 8) refl refl
+    (storing (ofNode i) (going (putNode m i (withIndex (node m i) (node m t .index + 1))) k 8)) refl refl
 step-taken m k A8 =
     let i = thread m k .node in
     let t = thread m k .tail in
@@ -55,7 +57,7 @@ step-taken m k D2 = refl
 step-taken m k D3 = refl
 step-taken m k D4 =
     let x = thread m k .next in
-    pick-fine (both (eqb (m .head) (thread m k .head)) (eqb (headAt m 0) (thread m k .index))) (going (putHead m x (node m x .index)) k 17)
+    pick-fine (both (eqb (m .head) (thread m k .head)) (eqb (headAt m 0) (thread m k .index))) (storing (ofHead 0) (going (putHead m x (node m x .index)) k 17))
     (going m k 13) refl refl
 step-taken m k D5 = refl
 step-taken m k D6 = refl
@@ -73,8 +75,8 @@ both-ways : {b : Bool} → b ≡ true → b ≡ false → ⊥
 both-ways p q = let z : _≡_ {A = Bool} true false = sym p ∙ q in let y : _≡_ {A = ℕ} 0 1 = cc in absurd (omega arith)
 
 -- an answer that is a refusal leaves the machine, one that is none is not refused
-abbrev chosen : Answer → Machine → Event → Deed → Bool → Out
-chosen a m e d b = elim b [ true ↦ done m e d | false ↦ out a m ]
+abbrev chosen : Answer → Machine → Event → Deed → Bool → Acted
+chosen a m e d b = elim b [ true ↦ done m e d | false ↦ quiet a m ]
 
 same-at : (a : Answer) (m : Machine) (e : Event) (d : Deed) (b : Bool) → accepted (chosen a m e d b .answer) ≡ false → chosen a m e d b .machine ≡ m
 same-at a m e d true h = absurd (both-ways (done-taken m e d) h)
@@ -87,7 +89,7 @@ at-same p m e h =
     same-at a m e (deedOf (e .kind)) (accepted a) h
 
 abbrev tested : Machine → Event → Bool → Out
-tested m e b = elim b [ true ↦ eventAt 0 m e | false ↦ out Record m ]
+tested m e b = elim b [ true ↦ handed (eventAt 0 m e) | false ↦ out Record m ]
 
 same-on : (m : Machine) (e : Event) (b : Bool) → accepted (tested m e b .answer) ≡ false → tested m e b .machine ≡ m
 same-on m e true h = at-same 0 m e h

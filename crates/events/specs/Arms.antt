@@ -3,7 +3,7 @@ use Prim.Native.Nat.{ℕ}
 use Rattle.machine.specs.Event.{Deed, eventAnswer, ifTaken}
 use Rattle.machine.specs.declared.Machine.{Machine}
 use Rattle.machine.specs.declared.Event.{Event}
-use Rattle.machine.specs.declared.Out.{Out}
+use Rattle.machine.specs.declared.Acted.{Acted}
 
-unfoldable pub eventBy : ℕ → Machine → Event → Deed → Out
+unfoldable pub eventBy : ℕ → Machine → Event → Deed → Acted
 eventBy p m e d = ifTaken (eventAnswer p m e d) m e d

@@ -6,10 +6,13 @@ ghost use Rattle.machine.specs.Line.{persisted};
 ghost use Rattle.machine.specs.Range.{inRange};
 ghost use Rattle.events.specs.Arms.{eventBy};
 use answer::Answer;
+use hands::persisting::persist_line;
 use image::Image;
+use machine::Acted;
 use machine::Event;
 use machine::Machine;
-use machine::Out;
+use machine::Touch;
+use machine::lines::line_at;
 
 // The persisted copies, as an image.
 pub fn kept_image(m: Machine) -> Image
@@ -26,146 +29,164 @@ pub fn kept_image(m: Machine) -> Image
 }
 
 // 1: begins an enqueue of the item on the thread numbered.
-fn enqueue(p: u32, m: Machine, e: Event) -> Out
+fn enqueue(p: u32, m: Machine, e: Event) -> Acted
     requires { ⌜ inRange m ≡ true ⌝ }
     ensures { λ r. ⌜ r ≡ eventBy p m e enqueues ⌝ }
 {
     if m.t <= e.number {
-        return Out {
+        return Acted {
             answer: Answer::Number(p),
             machine: m,
+            touch: Touch::Nothing,
         };
     }
     let k = e.number as usize;
     if m.threads[k].step != 0 {
-        return Out {
+        return Acted {
             answer: Answer::Busy(p),
             machine: m,
+            touch: Touch::Nothing,
         };
     }
-    let machine = steps::begin(m, k, 1, e.item);
-    Out {
+    let machine = steps::begin(m, k, Machine::A1, e.item);
+    Acted {
         answer: Answer::Taken,
         machine,
+        touch: Touch::Nothing,
     }
 }
 
 // 2: begins a dequeue on the thread numbered.
-fn dequeue(p: u32, m: Machine, e: Event) -> Out
+fn dequeue(p: u32, m: Machine, e: Event) -> Acted
     requires { ⌜ inRange m ≡ true ⌝ }
     ensures { λ r. ⌜ r ≡ eventBy p m e dequeues ⌝ }
 {
     if m.t <= e.number {
-        return Out {
+        return Acted {
             answer: Answer::Number(p),
             machine: m,
+            touch: Touch::Nothing,
         };
     }
     if e.item != 0 {
-        return Out {
+        return Acted {
             answer: Answer::NotZero(p),
             machine: m,
+            touch: Touch::Nothing,
         };
     }
     let k = e.number as usize;
     if m.threads[k].step != 0 {
-        return Out {
+        return Acted {
             answer: Answer::Busy(p),
             machine: m,
+            touch: Touch::Nothing,
         };
     }
-    let machine = steps::begin(m, k, 13, 0);
-    Out {
+    let machine = steps::begin(m, k, Machine::D1, 0);
+    Acted {
         answer: Answer::Taken,
         machine,
+        touch: Touch::Nothing,
     }
 }
 
 // 3: moves the thread numbered by one step.
-fn step(p: u32, m: Machine, e: Event) -> Out
+fn step(p: u32, m: Machine, e: Event) -> Acted
     requires { ⌜ inRange m ≡ true ⌝ }
     ensures { λ r. ⌜ r ≡ eventBy p m e steps ⌝ }
 {
     if m.t <= e.number {
-        return Out {
+        return Acted {
             answer: Answer::Number(p),
             machine: m,
+            touch: Touch::Nothing,
         };
     }
     if e.item != 0 {
-        return Out {
+        return Acted {
             answer: Answer::NotZero(p),
             machine: m,
+            touch: Touch::Nothing,
         };
     }
     let k = e.number as usize;
     if m.threads[k].step == 0 {
-        return Out {
+        return Acted {
             answer: Answer::Idle(p),
             machine: m,
+            touch: Touch::Nothing,
         };
     }
     steps::one_step(m, k)
 }
 
 // 4: writes back the line numbered.
-fn write_back(p: u32, m: Machine, e: Event) -> Out
+fn write_back(p: u32, m: Machine, e: Event) -> Acted
     requires { ⌜ inRange m ≡ true ⌝ }
     ensures { λ r. ⌜ r ≡ eventBy p m e writesBack ⌝ }
 {
     if m.n < e.number {
-        return Out {
+        return Acted {
             answer: Answer::Number(p),
             machine: m,
+            touch: Touch::Nothing,
         };
     }
     if e.item != 0 {
-        return Out {
+        return Acted {
             answer: Answer::NotZero(p),
             machine: m,
+            touch: Touch::Nothing,
         };
     }
-    let machine = steps::persist_line(m, e.number as usize);
-    Out {
+    let line = line_at(m.n, e.number);
+    let machine = persist_line(m, line);
+    Acted {
         answer: Answer::Taken,
         machine,
+        touch: Touch::Persist(line),
     }
 }
 
 // 5: a crash followed by recovery.
-fn crash(p: u32, m: Machine, e: Event) -> Out
+fn crash(p: u32, m: Machine, e: Event) -> Acted
     requires { ⌜ inRange m ≡ true ⌝ }
     ensures { λ r. ⌜ r ≡ eventBy p m e crashes ⌝ }
 {
     if e.number != 0 {
-        return Out {
+        return Acted {
             answer: Answer::NotZero(p),
             machine: m,
+            touch: Touch::Nothing,
         };
     }
     if e.item != 0 {
-        return Out {
+        return Acted {
             answer: Answer::NotZero(p),
             machine: m,
+            touch: Touch::Nothing,
         };
     }
     let g = kept_image(m);
     let a = image::startable_of(g);
     if !answer::is_taken(a) {
-        return Out {
+        return Acted {
             answer: a,
             machine: m,
+            touch: Touch::Nothing,
         };
     }
     let machine = machine::start::start(g, m.t);
-    Out {
+    Acted {
         answer: Answer::Taken,
         machine,
+        touch: Touch::Nothing,
     }
 }
 
 // The kind decides.
-pub fn act(p: u32, m: Machine, e: Event) -> Out
+pub fn act(p: u32, m: Machine, e: Event) -> Acted
     requires { ⌜ inRange m ≡ true ⌝ }
     ensures { λ r. ⌜ r ≡ eventAt p m e ⌝ }
 {
@@ -176,9 +197,10 @@ pub fn act(p: u32, m: Machine, e: Event) -> Out
         3 => step(p, m, e),
         4 => write_back(p, m, e),
         5 => crash(p, m, e),
-        0 | 6..=255 => Out {
+        0 | 6..=255 => Acted {
             answer: Answer::Kind(p),
             machine: m,
+            touch: Touch::Nothing,
         },
     }
 }

@@ -28,7 +28,10 @@ pub fn on_event(m: Machine, e: Event) -> Out
             machine: m,
         };
     }
-    act(0, m, e)
+    let r = act(0, m, e);
+    let answer = r.answer;
+    let machine = r.machine;
+    Out { answer, machine }
 }
 
 // Writes the persisted copies as an image, in the record's form, into the buffer's first bytes, or nothing.

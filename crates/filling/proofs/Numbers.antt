@@ -22,7 +22,7 @@ use Rattle.schedule.specs.declared.Opened.{Opened}
 use Rattle.page.specs.Endings.{product}
 use Rattle.page.specs.Refusals.{tableIn, tableAnswer, pageAnswer, endingCount, firstCrowded}
 use Rattle.endtable.specs.Picks.{prod, capped}
-use Rattle.endtable.proofs.Moments as moments
+use Rattle.moments.proofs.Moments as moments
 use Rattle.codec.proofs.Accepted as codec
 use Rattle.pageproof.proofs.Even as evens
 use Rattle.pageproof.proofs.Runs as runs

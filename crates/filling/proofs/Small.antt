@@ -19,8 +19,10 @@ use Rattle.image.specs.declared.Content.{Content}
 use Rattle.image.specs.declared.Image.{Image}
 use Rattle.machine.specs.Record.{none, top, node, thread, kept, headAt, keptHead, contentOf, zeroNode, zeroThread, blankNodes, idleThread, idleThreads, withIndex, atStep, putNode, putThread, putFree, putTail, putHead}
 use Rattle.machine.specs.Stage.{Stage, noStep, A1, A2, A3, A4, A5, A6, A7, A8, A9, A10, A11, A12, D1, D2, D3, D4, D5, D6, D7, stage}
-use Rattle.machine.specs.Line.{Line, ofHead, ofNode, lineAt, persist, persisted}
-use Rattle.machine.specs.Retire.{left, freed, released, releasedAt, retired, retiredHeld, going, answering}
+use Rattle.machine.specs.Line.{lineAt, persist, persisted}
+use Rattle.machine.specs.declared.Line.{Line}
+use Rattle.machine.specs.declared.Line.the-variants.{OfHead as ofHead, OfNode as ofNode}
+use Rattle.machine.specs.Retire.{left, freed, released, releasedAt, retired, retiredHeld, going, answering, storing}
 use Rattle.answer.specs.declared.Answer.the-variants.{WornOut}
 use Rattle.machine.specs.Start.{startWith, startOf, startNode, queueOf}
 use Rattle.machine.specs.Event.{Deed, unknown, enqueues, dequeues, steps, writesBack, crashes, stepped, done}
@@ -28,7 +30,7 @@ use Rattle.machine.specs.declared.Machine.{Machine}
 use Rattle.machine.specs.declared.Node.{Node}
 use Rattle.machine.specs.declared.Thread.{Thread}
 use Rattle.machine.specs.declared.Event.{Event}
-use Rattle.machine.specs.declared.Out.{Out}
+use Rattle.machine.specs.declared.Acted.{Acted}
 
 abbrev pub Little : Content → Type 0
 Little c = (c .index < 4294967296) × (c .item < 4294967296)
@@ -122,7 +124,7 @@ small-released m k (suc c) s =
 small-left : (m : Machine) (k x : ℕ) → Small m → Small (left m k x)
 small-left m k x s = small-thread (released m k (m .n)) (small-released m k (m .n) s) k (idleThread x) (omega arith)
 
-small-pick : (t : Bool) (a b : Out) → Small (a .machine) → Small (b .machine) → Small (pick t a b .machine)
+small-pick : (t : Bool) (a b : Acted) → Small (a .machine) → Small (b .machine) → Small (pick t a b .machine)
 small-pick true a b p q = p
 small-pick false a b p q = q
 
@@ -148,7 +150,7 @@ small-going m k p s = small-thread m s k (atStep (thread m k) p) (s .items k)
 
 -- the largest index is not passed
 small-worn : (m : Machine) (k i t : ℕ) → Small m → (x : Bool) → eqb (node m t .index) top ≡ x
-    → Small (pick x (answering WornOut (freed m i) k) (going (putNode m i (withIndex (node m i) (node m t .index + 1))) k 8) .machine)
+    → Small (pick x (answering WornOut (freed m i) k) (storing (ofNode i) (going (putNode m i (withIndex (node m i) (node m t .index + 1))) k 8)) .machine)
 small-worn m k i t s true e = small-left (freed m i) k (thread m k .held) (small-free m _ s)
 small-worn m k i t s false e =
     small-going _ k 8 (small-node m s i _ (omega (arith, s .cached t .0, eqb-false (node m t .index) top e), s .cached i .1))

@@ -14,12 +14,15 @@ use Rattle.image.specs.Bytes.{at4}
 use Rattle.image.specs.Layout.{noContent, noContents, contentAt, readContent, readNodes, nodePlace, imageIn, sameContent, headLines, headIn, readHeads}
 use Rattle.image.specs.declared.Content.{Content}
 use Rattle.image.specs.declared.Image.{Image}
-use Rattle.machine.specs.Line.{Line, ofHead, ofNode, lineCount, lineAt, cachedAt, persistedAt}
+use Rattle.machine.specs.Line.{lineCount, lineAt, cachedAt, persistedAt}
+use Rattle.machine.specs.declared.Line.{Line}
+use Rattle.machine.specs.declared.Line.the-variants.{OfHead as ofHead, OfNode as ofNode}
 use Rattle.machine.specs.Event.{Deed, unknown, enqueues, dequeues, steps, writesBack, crashes, deedOf}
 use Rattle.machine.specs.declared.Machine.{Machine}
 use Rattle.image.proofs.ByteLaws.{at-small}
 use Rattle.image.proofs.HeadLaws.{one-head, heads-at, head-one}
 use Rattle.machine.specs.declared.Event.{Event}
+use Rattle.machine.specs.declared.Acted.{Acted}
 use Rattle.machine.proofs.AnswerLaws as starts
 use Rattle.schedule.specs.Layout.{scheduleIn, eventIn, eventsIn, threadsIn, nodesIn, countIn}
 use Rattle.schedule.specs.Run.{Bench, Ran, run, ran, turned, opened}
@@ -29,7 +32,7 @@ use Rattle.page.specs.Printed.{firstLine, endingLine}
 use Rattle.page.specs.Refusals.{tableIn, tableAnswer, pageAnswer, endingCount, endingIn}
 use Rattle.page.specs.Filled.{pageLine}
 use Rattle.lawful.specs.Demand3.{Bytes}
-use Rattle.endtable.proofs.Moments as moments
+use Rattle.moments.proofs.Moments as moments
 use Rattle.codec.proofs.Accepted as codec
 use Rattle.pageproof.proofs.Among.{Among, choice-in}
 use Rattle.pageproof.proofs.Events.{onto}
@@ -60,13 +63,13 @@ record SmallBench (b : Bench) : Type 0 where
   pub machine : Small (b .machine)
   pub past : SmallAll (b .past)
 
-small-turned : (b : Bench) (m : Machine) (e : Event) (d : Deed) → SmallBench b → Small m → SmallBench (turned b m e d)
-small-turned b m e unknown h s = h
-small-turned b m e enqueues h s = record { machine = s; past = all-append (b .past) m (h .past) s }
-small-turned b m e dequeues h s = record { machine = s; past = all-append (b .past) m (h .past) s }
-small-turned b m e steps h s = record { machine = s; past = all-append (b .past) m (h .past) s }
-small-turned b m e writesBack h s = record { machine = s; past = all-append (b .past) m (h .past) s }
-small-turned b m e crashes h s = record { machine = s; past = (s, tt) }
+small-turned : (b : Bench) (o : Acted) (d : Deed) → SmallBench b → Small (o .machine) → SmallBench (turned b o d)
+small-turned b o unknown h s = h
+small-turned b o enqueues h s = record { machine = s; past = all-append (b .past) (o .machine) (h .past) s }
+small-turned b o dequeues h s = record { machine = s; past = all-append (b .past) (o .machine) (h .past) s }
+small-turned b o steps h s = record { machine = s; past = all-append (b .past) (o .machine) (h .past) s }
+small-turned b o writesBack h s = record { machine = s; past = all-append (b .past) (o .machine) (h .past) s }
+small-turned b o crashes h s = record { machine = s; past = (s, tt) }
 
 abbrev SmallItems : List Event → Type 0
 SmallItems [] = Unit {0}
@@ -77,7 +80,7 @@ small-run [] p b i g h = rw (runs.run-nothing p b) g
 small-run (e ∷ l) p b i g h =
     let t = runs.run-first p b e l h in
     rw (runs.run-bench p b e l t)
-    (small-run l (suc p) (onto b e) (i .1) (small-turned b _ e (deedOf (e .kind)) g (small-done (b .machine) e (deedOf (e .kind)) (i .0) (g .machine))) (runs.run-rest p b e l h))
+    (small-run l (suc p) (onto b e) (i .1) (small-turned b _ (deedOf (e .kind)) g (small-done (b .machine) e (deedOf (e .kind)) (i .0) (g .machine))) (runs.run-rest p b e l h))
 
 -- ---- what the bytes hold
 

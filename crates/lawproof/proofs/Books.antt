@@ -118,7 +118,7 @@ module _ (b : schedule.Bench) (B : Bench) (r : BenchT b B) (ops : List Operation
         by (core.item v) f = said (gave v) refl
 
     pub turnBook : (δ : Deed) → accepted (eventAnswer (B .now) m e δ) ≡ true
-        → BookT (turned b (machine.done m e δ .machine) e δ) (turn B (eventBy (m .n) δ e)) (noted (B .now) e (machine.done m e δ .answer) ops δ)
+        → BookT (turned b (machine.done m e δ) δ) (turn B (eventBy (m .n) δ e)) (noted (B .now) e (machine.done m e δ .answer) ops δ)
     turnBook unknown a = no-way (sym a)
     turnBook enqueues a = record {
       book = beginT ops (B .book) (c .thr) _ t (k .book) (λ u ne. upd-other (c .thr) t (a1 (e .item)) ne) lt (B .now) (puts (e .item))
@@ -156,13 +156,13 @@ runBook (e ∷ l) b B r ops k a =
     (subst (λ (R : Ran). accepted (R .answer) ≡ true) is a)))
   where
     b′ : schedule.Bench
-    b′ = turned b (machine.done (b .machine) e (deedOf (e .kind)) .machine) e (deedOf (e .kind))
+    b′ = turned b (machine.done (b .machine) e (deedOf (e .kind))) (deedOf (e .kind))
 
     f : accepted (eventAnswer (B .now) (b .machine) e (deedOf (e .kind))) ≡ true
     f = first-taken (B .now) b e l a
 
     is : run (B .now) b (e ∷ l) ≡ andBefore (machine.done (b .machine) e (deedOf (e .kind)) .answer)
-        (run (suc (B .now)) (turned b (machine.done (b .machine) e (deedOf (e .kind)) .machine) e (deedOf (e .kind))) l)
+        (run (suc (B .now)) (turned b (machine.done (b .machine) e (deedOf (e .kind))) (deedOf (e .kind))) l)
     is = run-taken (B .now) b B r e l f
 
 -- ---- from an accepted start

@@ -12,7 +12,8 @@ use Rattle.image.specs.declared.Image.{Image}
 use Rattle.image.specs.Layout as layout
 use Rattle.image.specs.Layout.{noContent, noContents, contentAt}
 use Rattle.image.specs.Form.{topOf}
-use Rattle.machine.specs.Line as memory
+use Rattle.machine.specs.declared.Line as memory
+use Rattle.machine.specs.declared.Line.the-variants as line
 use Rattle.machine.specs.Line.{numberOf}
 use Rattle.image.proofs.HeadLaws.{one-head, heads-at}
 use Rattle.machine.proofs.LineLaws.{LineIn}
@@ -69,9 +70,6 @@ module _ (b : schedule.Bench) (B : Bench) (r : BenchT b B) (c : List Content) (p
   unfolding imageOf
   e-head = heads-at (m .n) (λ j. contentAt c j .index) 0 (omega (arith, one-head (m .n)))
 
-  e-form : e .form ≡ m .form
-  e-form = refl
-
   e-size : e .n ≡ m .n
   unfolding imageOf
   e-size = refl
@@ -103,7 +101,7 @@ module _ (b : schedule.Bench) (B : Bench) (r : BenchT b B) (c : List Content) (p
   E-head = refl
 
   small-at : (i : ℕ) → i < m .n → Small (B .mach .core .conf .top) (contentAt (e .nodes) i)
-  small-at i h = subst (Small (B .mach .core .conf .top)) (sym (e-at i h)) (small (memory.ofNode i) h)
+  small-at i h = subst (Small (B .mach .core .conf .top)) (sym (e-at i h)) (small (line.OfNode i) h)
 
   e-top : B .mach .core .conf .top ≡ topOf (e .form)
   e-top = top-is _ m (B .mach .core) (r .tied)
@@ -115,7 +113,7 @@ module _ (b : schedule.Bench) (B : Bench) (r : BenchT b B) (c : List Content) (p
     head = E-head;
     at = λ i h. E-at i (omega (arith, e-size));
     flag = λ i h. small-at i (omega (arith, e-size)) .0;
-    narrow-head = subst (λ x. x ≤ topOf (e .form)) (sym e-head) (omega (arith, small (memory.ofHead 0) (omega (arith, one-head (m .n))) .1, e-top));
+    narrow-head = subst (λ x. x ≤ topOf (e .form)) (sym e-head) (omega (arith, small (line.OfHead 0) (omega (arith, one-head (m .n))) .1, e-top));
     narrow = λ i h. omega (arith, small-at i (omega (arith, e-size)) .1, e-top);
   }
 
@@ -125,13 +123,13 @@ module _ (b : schedule.Bench) (B : Bench) (r : BenchT b B) (c : List Content) (p
     where
       has : (l : Line) → Within (B .mach .core .conf) l → Has (B .mach) l (imageHas E l)
       has (ofHead zero) h =
-          let hn = there (memory.ofHead 0) (omega (arith, one-head (m .n))) in
+          let hn = there (line.OfHead 0) (omega (arith, one-head (m .n))) in
           subst (Has (B .mach) (ofHead 0))
           (r .kept .all .pinv .head .plain 0 h (shownContent (contentAt c 0)) hn ∙ ap core.hd (sym (E-head ∙ e-head))) hn
       has (ofHead (suc k)) h = let z : suc k < 1 = subst (λ (c : Conf). suc k < headLines c) (r .tied .conf) h in absurd (omega arith)
       has (ofNode i) h =
           let hi : i < m .n = subst (λ (c : Conf). i < c .nodes) (r .tied .conf) h in
-          subst (Has (B .mach) (ofNode i)) (sym (E-at i hi ∙ ap shownContent (e-at i hi))) (there (memory.ofNode i) hi)
+          subst (Has (B .mach) (ofNode i)) (sym (E-at i hi ∙ ap shownContent (e-at i hi))) (there (line.OfNode i) hi)
 
 -- ---- every ending of an accepted run
 

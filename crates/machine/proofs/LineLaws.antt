@@ -48,6 +48,9 @@ line-next n i = ap (lineAt n) (omega (arith, one-head n)) ∙ line-node n i
 pub line-before : (n l : ℕ) → 0 < l → lineAt n l ≡ ofNode (l - 1)
 line-before n l h = ap (lineAt n) (omega arith) ∙ line-next n (l - 1)
 
+pub number-node : (n i : ℕ) (l : Line) → l ≡ ofNode i → 1 + i ≡ numberOf n l
+number-node n i l e = ap (λ h. h + i) (sym (one-head n)) ∙ sym (ap (numberOf n) e)
+
 -- the lines that there are
 abbrev pub LineIn : ℕ → Line → Type 0
 LineIn n (ofHead k) = k < headLines n

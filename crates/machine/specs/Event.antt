@@ -13,13 +13,14 @@ use Rattle.machine.specs.Record.{thread, putThread}
 use Rattle.machine.specs.Stage.{Stage, noStep, A1, A2, A3, A4, A5, A6, A7, A8, A9, A10, A11, A12, D1, D2, D3, D4, D5, D6, D7, number, stage, busy}
 use Rattle.machine.specs.Line.{lineCount, lineAt, persist, persisted}
 use Rattle.machine.specs.Start.{startOf}
-use Rattle.machine.specs.Retire.{out}
+use Rattle.machine.specs.Retire.{out, quiet, persisting}
 use Rattle.machine.specs.Enqueue.{stepA1, stepA2, stepA3, stepA4, stepA5, stepA6, stepA7, stepA8, stepA9, stepA10, stepA11, stepA12}
 use Rattle.machine.specs.Dequeue.{stepD1, stepD2, stepD3, stepD4, stepD5, stepD6, stepD7}
 use Rattle.machine.specs.Range.{inRange}
 use Rattle.machine.specs.declared.Machine.{Machine}
 use Rattle.machine.specs.declared.Thread.{Thread}
 use Rattle.machine.specs.declared.Event.{Event}
+use Rattle.machine.specs.declared.Acted.{Acted}
 use Rattle.machine.specs.declared.Out.{Out}
 
 -- ---- "The kind byte decides what an event does"
@@ -63,8 +64,8 @@ begun m k s v =
     (record { step = s; node = 255; tail = 255; head = 255; index = 0; next = 255; item = v; held = thread m k .held })
 
 -- one step of thread k, by its stage
-abbrev pub stepped : Machine → ℕ → Stage → Out
-stepped m k noStep = out Taken m
+abbrev pub stepped : Machine → ℕ → Stage → Acted
+stepped m k noStep = quiet Taken m
 stepped m k A1 = stepA1 m k
 stepped m k A2 = stepA2 m k
 stepped m k A3 = stepA3 m k
@@ -86,22 +87,29 @@ stepped m k D6 = stepD6 m k
 stepped m k D7 = stepD7 m k
 
 -- 1 begins an enqueue, 2 a dequeue, 3 moves the thread by one step, 4 writes back a line, 5 is a crash followed by recovery
-abbrev pub done : Machine → Event → Deed → Out
-done m e unknown = out Taken m
-done m e enqueues = out Taken (begun m (e .number) (number A1) (e .item))
-done m e dequeues = out Taken (begun m (e .number) (number D1) 0)
+-- a start is no touch: it begins the moments anew
+abbrev pub done : Machine → Event → Deed → Acted
+done m e unknown = quiet Taken m
+done m e enqueues = quiet Taken (begun m (e .number) (number A1) (e .item))
+done m e dequeues = quiet Taken (begun m (e .number) (number D1) 0)
 done m e steps = stepped m (e .number) (stage m (e .number))
-done m e writesBack = out Taken (persist m (lineAt (m .n) (e .number)))
-done m e crashes = out Taken (startOf (persisted m) (m .t))
+done m e writesBack =
+    let l = lineAt (m .n) (e .number) in
+    persisting l (quiet Taken (persist m l))
+done m e crashes = quiet Taken (startOf (persisted m) (m .t))
 
 -- ---- the event at place p of a run: a refused one changes nothing
 
-abbrev pub ifTaken : Answer → Machine → Event → Deed → Out
-ifTaken a m e d = elim (accepted a) [ true ↦ done m e d | false ↦ out a m ]
+abbrev pub ifTaken : Answer → Machine → Event → Deed → Acted
+ifTaken a m e d = elim (accepted a) [ true ↦ done m e d | false ↦ quiet a m ]
 
-unfoldable pub eventAt : ℕ → Machine → Event → Out
+unfoldable pub eventAt : ℕ → Machine → Event → Acted
 eventAt p m e = ifTaken (eventAnswer p m e (deedOf (e .kind))) m e (deedOf (e .kind))
+
+-- what a public call hands back of it
+abbrev pub handed : Acted → Out
+handed o = out (o .answer) (o .machine)
 
 -- a single event on a record that is handed in: 18 before all else, then as the event at place 0
 unfoldable pub eventOn : Machine → Event → Out
-eventOn m e = elim (inRange m) [ true ↦ eventAt 0 m e | false ↦ out Record m ]
+eventOn m e = elim (inRange m) [ true ↦ handed (eventAt 0 m e) | false ↦ out Record m ]

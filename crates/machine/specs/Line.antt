@@ -8,10 +8,12 @@ use Rattle.image.specs.declared.Content.{Content}
 use Rattle.image.specs.declared.Image.{Image}
 use Rattle.machine.specs.Record.{node, kept, headAt, keptHead, contentOf, putKept, putKeptHead}
 use Rattle.machine.specs.declared.Machine.{Machine}
-
-pub data Line : Type 0 where
-  ofHead : (k : ℕ) → Line
-  ofNode : (i : ℕ) → Line
+-- a head line or a node's line
+pub use Rattle.machine.specs.declared.Line.{Line}
+pub use Rattle.machine.specs.declared.Line.the-variants.{OfHead as ofHead, OfNode as ofNode}
+-- what an event does to the lines' contents: nothing, a store to one line, the persist of one line
+pub use Rattle.machine.specs.declared.Touch.{Touch}
+pub use Rattle.machine.specs.declared.Touch.the-variants.{Nothing as nothing, Store as aStore, Persist as aPersist}
 
 -- ---- "Line 0 is Head, line i+1 is node i": the number of a line
 

@@ -7,7 +7,7 @@ use Rattle.image.specs.Form.{known, topOf}
 use Rattle.image.specs.Layout.{headLines}
 use Rattle.image.specs.Refusals.{nodesFit}
 use Rattle.machine.specs.Record.{none, node, kept, headAt, keptHead, thread}
-use Rattle.machine.specs.Stage.{A12, D7, number, own, t, theHead, theNext, uses, stage}
+use Rattle.machine.specs.Stage.{A12, number, lastStep, own, t, theHead, theNext, uses, stage}
 use Rattle.machine.specs.Start.{threadsFit}
 use Rattle.machine.specs.declared.Machine.{Machine}
 
@@ -55,7 +55,7 @@ unfoldable pub threadFits : Machine → ℕ → Bool
 threadFits m k =
     let v = thread m k in
     let s = stage m k in
-    both (leb (v .step) (number D7))
+    both (leb (v .step) lastStep)
     (both (readFits m (uses s own) (v .node))
     (both (readFits m (uses s t) (v .tail))
     (both (readFits m (uses s theHead) (v .head))

@@ -8,19 +8,35 @@ use Rattle.answer.specs.declared.Answer.{Answer}
 use Rattle.answer.specs.declared.Answer.the-variants.{Taken}
 use Rattle.machine.specs.Record.{none, node, thread, withWaits, atStep, idleThread, putNode, putFree, putThread}
 use Rattle.machine.specs.Stage.{busy}
+use Rattle.machine.specs.Line.{Line, nothing, aStore, aPersist}
 use Rattle.machine.specs.declared.Machine.{Machine}
+use Rattle.machine.specs.declared.Acted.{Acted}
 use Rattle.machine.specs.declared.Out.{Out}
 use Rattle.machine.specs.declared.Thread.{Thread}
 
 abbrev pub out : Answer → Machine → Out
 out a m = record { answer = a; machine = m }
 
+-- ---- what a step answers, the machine that it leaves, and the line that it touches
+
+-- it touches no line
+abbrev pub quiet : Answer → Machine → Acted
+quiet a m = record { answer = a; machine = m; touch = nothing }
+
+-- the same, and it stores to line l
+abbrev pub storing : Line → Acted → Acted
+storing l o = record { answer = o .answer; machine = o .machine; touch = aStore l }
+
+-- the same, and it persists line l
+abbrev pub persisting : Line → Acted → Acted
+persisting l o = record { answer = o .answer; machine = o .machine; touch = aPersist l }
+
 -- thread k, now v, goes on to step s
-abbrev pub moving : Machine → ℕ → Thread → ℕ → Out
-moving m k v s = out Taken (putThread m k (atStep v s))
+abbrev pub moving : Machine → ℕ → Thread → ℕ → Acted
+moving m k v s = quiet Taken (putThread m k (atStep v s))
 
 -- thread k goes on to step s, and has read nothing new
-abbrev pub going : Machine → ℕ → ℕ → Out
+abbrev pub going : Machine → ℕ → ℕ → Acted
 going m k s = moving m k (thread m k) s
 
 -- ---- the free set
@@ -56,8 +72,8 @@ abbrev pub left : Machine → ℕ → ℕ → Machine
 left m k x = putThread (released m k (m .n)) k (idleThread x)
 
 -- the answer a of an operation that leaves what the thread holds as it is
-abbrev pub answering : Answer → Machine → ℕ → Out
-answering a m k = out a (left m k (thread m k .held))
+abbrev pub answering : Answer → Machine → ℕ → Acted
+answering a m k = quiet a (left m k (thread m k .held))
 
 -- ---- retiring
 

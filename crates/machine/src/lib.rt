@@ -6,6 +6,7 @@ use image::no_contents;
 use image::no_heads;
 
 pub mod blank;
+pub mod lines;
 pub mod queue;
 pub mod start;
 
@@ -63,6 +64,45 @@ impl Machine {
 
     pub const LINES: usize = Machine::HEADS + Machine::NODES;
 
+    // The steps: 0 is no operation, A1 to A12 of an enqueue, D1 to D7 of a dequeue.
+    pub const A1: u8 = 1;
+
+    pub const A2: u8 = 2;
+
+    pub const A3: u8 = 3;
+
+    pub const A4: u8 = 4;
+
+    pub const A5: u8 = 5;
+
+    pub const A6: u8 = 6;
+
+    pub const A7: u8 = 7;
+
+    pub const A8: u8 = 8;
+
+    pub const A9: u8 = 9;
+
+    pub const A10: u8 = 10;
+
+    pub const A11: u8 = 11;
+
+    pub const A12: u8 = 12;
+
+    pub const D1: u8 = 13;
+
+    pub const D2: u8 = 14;
+
+    pub const D3: u8 = 15;
+
+    pub const D4: u8 = 16;
+
+    pub const D5: u8 = 17;
+
+    pub const D6: u8 = 18;
+
+    pub const D7: u8 = 19;
+
     // At most so many contents of a line, endings, and events of a schedule.
     pub const CONTENTS: usize = 16;
 
@@ -98,6 +138,26 @@ pub struct Event {
 pub struct Out {
     pub answer: Answer,
     pub machine: Machine,
+}
+
+// A line of memory: a head line, or a node's.
+pub enum Line {
+    OfHead(u8),
+    OfNode(u8),
+}
+
+// What an event does to the lines' contents: nothing, a store to one line, or the persist of one line.
+pub enum Touch {
+    Nothing,
+    Store(Line),
+    Persist(Line),
+}
+
+// What a step or an event answers, with the machine after it and the line that it touched.
+pub struct Acted {
+    pub answer: Answer,
+    pub machine: Machine,
+    pub touch: Touch,
 }
 
 // How many nodes are in each of the six places.

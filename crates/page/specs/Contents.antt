@@ -6,7 +6,8 @@ use lib.ListN.{drop}
 use Rattle.lists.specs.Tab.{tab}
 use Rattle.image.specs.Layout.{sameContent}
 use Rattle.image.specs.declared.Content.{Content}
-use Rattle.machine.specs.Line.{Line, lineCount, lineAt, cachedAt, persistedAt}
+use Rattle.machine.specs.Line.{lineCount, lineAt, cachedAt, persistedAt}
+use Rattle.machine.specs.declared.Line.{Line}
 use Rattle.machine.specs.declared.Machine.{Machine}
 use Rattle.schedule.specs.Run.{Bench}
 

@@ -6,7 +6,8 @@ use Rattle.lists.specs.Tab.{front}
 use Rattle.image.specs.Layout.{noContent, noContents, contentAt, headsOf}
 use Rattle.image.specs.declared.Content.{Content}
 use Rattle.image.specs.declared.Image.{Image}
-use Rattle.machine.specs.Line.{ofHead, ofNode, numberOf}
+use Rattle.machine.specs.Line.{numberOf}
+use Rattle.machine.specs.declared.Line.the-variants.{OfHead as ofHead, OfNode as ofNode}
 
 -- every choice of one content a line: the first line turns slowest, the last fastest, in each the oldest content comes first
 unfoldable pub choices : List (List Content) → List (List Content)

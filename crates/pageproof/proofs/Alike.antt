@@ -11,13 +11,15 @@ use Rattle.answer.specs.declared.Answer.the-variants.{Done}
 use Rattle.image.specs.declared.Content.{Content}
 use Rattle.machine.specs.Record.{none, top, node, headAt, thread, contentOf, putTail, putThread, idleThread}
 use Rattle.machine.specs.Stage.{Stage, noStep, A1, A2, A3, A4, A5, A6, A7, A8, A9, A10, A11, A12, D1, D2, D3, D4, D5, D6, D7, stage}
-use Rattle.machine.specs.Line.{Line, ofHead, ofNode, lineAt, persist, cachedAt}
+use Rattle.machine.specs.Line.{lineAt, persist, cachedAt}
+use Rattle.machine.specs.declared.Line.{Line}
+use Rattle.machine.specs.declared.Line.the-variants.{OfHead as ofHead, OfNode as ofNode}
 use Rattle.machine.specs.Retire.{going, answering, left, freed, releasedAt, released, retired, retiredHeld, nextFree, others}
 use Rattle.machine.specs.Event.{Deed, unknown, enqueues, dequeues, steps, writesBack, crashes, eventAnswer, stepped, done}
 use Rattle.machine.specs.declared.Machine.{Machine}
 use Rattle.machine.specs.declared.Event.{Event}
-use Rattle.machine.specs.declared.Out.{Out}
-use Rattle.endtable.specs.Touches.{touches}
+use Rattle.machine.specs.declared.Acted.{Acted}
+use Rattle.machine.specs.declared.Touch.{Touch}
 
 -- m with other persisted copies
 abbrev pub keeping : Machine → List ℕ → List Content → Machine
@@ -31,10 +33,11 @@ pub record Alike (m m′ : Machine) : Type 0 where
 pub alike-self : (m : Machine) → Alike m m
 alike-self m = record { heads = m .«kept_heads»; copies = m .kept; is = refl }
 
--- two results with one answer, and machines alike
-pub record AlikeOut (o o′ : Out) : Type 0 where
+-- two results with one answer and one touch, and machines alike
+pub record AlikeOut (o o′ : Acted) : Type 0 where
   pub answer : o′ .answer ≡ o .answer
   pub machine : Alike (o .machine) (o′ .machine)
+  pub touch : o′ .touch ≡ o .touch
 
 -- ---- the parts of a step
 
@@ -63,7 +66,7 @@ keep-retired-held m h c k =
     ap (pick (eqb (thread m k .held) none) (keeping m h c)) (keep-retired m h c k (thread m k .held))
     ∙ keep-pick m (retired m k (thread m k .held)) h c (eqb (thread m k .held) none)
 
-pick-out : (t : Bool) (a b a′ b′ : Out) → AlikeOut a a′ → AlikeOut b b′ → AlikeOut (pick t a b) (pick t a′ b′)
+pick-out : (t : Bool) (a b a′ b′ : Acted) → AlikeOut a a′ → AlikeOut b b′ → AlikeOut (pick t a b) (pick t a′ b′)
 pick-out true a b a′ b′ p q = p
 pick-out false a b a′ b′ p q = q
 
@@ -87,57 +90,57 @@ alike-back m m′ a l = subst (λ (x : Machine). Alike m (persist x l)) (sym (a 
 
 module _ (m : Machine) (h : List ℕ) (c : List Content) (k : ℕ) where
   -- nothing is persisted
-  quiet : (a : Answer) (x y : Machine) → y ≡ keeping x h c → AlikeOut (record { answer = a; machine = x }) (record { answer = a; machine = y })
-  quiet a x y e = record { answer = refl; machine = record { heads = h; copies = c; is = e } }
+  quiet : (a : Answer) (x y : Machine) (w : Touch) → y ≡ keeping x h c → AlikeOut (record { answer = a; machine = x; touch = w }) (record { answer = a; machine = y; touch = w })
+  quiet a x y w e = record { answer = refl; machine = record { heads = h; copies = c; is = e }; touch = refl }
 
   alike-step : (s : Stage) → AlikeOut (stepped m k s) (stepped (keeping m h c) k s)
-  alike-step noStep = quiet _ _ _ refl
+  alike-step noStep = quiet _ _ _ _ refl
   alike-step A1 =
       pick-out (eqb (m .free) 0) _ _ _ _
-      (quiet _ _ _ (keep-left m h c k (thread m k .held)))
-      (rw (keep-free m h c) (quiet _ _ _ refl))
-  alike-step A2 = quiet _ _ _ refl
-  alike-step A3 = quiet _ _ _ refl
-  alike-step A4 = quiet _ _ _ refl
-  alike-step A5 = quiet _ _ _ refl
-  alike-step A6 = quiet _ _ _ refl
+      (quiet _ _ _ _ (keep-left m h c k (thread m k .held)))
+      (rw (keep-free m h c) (quiet _ _ _ _ refl))
+  alike-step A2 = quiet _ _ _ _ refl
+  alike-step A3 = quiet _ _ _ _ refl
+  alike-step A4 = quiet _ _ _ _ refl
+  alike-step A5 = quiet _ _ _ _ refl
+  alike-step A6 = quiet _ _ _ _ refl
   alike-step A7 =
       pick-out (eqb (node m (thread m k .tail) .index) top) _ _ _ _
-      (quiet _ _ _ (keep-left (freed m (thread m k .node)) h c k (thread m k .held)))
-      (quiet _ _ _ refl)
-  alike-step A8 = pick-out (eqb (node m (thread m k .tail) .next) none) _ _ _ _ (quiet _ _ _ refl) (quiet _ _ _ refl)
-  alike-step A9 = quiet _ _ _ refl
-  alike-step A10 = record { answer = refl; machine = record { heads = h; copies = set c (thread m k .node) (contentOf (node m (thread m k .node))); is = refl } }
+      (quiet _ _ _ _ (keep-left (freed m (thread m k .node)) h c k (thread m k .held)))
+      (quiet _ _ _ _ refl)
+  alike-step A8 = pick-out (eqb (node m (thread m k .tail) .next) none) _ _ _ _ (quiet _ _ _ _ refl) (quiet _ _ _ _ refl)
+  alike-step A9 = quiet _ _ _ _ refl
+  alike-step A10 = record { answer = refl; machine = record { heads = h; copies = set c (thread m k .node) (contentOf (node m (thread m k .node))); is = refl }; touch = refl }
   alike-step A11 = tailed (eqb (m .tail) (thread m k .tail))
     where
       tailed : (t : Bool) → AlikeOut (answering Done (pick t (putTail m (thread m k .node)) m) k)
           (answering Done (pick t (putTail (keeping m h c) (thread m k .node)) (keeping m h c)) k)
-      tailed true = quiet _ _ _ (keep-left (putTail m (thread m k .node)) h c k (thread m k .held))
-      tailed false = quiet _ _ _ (keep-left m h c k (thread m k .held))
+      tailed true = quiet _ _ _ _ (keep-left (putTail m (thread m k .node)) h c k (thread m k .held))
+      tailed false = quiet _ _ _ _ (keep-left m h c k (thread m k .held))
   alike-step A12 = tailed (eqb (m .tail) (thread m k .tail))
     where
       tailed : (t : Bool) → AlikeOut (going (pick t (putTail m (node m (thread m k .tail) .next)) m) k 5)
           (going (pick t (putTail (keeping m h c) (node m (thread m k .tail) .next)) (keeping m h c)) k 5)
-      tailed true = quiet _ _ _ refl
-      tailed false = quiet _ _ _ refl
-  alike-step D1 = quiet _ _ _ refl
-  alike-step D2 = quiet _ _ _ refl
-  alike-step D3 = record { answer = refl; machine = record { heads = set h 0 (headAt m 0); copies = c; is = keep-left (persist m (ofHead 0)) (set h 0 (headAt m 0)) c k (thread m k .held) } }
+      tailed true = quiet _ _ _ _ refl
+      tailed false = quiet _ _ _ _ refl
+  alike-step D1 = quiet _ _ _ _ refl
+  alike-step D2 = quiet _ _ _ _ refl
+  alike-step D3 = record { answer = refl; machine = record { heads = set h 0 (headAt m 0); copies = c; is = keep-left (persist m (ofHead 0)) (set h 0 (headAt m 0)) c k (thread m k .held) }; touch = refl }
   alike-step D4 =
-      pick-out (both (eqb (m .head) (thread m k .head)) (eqb (headAt m 0) (thread m k .index))) _ _ _ _ (quiet _ _ _ refl) (quiet _ _ _ refl)
-  alike-step D5 = quiet _ _ _ refl
-  alike-step D6 = record { answer = refl; machine = record { heads = set h 0 (headAt m 0); copies = c; is = refl } }
-  alike-step D7 = quiet _ _ _
+      pick-out (both (eqb (m .head) (thread m k .head)) (eqb (headAt m 0) (thread m k .index))) _ _ _ _ (quiet _ _ _ _ refl) (quiet _ _ _ _ refl)
+  alike-step D5 = quiet _ _ _ _ refl
+  alike-step D6 = record { answer = refl; machine = record { heads = set h 0 (headAt m 0); copies = c; is = refl }; touch = refl }
+  alike-step D7 = quiet _ _ _ _
       (ap (λ (x : Machine). left x k (thread m k .head)) (keep-retired-held m h c k) ∙ keep-left (retiredHeld m k) h c k (thread m k .head))
 
 -- ---- the events
 
 keep-done : (m : Machine) (h : List ℕ) (c : List Content) (e : Event) (d : Deed) → (d ≡ crashes → ⊥) → AlikeOut (done m e d) (done (keeping m h c) e d)
-keep-done m h c e unknown ne = record { answer = refl; machine = record { heads = h; copies = c; is = refl } }
-keep-done m h c e enqueues ne = record { answer = refl; machine = record { heads = h; copies = c; is = refl } }
-keep-done m h c e dequeues ne = record { answer = refl; machine = record { heads = h; copies = c; is = refl } }
+keep-done m h c e unknown ne = record { answer = refl; machine = record { heads = h; copies = c; is = refl }; touch = refl }
+keep-done m h c e enqueues ne = record { answer = refl; machine = record { heads = h; copies = c; is = refl }; touch = refl }
+keep-done m h c e dequeues ne = record { answer = refl; machine = record { heads = h; copies = c; is = refl }; touch = refl }
 keep-done m h c e steps ne = alike-step m h c (e .number) (stage m (e .number))
-keep-done m h c e writesBack ne = record { answer = refl; machine = alike-persist m h c (lineAt (m .n) (e .number)) }
+keep-done m h c e writesBack ne = record { answer = refl; machine = alike-persist m h c (lineAt (m .n) (e .number)); touch = refl }
 keep-done m h c e crashes ne = absurd (ne refl)
 
 pub alike-done : (m m′ : Machine) → Alike m m′ → (e : Event) (d : Deed) → (d ≡ crashes → ⊥) → AlikeOut (done m e d) (done m′ e d)
@@ -162,17 +165,6 @@ keep-cached m h c (ofNode i) = refl
 
 pub alike-cached : (m m′ : Machine) → Alike m m′ → (l : Line) → cachedAt m′ l ≡ cachedAt m l
 alike-cached m m′ a l = ap (λ (x : Machine). cachedAt x l) (a .is) ∙ keep-cached m (a .heads) (a .copies) l
-
-keep-touches : (m : Machine) (h : List ℕ) (c : List Content) (e : Event) (d : Deed) → touches (keeping m h c) e d ≡ touches m e d
-keep-touches m h c e unknown = refl
-keep-touches m h c e enqueues = refl
-keep-touches m h c e dequeues = refl
-keep-touches m h c e steps = refl
-keep-touches m h c e writesBack = refl
-keep-touches m h c e crashes = refl
-
-pub alike-touches : (m m′ : Machine) → Alike m m′ → (e : Event) (d : Deed) → touches m′ e d ≡ touches m e d
-alike-touches m m′ a e d = ap (λ (x : Machine). touches x e d) (a .is) ∙ keep-touches m (a .heads) (a .copies) e d
 
 pub alike-size : (m m′ : Machine) → Alike m m′ → m′ .n ≡ m .n
 alike-size m m′ a = ap (λ (x : Machine). x .n) (a .is)

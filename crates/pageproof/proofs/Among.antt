@@ -11,8 +11,8 @@ use Rattle.image.specs.Layout.{contentAt, sameContent}
 use Rattle.image.specs.declared.Content.{Content}
 use Rattle.page.specs.Contents.{joins}
 use Rattle.page.specs.Endings.{choices, product}
-use Rattle.endtable.proofs.Joins as joined
-use Rattle.endtable.proofs.Choices as laws
+use Rattle.moments.proofs.Joins as joined
+use Rattle.moments.proofs.Choices as laws
 
 abbrev pub Among : Content → List Content → Type 0
 Among c [] = ⊥

@@ -11,16 +11,18 @@ use Rattle.image.specs.declared.Image.{Image}
 use Rattle.image.specs.Layout.{noContent, noContents}
 use Rattle.machine.specs.Record.{none, top, node, thread, headAt, contentOf, blankNode, blankNodes, putTail, putHead, putNode}
 use Rattle.machine.specs.Stage.{Stage, noStep, A1, A2, A3, A4, A5, A6, A7, A8, A9, A10, A11, A12, D1, D2, D3, D4, D5, D6, D7, stage}
-use Rattle.machine.specs.Line.{Line, ofHead, ofNode, lineAt, persist}
+use Rattle.machine.specs.Line.{lineAt, persist}
+use Rattle.machine.specs.declared.Line.{Line}
+use Rattle.machine.specs.declared.Line.the-variants.{OfHead as ofHead, OfNode as ofNode}
 use Rattle.machine.specs.Retire.{left, freed, released, retired, retiredHeld}
 use Rattle.machine.specs.Start.{startWith, startOf, queueOf}
 use Rattle.machine.specs.Event.{Deed, unknown, enqueues, dequeues, steps, writesBack, crashes, stepped, done}
 use Rattle.machine.specs.declared.Machine.{Machine}
 use Rattle.machine.specs.declared.Node.{Node}
 use Rattle.machine.specs.declared.Event.{Event}
-use Rattle.machine.specs.declared.Out.{Out}
-use Rattle.endtable.specs.Frame.{Even}
-use Rattle.endtable.proofs.Frame as frame
+use Rattle.machine.specs.declared.Acted.{Acted}
+use Rattle.moments.specs.Frame.{Even}
+use Rattle.moments.proofs.Frame as frame
 
 -- ---- parts of a step
 
@@ -40,7 +42,7 @@ even-set m i v e = (e .0 ∙ sym (length-set (m .nodes) i v), e .1)
 even-head : (m : Machine) (h x : ℕ) → Even m → Even (putHead m h x)
 even-head m h x e = (e .0, e .1 ∙ sym (length-set (m .heads) 0 x))
 
-even-pick : (t : Bool) (a b : Out) → Even (a .machine) → Even (b .machine) → Even (pick t a b .machine)
+even-pick : (t : Bool) (a b : Acted) → Even (a .machine) → Even (b .machine) → Even (pick t a b .machine)
 even-pick true a b p q = p
 even-pick false a b p q = q
 

@@ -3,33 +3,33 @@ use Prim.Native.Nat.{ℕ, _<_}
 use mathlib.Core.Path.{_≡_, refl, sym, ap, subst, _∙_}
 use mathlib.Core.Bool.{Bool, true, false, not}
 use mathlib.Core.List.{[], _∷_}
-use mathlib.Core.Logic.{_⊎_, inl, inr}
 use native.Mathlib.Omega.{arith}
 use lib.Dec.{eqb, leb, leb→le}
-use Rattle.lists.specs.Find.{pick, both}
+use Rattle.lists.specs.Find.{pick}
 use Rattle.lists.proofs.BoolLaws.{no-way}
 use Rattle.answer.specs.Answers.{check, accepted}
 use Rattle.answer.specs.declared.Answer.{Answer}
 use Rattle.answer.specs.declared.Answer.the-variants.{Taken, Number, Busy, Idle, NotZero}
 use Rattle.image.specs.Refusals.{startable}
 use Rattle.machine.specs.Stage.{busy}
-use Rattle.machine.specs.Line.{Line, lineCount, sameLine, cachedAt, persistedAt, persisted}
-use Rattle.machine.specs.Retire.{out}
+use Rattle.machine.specs.Line.{lineCount, sameLine, cachedAt, persistedAt, persisted}
+use Rattle.machine.specs.declared.Line.{Line}
+use Rattle.machine.specs.Retire.{quiet}
 use Rattle.machine.specs.Event.{Deed, unknown, enqueues, dequeues, steps, writesBack, crashes, deedOf, threadTooLarge, lineTooLarge, itemNotZero, eventAnswer, done, eventAt}
 use Rattle.machine.specs.declared.Machine.{Machine}
 use Rattle.machine.specs.declared.Event.{Event}
-use Rattle.machine.specs.declared.Out.{Out}
+use Rattle.machine.specs.declared.Acted.{Acted}
 use Rattle.machine.proofs.LineLaws.{same-line, same-is}
-use Rattle.schedule.specs.Run.{noLine, aLine, Bench, goesOn, turned}
+use Rattle.machine.specs.declared.Touch.{Touch}
+use Rattle.machine.specs.declared.Touch.the-variants.{Nothing as nothing, Store as aStore, Persist as aPersist}
+use Rattle.schedule.specs.Run.{Bench, goesOn, turned}
 use Rattle.page.specs.Contents.{joins, contentsOf}
 use Rattle.lawful.specs.Added.{writeBack}
-use Rattle.endtable.specs.declared.touch.Touch.{Touch}
-use Rattle.endtable.specs.Touches.{touches, touchIn}
-use Rattle.endtable.specs.Frame.{lineOf, persistsOf, Frame, Even}
-use Rattle.endtable.specs.Moments.{Timed}
-use Rattle.endtable.proofs.Steps as acts
-use Rattle.endtable.proofs.Moments as moments
-use Rattle.pageproof.proofs.Alike.{Alike, alike-done, alike-answer, alike-touches, alike-size}
+use Rattle.moments.specs.Frame.{Persists, Frame, Even}
+use Rattle.moments.specs.Moments.{Timed}
+use Rattle.moments.proofs.Steps as acts
+use Rattle.moments.proofs.Moments as moments
+use Rattle.pageproof.proofs.Alike.{Alike, alike-done, alike-answer}
 use Rattle.pageproof.proofs.Even.{even-done}
 
 abbrev pub Takes : ℕ → Machine → Event → Type 0
@@ -49,7 +49,7 @@ unfolding eventAt
 tests p m e h = by (accepted (eventAnswer p m e (deedOf (e .kind)))) refl h
   where
     by : (b : Bool) → accepted (eventAnswer p m e (deedOf (e .kind))) ≡ b
-        → accepted (elim b as (λ _. Out) [ true ↦ done m e (deedOf (e .kind)) | false ↦ out (eventAnswer p m e (deedOf (e .kind))) m ] .answer) ≡ true
+        → accepted (elim b as (λ _. Acted) [ true ↦ done m e (deedOf (e .kind)) | false ↦ quiet (eventAnswer p m e (deedOf (e .kind))) m ] .answer) ≡ true
         → accepted (eventAnswer p m e (deedOf (e .kind))) ≡ true
     by true q z = q
     by false q z = no-way (sym z ∙ q)
@@ -58,7 +58,7 @@ passes : (p : ℕ) (m : Machine) (e : Event) → accepted (eventAnswer p m e (de
 unfolding eventAt
 passes p m e h = by (accepted (eventAnswer p m e (deedOf (e .kind)))) h
   where
-    by : (b : Bool) → b ≡ true → _≡_ {A = Out} (elim b as (λ _. Out) [ true ↦ done m e (deedOf (e .kind)) | false ↦ out (eventAnswer p m e (deedOf (e .kind))) m ]) (done m e (deedOf (e .kind)))
+    by : (b : Bool) → b ≡ true → _≡_ {A = Acted} (elim b as (λ _. Acted) [ true ↦ done m e (deedOf (e .kind)) | false ↦ quiet (eventAnswer p m e (deedOf (e .kind))) m ]) (done m e (deedOf (e .kind)))
     by true z = refl
     by false z = no-way (sym z)
 
@@ -98,8 +98,8 @@ module _ (p q : ℕ) (m m′ : Machine) (a : Alike m m′) (e : Event) (ne : Cra
 
   pub alike-reply : eventAt q m′ e .answer ≡ eventAt p m e .answer
   alike-reply =
-      ap (λ (o : Out). o .answer) alike-is ∙ alike-done m m′ a e (deedOf (e .kind)) ne .answer
-      ∙ ap (λ (o : Out). o .answer) (sym (taken-is p m e h))
+      ap (λ (o : Acted). o .answer) alike-is ∙ alike-done m m′ a e (deedOf (e .kind)) ne .answer
+      ∙ ap (λ (o : Acted). o .answer) (sym (taken-is p m e h))
 
   pub alike-takes : Takes q m′ e
   alike-takes = ap accepted alike-reply ∙ h
@@ -120,7 +120,7 @@ beyond n i h = by (leb n i) refl
     by false e = refl
 
 pub back-taken : (q : ℕ) (m : Machine) (i : ℕ) → i < lineCount (m .n) → Takes q m (writeBack i)
-back-taken q m i h = ap (λ (o : Out). accepted (o .answer)) (passes q m (writeBack i) (fits (lineTooLarge m (writeBack i)) (beyond (lineCount (m .n)) i h)))
+back-taken q m i h = ap (λ (o : Acted). accepted (o .answer)) (passes q m (writeBack i) (fits (lineTooLarge m (writeBack i)) (beyond (lineCount (m .n)) i h)))
   where
     fits : (b : Bool) → b ≡ false → accepted (check b (Number q) (check (itemNotZero (writeBack i)) (NotZero q) Taken)) ≡ true
     fits true e = no-way e
@@ -128,34 +128,37 @@ back-taken q m i h = ap (λ (o : Out). accepted (o .answer)) (passes q m (writeB
 
 -- ---- which line an event persists
 
+-- the touch w persists line l
+abbrev pub persistsLine : Touch → Line → Bool
+persistsLine nothing l = false
+persistsLine (aStore x) l = false
+persistsLine (aPersist x) l = sameLine l x
+
 abbrev pub hits : Machine → Event → Line → Bool
-hits m e l = both (touches m e (deedOf (e .kind)) .persisted) (sameLine l (lineOf (m .n) (touches m e (deedOf (e .kind)))))
+hits m e l = persistsLine (done m e (deedOf (e .kind)) .touch) l
 
-hit-is : (p : Bool) (x l : Line) → both p (sameLine l x) ≡ true → (p ≡ true) × (l ≡ x)
-hit-is true x l z = (refl, same-is l x z)
-hit-is false x l z = no-way (sym z)
+hit-is : (w : Touch) (l : Line) → persistsLine w l ≡ true → w ≡ aPersist l
+hit-is nothing l z = no-way (sym z)
+hit-is (aStore x) l z = no-way (sym z)
+hit-is (aPersist x) l z = ap aPersist (sym (same-is l x z))
 
-miss-is : (p : Bool) (x l : Line) → both p (sameLine l x) ≡ false → (p ≡ false) ⊎ (l ≡ x → ⊥)
-miss-is true x l z = inr (λ q. no-way (sym (rw q (same-line x)) ∙ z))
-miss-is false x l z = inl refl
+miss-is : (w : Touch) (l : Line) → persistsLine w l ≡ false → Persists w l → ⊥
+miss-is nothing l z p = p
+miss-is (aStore x) l z p = p
+miss-is (aPersist x) l z p = no-way (sym (rw p (same-line x)) ∙ z)
 
-pub alike-hits : (m m′ : Machine) → Alike m m′ → (e : Event) (l : Line) → hits m′ e l ≡ hits m e l
-alike-hits m m′ a e l =
-    ap (λ (w : Touch). both (w .persisted) (sameLine l (lineOf (m′ .n) w))) (alike-touches m m′ a e (deedOf (e .kind)))
-    ∙ ap (λ n. both (touches m e (deedOf (e .kind)) .persisted) (sameLine l (lineOf n (touches m e (deedOf (e .kind)))))) (alike-size m m′ a)
+pub alike-hits : (m m′ : Machine) → Alike m m′ → (e : Event) → (Crash e → ⊥) → (l : Line) → hits m′ e l ≡ hits m e l
+alike-hits m m′ a e ne l = ap (λ (w : Touch). persistsLine w l) (alike-done m m′ a e (deedOf (e .kind)) ne .touch)
 
 module _ (m : Machine) (ev : Even m) (e : Event) (ne : Crash e → ⊥) (l : Line) where
-  fr : Frame m (next m e) (touches m e (deedOf (e .kind)))
+  fr : Frame m (next m e) (done m e (deedOf (e .kind)) .touch)
   fr = acts.frame-done m e (deedOf (e .kind)) ev ne
 
   pub hit-persisted : hits m e l ≡ true → persistedAt (next m e) l ≡ cachedAt (next m e) l
-  hit-persisted h =
-      let w = touches m e (deedOf (e .kind)) in
-      let r = hit-is (w .persisted) (lineOf (m .n) w) l h in
-      subst (λ (x : Line). persistedAt (next m e) x ≡ cachedAt (next m e) x) (sym (r .1)) (fr .present (r .0))
+  hit-persisted h = fr .present l (subst (λ (w : Touch). Persists w l) (sym (hit-is (done m e (deedOf (e .kind)) .touch) l h)) refl)
 
   pub miss-persisted : hits m e l ≡ false → persistedAt (next m e) l ≡ persistedAt m l
-  miss-persisted h = fr .kept l (miss-is (touches m e (deedOf (e .kind)) .persisted) (lineOf (m .n) (touches m e (deedOf (e .kind)))) l h)
+  miss-persisted h = fr .kept l (miss-is (done m e (deedOf (e .kind)) .touch) l h)
 
   pub persisted-next : persistedAt (next m e) l ≡ pick (hits m e l) (cachedAt (next m e) l) (persistedAt m l)
   persisted-next = by (hits m e l) refl
@@ -172,12 +175,14 @@ pub record Good (b : Bench) : Type 0 where
 
 -- the bench after a taken event
 abbrev pub onto : Bench → Event → Bench
-onto b e = turned b (next (b .machine) e) e (deedOf (e .kind))
+onto b e = turned b (done (b .machine) e (deedOf (e .kind))) (deedOf (e .kind))
 
 module _ (p : ℕ) (b : Bench) (g : Good b) (e : Event) (ne : Crash e → ⊥) (h : Takes p (b .machine) e) where
-  goes : onto b e ≡ goesOn b (next (b .machine) e) (persistsOf (b .machine .n) (touches (b .machine) e (deedOf (e .kind))))
-  unfolding touchIn
-  goes = acts.turned-on p b (next (b .machine) e) e h ne
+  abbrev w : Touch
+  w = done (b .machine) e (deedOf (e .kind)) .touch
+
+  goes : onto b e ≡ goesOn b (next (b .machine) e) w
+  goes = subst (λ (o : Acted). turned b o (deedOf (e .kind)) ≡ goesOn b (o .machine) (o .touch)) (taken-is p (b .machine) e h) (acts.turned-on p b e h ne)
 
   pub onto-machine : onto b e .machine ≡ next (b .machine) e
   onto-machine = ap (λ (x : Bench). x .machine) goes
@@ -190,33 +195,19 @@ module _ (p : ℕ) (b : Bench) (g : Good b) (e : Event) (ne : Crash e → ⊥) (
 
   pub onto-good : Good (onto b e)
   onto-good = record {
-    timed = rw goes (moments.timed-goes b (next (b .machine) e) (persistsOf (b .machine .n) (touches (b .machine) e (deedOf (e .kind)))) (g .timed));
+    timed = rw goes (moments.timed-goes b (next (b .machine) e) w (g .timed));
     even = rw onto-machine (even-done (b .machine) e (deedOf (e .kind)) (g .even));
   }
 
   pub hit-contents : (l : Line) → hits (b .machine) e l ≡ true → contentsOf (onto b e) l ≡ cachedAt (next (b .machine) e) l ∷ []
   hit-contents l t =
-      let w = touches (b .machine) e (deedOf (e .kind)) in
-      let r = hit-is (w .persisted) (lineOf (b .machine .n) w) l t in
-      rw (goes, r .0, sym (r .1))
-      (moments.contents-persisted b (next (b .machine) e) l (hit-persisted (b .machine) (g .even) e ne l t))
+      ap (λ (x : Bench). contentsOf x l) (goes ∙ ap (goesOn b (next (b .machine) e)) (hit-is w l t))
+      ∙ moments.contents-persisted b (next (b .machine) e) l (hit-persisted (b .machine) (g .even) e ne l t)
 
   pub miss-contents : (l : Line) → hits (b .machine) e l ≡ false → contentsOf (onto b e) l ≡ joins (contentsOf b l) (cachedAt (next (b .machine) e) l)
   miss-contents l t =
-      rw goes
-      (moments.contents-joined b (g .timed) (next (b .machine) e) (persistsOf (b .machine .n) w) l (other (w .persisted) refl (miss-is (w .persisted) L l t))
-      (miss-persisted (b .machine) (g .even) e ne l t))
-    where
-      w : Touch
-      w = touches (b .machine) e (deedOf (e .kind))
-
-      L : Line
-      L = lineOf (b .machine .n) w
-
-      other : (x : Bool) → w .persisted ≡ x → (w .persisted ≡ false) ⊎ (l ≡ L → ⊥) → pick x (aLine L) noLine ≡ aLine l → ⊥
-      other true q (inl z) f = no-way (sym q ∙ z)
-      other true q (inr n) f = let v : L ≡ l = cc in n (sym v)
-      other false q z f = let v : _≡_ {A = ℕ} 0 1 = cc in omega arith
+      ap (λ (x : Bench). contentsOf x l) goes
+      ∙ moments.contents-joined b (g .timed) (next (b .machine) e) w l (miss-is w l t) (miss-persisted (b .machine) (g .even) e ne l t)
 
 -- a crash begins anew
 pub crash-good : (b : Bench) → Good b → (e : Event) → Crash e → Good (onto b e)

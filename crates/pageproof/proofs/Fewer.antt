@@ -6,15 +6,16 @@ use mathlib.Core.List.{List, [], _∷_}
 use mathlib.Core.Logic.{inl}
 use Rattle.answer.specs.declared.Answer.{Answer}
 use Rattle.image.specs.declared.Content.{Content}
-use Rattle.machine.specs.Line.{Line, lineAt, cachedAt, persistedAt}
+use Rattle.machine.specs.Line.{lineAt, cachedAt, persistedAt}
+use Rattle.machine.specs.declared.Line.{Line}
 use Rattle.machine.specs.declared.Machine.{Machine}
 use Rattle.machine.specs.declared.Event.{Event}
 use Rattle.schedule.specs.Run.{Bench, run}
 use Rattle.page.specs.Contents.{joins, gathered, contentsOf}
 use Rattle.lawful.specs.Added.{writeBack, Adds, ends, keeps, adds, NoCrash}
-use Rattle.endtable.proofs.Frame.{persist-cached}
-use Rattle.endtable.proofs.Moments as moments
-use Rattle.endtable.specs.Frame.{Even}
+use Rattle.moments.proofs.Frame.{persist-cached}
+use Rattle.moments.proofs.Moments as moments
+use Rattle.moments.specs.Frame.{Even}
 use Rattle.pageproof.proofs.Alike.{Alike, alike-cached, alike-back}
 use Rattle.pageproof.proofs.Among.{Among, among-old, among-new}
 use Rattle.pageproof.proofs.Events as events
@@ -55,9 +56,9 @@ inside-keeps p b g m′ ev a e ne t k j = by (hits (b .machine) e j) refl
     by : (x : Bool) → hits m e j ≡ x → Among (persistedAt (next m′ e) j) (contentsOf (onto b e) j)
     by true h =
         rw (events.hit-contents p b g e ne t j h)
-        (inl (events.hit-persisted m′ ev e ne j (events.alike-hits m m′ a e j ∙ h) ∙ same))
+        (inl (events.hit-persisted m′ ev e ne j (events.alike-hits m m′ a e ne j ∙ h) ∙ same))
     by false h =
-        rw (events.miss-contents p b g e ne t j h, events.miss-persisted m′ ev e ne j (events.alike-hits m m′ a e j ∙ h))
+        rw (events.miss-contents p b g e ne t j h, events.miss-persisted m′ ev e ne j (events.alike-hits m m′ a e ne j ∙ h))
         (among-old (persistedAt m′ j) (contentsOf b j) (cachedAt (next m e) j) (k j))
 
 -- an added write-back on one side

@@ -20,10 +20,10 @@ use Rattle.page.specs.Contents.{tableOf}
 use Rattle.page.specs.Endings.{choices, product, imageOf, endings, ending}
 use Rattle.page.specs.Refusals.{tableIn, tableAnswer, pageAnswer, endingCount, endingIn}
 use Rattle.lawful.specs.Demand3.{Bytes, Leaves, PageHolds}
-use Rattle.endtable.proofs.Blocks as blocks
-use Rattle.endtable.proofs.Choices as choices
-use Rattle.endtable.proofs.Distinct as distinct
-use Rattle.endtable.specs.Frame.{Even}
+use Rattle.moments.proofs.Blocks as blocks
+use Rattle.moments.proofs.Choices as choices
+use Rattle.moments.proofs.Distinct as distinct
+use Rattle.moments.specs.Frame.{Even}
 use Rattle.pageproof.proofs.Even.{even-start}
 use Rattle.pageproof.proofs.Page.{leaves, only}
 

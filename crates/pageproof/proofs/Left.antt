@@ -9,13 +9,14 @@ use lib.ListN.{length}
 use lib.Dec.{eqb, eqb→eq, eqb-refl}
 use Rattle.lists.specs.Find.{pick}
 use Rattle.image.specs.declared.Content.{Content}
-use Rattle.machine.specs.Line.{Line, cachedAt, persistedAt}
+use Rattle.machine.specs.Line.{cachedAt, persistedAt}
+use Rattle.machine.specs.declared.Line.{Line}
 use Rattle.machine.specs.declared.Machine.{Machine}
 use Rattle.machine.specs.declared.Event.{Event}
 use Rattle.schedule.specs.Run.{Bench, run, begins}
 use Rattle.page.specs.Contents.{contentsOf}
 use Rattle.lawful.specs.Added.{NoCrash}
-use Rattle.endtable.proofs.Moments as moments
+use Rattle.moments.proofs.Moments as moments
 use Rattle.pageproof.proofs.Among.{Among, among-joins}
 use Rattle.pageproof.proofs.Events as events
 use Rattle.pageproof.proofs.Events.{Takes, next, Crash, hits, Good, onto}

@@ -19,10 +19,10 @@ use Rattle.schedule.specs.Run.{Bench, Ran, run, ran, opened, begins, andBefore}
 use Rattle.page.specs.Refusals.{pageAnswer, endingCount, endingIn}
 use Rattle.lawful.specs.Added.{writeBack, NoCrash, Adds, ends, keeps, adds, AddsLate}
 use Rattle.lawful.specs.Demand3.{Bytes, runOf, imageLeft, Leaves}
-use Rattle.endtable.proofs.Moments as moments
+use Rattle.moments.proofs.Moments as moments
 use Rattle.pageproof.specs.Longer as longer
 use Rattle.pageproof.specs.Longer.{Longer, LongerLate}
-use Rattle.endtable.specs.Frame.{Even}
+use Rattle.moments.specs.Frame.{Even}
 use Rattle.pageproof.proofs.Alike.{Alike, alike-self, alike-back, alike-size}
 use Rattle.pageproof.proofs.Even.{even-start}
 use Rattle.pageproof.proofs.Events as events

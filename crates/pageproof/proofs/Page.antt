@@ -11,7 +11,8 @@ use Rattle.answer.specs.Answers.{accepted}
 use Rattle.image.specs.Layout.{contentAt, noContents, headLines}
 use Rattle.image.specs.declared.Content.{Content}
 use Rattle.image.specs.declared.Image.{Image}
-use Rattle.machine.specs.Line.{ofHead, lineCount, lineAt, persistedAt}
+use Rattle.machine.specs.Line.{lineCount, lineAt, persistedAt}
+use Rattle.machine.specs.declared.Line.the-variants.{OfHead as ofHead}
 use Rattle.machine.specs.Record.{keptHead}
 use Rattle.machine.specs.declared.Machine.{Machine}
 use Rattle.machine.specs.declared.Event.{Event}
@@ -22,8 +23,8 @@ use Rattle.page.specs.Contents.{contentsOf, tableOf}
 use Rattle.page.specs.Endings.{choices, product, imageOf, ending}
 use Rattle.lawful.specs.Added.{AddsLate}
 use Rattle.lawful.specs.Demand3.{imageLeft}
-use Rattle.endtable.proofs.Moments as moments
-use Rattle.endtable.specs.Frame.{Even}
+use Rattle.moments.proofs.Moments as moments
+use Rattle.moments.specs.Frame.{Even}
 use Rattle.pageproof.proofs.Alike.{alike-self}
 use Rattle.pageproof.proofs.Among.{Among, choice-in, choice-of}
 use Rattle.pageproof.proofs.Events.{Good}

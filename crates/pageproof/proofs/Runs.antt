@@ -13,7 +13,7 @@ use Rattle.machine.specs.Start.{startWith}
 use Rattle.machine.specs.Event.{Deed, unknown, enqueues, dequeues, steps, writesBack, crashes, deedOf, done, eventAt}
 use Rattle.machine.specs.declared.Machine.{Machine}
 use Rattle.machine.specs.declared.Event.{Event}
-use Rattle.machine.specs.declared.Out.{Out}
+use Rattle.machine.specs.declared.Acted.{Acted}
 use Rattle.schedule.specs.Run.{Bench, Ran, run, andBefore, turned, begins}
 use Rattle.lawful.specs.Added.{NoCrash, EndsInStart}
 use Rattle.pageproof.proofs.Events.{Takes, Crash, taken-is, Good, onto, onto-good, onto-size, crash-good}
@@ -26,14 +26,14 @@ Accepts p b l = accepted (run p b l .answer) ≡ true
 abbrev stopped : Answer → Bench → Ran
 stopped a b = record { answer = a; replies = []; bench = b }
 
-abbrev goingOn : ℕ → Bench → Event → List Event → Out → Ran
-goingOn p b e l o = andBefore (o .answer) (run (suc p) (turned b (o .machine) e (deedOf (e .kind))) l)
+abbrev goingOn : ℕ → Bench → Event → List Event → Acted → Ran
+goingOn p b e l o = andBefore (o .answer) (run (suc p) (turned b o (deedOf (e .kind))) l)
 
-run-by : (p : ℕ) (b : Bench) (e : Event) (l : List Event) (o : Out) → eventAt p (b .machine) e ≡ o → (x : Bool) → accepted (o .answer) ≡ x
+run-by : (p : ℕ) (b : Bench) (e : Event) (l : List Event) (o : Acted) → eventAt p (b .machine) e ≡ o → (x : Bool) → accepted (o .answer) ≡ x
     → _≡_ {A = Ran} (run p b (e ∷ l)) (elim x as (λ _. Ran) [ true ↦ goingOn p b e l o | false ↦ stopped (o .answer) b ])
 unfolding run
 run-by p b e l o h x a =
-    ap (λ (o : Out). elim (accepted (o .answer)) as (λ _. Ran) [ true ↦ goingOn p b e l o | false ↦ stopped (o .answer) b ]) h
+    ap (λ (o : Acted). elim (accepted (o .answer)) as (λ _. Ran) [ true ↦ goingOn p b e l o | false ↦ stopped (o .answer) b ]) h
     ∙ ap (λ (x : Bool). elim x as (λ _. Ran) [ true ↦ goingOn p b e l o | false ↦ stopped (o .answer) b ]) a
 
 pub run-first : (p : ℕ) (b : Bench) (e : Event) (l : List Event) → Accepts p b (e ∷ l) → Takes p (b .machine) e
@@ -47,7 +47,7 @@ pub run-cons : (p : ℕ) (b : Bench) (e : Event) (l : List Event) → Takes p (b
     → run p b (e ∷ l) ≡ andBefore (eventAt p (b .machine) e .answer) (run (suc p) (onto b e) l)
 run-cons p b e l h =
     run-by p b e l (eventAt p (b .machine) e) refl true h
-    ∙ ap (λ (o : Out). andBefore (eventAt p (b .machine) e .answer) (run (suc p) (turned b (o .machine) e (deedOf (e .kind))) l)) (taken-is p (b .machine) e h)
+    ∙ ap (λ (o : Acted). andBefore (eventAt p (b .machine) e .answer) (run (suc p) (turned b o (deedOf (e .kind))) l)) (taken-is p (b .machine) e h)
 
 pub run-rest : (p : ℕ) (b : Bench) (e : Event) (l : List Event) → Accepts p b (e ∷ l) → Accepts (suc p) (onto b e) l
 run-rest p b e l h = sym (ap (λ (r : Ran). accepted (r .answer)) (run-cons p b e l (run-first p b e l h))) ∙ h
@@ -103,7 +103,7 @@ crash-or steps = inr (λ e. let z : _≡_ {A = ℕ} 0 1 = cc in absurd (omega ar
 crash-or writesBack = inr (λ e. let z : _≡_ {A = ℕ} 0 1 = cc in absurd (omega arith))
 crash-or crashes = inl refl
 
-crash-size : (b : Bench) (e : Event) (d : Deed) → d ≡ crashes → turned b (done (b .machine) e d .machine) e d .machine .n ≡ b .machine .n
+crash-size : (b : Bench) (e : Event) (d : Deed) → d ≡ crashes → turned b (done (b .machine) e d) d .machine .n ≡ b .machine .n
 unfolding startWith
 crash-size b e d c = rw c
 
@@ -169,7 +169,7 @@ pub started : (l : List Event) (e : Event) (p : ℕ) (b : Bench) → EndsInStart
 started [] e p b c h = (
   done (b .machine) e crashes .machine,
   run-bench p b e [] (run-first p b e [] h) ∙ run-nothing (suc p) (onto b e)
-      ∙ ap (λ (d : Deed). turned b (done (b .machine) e d .machine) e d) c,
+      ∙ ap (λ (d : Deed). turned b (done (b .machine) e d) d) c,
 )
 started (d ∷ l) e p b c h =
     let r = started l d (suc p) (onto b e) c (run-rest p b e (d ∷ l) h) in

@@ -18,7 +18,7 @@ use Rattle.machine.specs.declared.Event.{Event}
 use Rattle.machine.proofs.LineLaws.{same-number}
 use Rattle.schedule.specs.Run.{Bench, Ran, run, andBefore}
 use Rattle.lawful.specs.Added.{writeBack, Adds, ends, keeps, adds, NoCrash}
-use Rattle.endtable.proofs.Frame.{persist-cached}
+use Rattle.moments.proofs.Frame.{persist-cached}
 use Rattle.pageproof.proofs.Alike.{Alike, alike-cached, alike-back, alike-size}
 use Rattle.pageproof.proofs.Events as events
 use Rattle.pageproof.proofs.Events.{Takes, next, Crash, no-crash, hits, Good, onto}
@@ -173,7 +173,7 @@ module _ (n p : ℕ) (b : Bench) (g : Good b) (e : Event) (ne : Crash e → ⊥)
       held j =
           ap (λ (z : Machine). persistedAt z (lineAt n j)) (events.onto-machine q b′ g′ e ne t′)
           ∙ events.persisted-next (b′ .machine) (g′ .even) e ne (lineAt n j)
-          ∙ ap (λ (z : Bool). pick z (cachedAt (next (b′ .machine) e) (lineAt n j)) (persistedAt (b′ .machine) (lineAt n j))) (events.alike-hits (b .machine) (b′ .machine) a e (lineAt n j))
+          ∙ ap (λ (z : Bool). pick z (cachedAt (next (b′ .machine) e) (lineAt n j)) (persistedAt (b′ .machine) (lineAt n j))) (events.alike-hits (b .machine) (b′ .machine) a e ne (lineAt n j))
           ∙ ap (λ (z : Content). pick (hits (b .machine) e (lineAt n j)) z (persistedAt (b′ .machine) (lineAt n j)))
           (alike-cached (next (b .machine) e) (next (b′ .machine) e) (events.alike-next (b .machine) (b′ .machine) a e ne) (lineAt n j))
 

@@ -23,20 +23,21 @@ use Rattle.machine.specs.Start.{startOf, startWith}
 use Rattle.machine.proofs.AnswerLaws as machines
 use Rattle.codec.proofs.Accepted as codec
 use Rattle.machine.specs.declared.Event.{Event}
-use Rattle.machine.specs.declared.Out.{Out}
+use Rattle.machine.specs.declared.Acted.{Acted}
 use Rattle.schedule.specs.declared.Schedule.{Schedule}
 use Rattle.image.specs.Layout.{imageIn}
 use Rattle.schedule.specs.Layout.{scheduleIn, scheduleAnswer, eventFrom, eventPlace, eventIn, eventsIn, countIn, nodesIn}
-use Rattle.schedule.specs.Run.{Ran, Bench, run, ran, opened, begins, turned, andBefore}
+use Rattle.schedule.specs.Run.{Ran, Bench, forward, benchAt, run, ran, opened, begins, andBefore}
 use Rattle.page.specs.Refusals.{tableIn}
 use Rattle.page.specs.Contents.{tableOf}
-use Rattle.endtable.specs.Frame.{Even}
+use Rattle.moments.specs.Frame.{Even}
 use Rattle.endtable.specs.Opened.{openedTable, openedCounts}
-use Rattle.endtable.specs.Touches.{touchIn}
+use Rattle.endtable.specs.Touched.{touchedRow}
+use Rattle.endtable.specs.declared.touched.Touched.{Touched}
 use Rattle.endtable.specs.Tables.{Tables, tableAfter, countsAfter}
-use Rattle.endtable.specs.Benches.{Stands, benchAt, turnedBy}
+use Rattle.endtable.specs.Benches.{Stands}
 use Rattle.endtable.proofs.Benches as benches
-use Rattle.endtable.proofs.Moments as moments
+use Rattle.moments.proofs.Moments as moments
 use Rattle.pageproof.proofs.Even as evens
 use Rattle.pageproof.proofs.Runs as runs
 use Rattle.tied.proofs.Schedules as schedules
@@ -63,7 +64,7 @@ not-five (suc (suc (suc (suc (suc (suc k)))))) e d = let z : _≡_ {A = ℕ} 0 1
 -- ---- one event more
 
 pub one-more : (q : ℕ) (b : Bench) (e : Event) → accepted (eventAt q (b .machine) e .answer) ≡ true
-    → run q b (e ∷ []) ≡ andBefore (eventAt q (b .machine) e .answer) (record { answer = Taken; replies = []; bench = turnedBy q b e })
+    → run q b (e ∷ []) ≡ andBefore (eventAt q (b .machine) e .answer) (record { answer = Taken; replies = []; bench = forward q b e })
 unfolding run
 one-more q b e h = yes-of _ _ (accepted (eventAt q (b .machine) e .answer)) h
 
@@ -166,37 +167,40 @@ module _ (s : List ℕ) where
       own : Stands b (b .machine) (atsOf rows) (countsOf rows)
       own = benches.stands-now b m (atsOf rows) (countsOf rows) (g .stands)
 
-      stands′ : Stands (turnedBy i b e) m′ (atsOf (rowsAfter rows (b .machine) e m′)) (countsOf (rowsAfter rows (b .machine) e m′))
+      abbrev w′ : Touched
+      w′ = touchedRow (m′ .n) (eventAt i (b .machine) e .touch)
+
+      stands′ : Stands (forward i b e) m′ (atsOf (rowsAfter rows e (eventAt i (b .machine) e))) (countsOf (rowsAfter rows e (eventAt i (b .machine) e)))
       unfolding rowsAfter
       stands′ = by (eqb (e .kind) 5) refl
         where
           by : (x : Bool) → eqb (e .kind) 5 ≡ x
-              → Stands (turnedBy i b e) m′ (atsOf (pick x (openedRows m′) (rowsTouched rows (touchIn (b .machine) e) m′))) (countsOf (pick x (openedRows m′) (rowsTouched rows (touchIn (b .machine) e) m′)))
+              → Stands (forward i b e) m′ (atsOf (pick x (openedRows m′) (rowsTouched rows w′ m′))) (countsOf (pick x (openedRows m′) (rowsTouched rows w′ m′)))
           by true w =
               let st = benches.stands-crash i b e (atsOf rows) (countsOf rows) own taken′ (five (e .kind) w) in
               let small : m′ .n ≤ 64 = subst (λ (x : Machine). x .n ≤ 64) (sym (st .machine)) (st .small) in
-              stands-rows (turnedBy i b e) m′ _ _ (openedRows m′) (opened-ats m′ small) (opened-counts m′ small) st
+              stands-rows (forward i b e) m′ _ _ (openedRows m′) (opened-ats m′ small) (opened-counts m′ small) st
           by false w =
               let st = benches.stands-event i b e (atsOf rows) (countsOf rows) own taken′ even′ (not-five (e .kind) w) in
-              stands-rows (turnedBy i b e) m′ _ _ (rowsTouched rows (touchIn (b .machine) e) m′)
-              (rowlaws.touched-ats rows (touchIn (b .machine) e) m′) (rowlaws.touched-counts rows (touchIn (b .machine) e) m′) st
+              stands-rows (forward i b e) m′ _ _ (rowsTouched rows w′ m′)
+              (rowlaws.touched-ats rows w′ m′) (rowlaws.touched-counts rows w′ m′) st
 
       on : run i b (drop i (eventsIn s)) ≡ andBefore (eventAt i (b .machine) e .answer) (run (suc i) (benchTo s (suc i)) (drop (suc i) (eventsIn s)))
       unfolding eventsIn
       on = benches.run-on b₀ f (countIn s) i lt taken′
 
-      more : ranTo s (suc i) ≡ runs.andAfter (ranTo s i) (andBefore (eventAt i (b .machine) e .answer) (record { answer = Taken; replies = []; bench = turnedBy i b e }))
+      more : ranTo s (suc i) ≡ runs.andAfter (ranTo s i) (andBefore (eventAt i (b .machine) e .answer) (record { answer = Taken; replies = []; bench = forward i b e }))
       unfolding tab
       more =
           runs.run-append (tab f i) (f i ∷ []) 0 b₀ (g .taken)
           ∙ ap (runs.andAfter (ranTo s i))
           (ap₂ (λ (q : ℕ) (x : Bench). run q x (f i ∷ [])) (let z : 0 + length (tab f i) ≡ i = omega (arith, tabs.length-tab f i) in z) (g .come) ∙ one-more i b e taken′)
 
-      pub going-next : Going s (i + 1) (eventAt i m e .machine) (rowsAfter rows m e (eventAt i m e .machine))
+      pub going-next : Going s (i + 1) (eventAt i m e .machine) (rowsAfter rows e (eventAt i m e))
       unfolding benchAt
       going-next =
           rw (add-one)
-          (subst (λ (x : Machine). Going s (suc i) (eventAt i x e .machine) (rowsAfter rows x e (eventAt i x e .machine))) (sym now)
+          (subst (λ (x : Machine). Going s (suc i) (eventAt i x e .machine) (rowsAfter rows e (eventAt i x e))) (sym now)
           (record {
             stands = stands′;
             taken = ap (λ (r : Ran). accepted (r .answer)) more;
@@ -236,7 +240,7 @@ module _ (s : List ℕ) (d : Schedule) (is : d ≡ scheduleIn s) where
   start-is = ap (λ (x : Schedule). startOf (x .image) (getD s 5 0)) is
 
   -- the code's tests of one event: t says whether it was taken
-  module _ (i : ℕ) (m : Machine) (rows : List Row) (g : Going s i m rows) (below : i < d .count) (e : Event) (o : Out) (t : Bool)
+  module _ (i : ℕ) (m : Machine) (rows : List Row) (g : Going s i m rows) (below : i < d .count) (e : Event) (o : Acted) (t : Bool)
       (event : e ≡ eventFrom s (eventPlace (d .image .n) i)) (act : o ≡ eventAt i m e) (told : t ≡ accepted (o .answer)) where
     lt : i < countIn s
     lt = omega (arith, count-is)
@@ -247,21 +251,21 @@ module _ (s : List ℕ) (d : Schedule) (is : d ≡ scheduleIn s) where
     out-is : o ≡ eventAt i m (eventIn s i)
     out-is = act ∙ ap (eventAt i m) event-in
 
-    pub going-on : not t ≡ false → (r : List Row) → r ≡ rowsAfter rows m e (o .machine) → Going s (i + 1) (o .machine) r
+    pub going-on : not t ≡ false → (r : List Row) → r ≡ rowsAfter rows e o → Going s (i + 1) (o .machine) r
     going-on h r q =
-        let n = going-next s i m rows g lt (subst (λ (x : Out). accepted (x .answer) ≡ true) out-is (sym told ∙ taken-of t h)) (going-even s i m rows g) in
-        subst (λ (x : Out). Going s (i + 1) (x .machine) r) (sym out-is)
+        let n = going-next s i m rows g lt (subst (λ (x : Acted). accepted (x .answer) ≡ true) out-is (sym told ∙ taken-of t h)) (going-even s i m rows g) in
+        subst (λ (x : Acted). Going s (i + 1) (x .machine) r) (sym out-is)
         (subst (Going s (i + 1) (eventAt i m (eventIn s i) .machine))
-        (sym (q ∙ ap₂ (λ (y : Event) (x : Out). rowsAfter rows m y (x .machine)) event-in out-is)) n)
+        (sym (q ∙ ap₂ (λ (y : Event) (x : Acted). rowsAfter rows y x) event-in out-is)) n)
 
     pub going-on-small : not t ≡ false → o .machine .n ≤ 64
-    going-on-small h = going-small s (i + 1) (o .machine) (rowsAfter rows m e (o .machine)) (going-on h (rowsAfter rows m e (o .machine)) refl)
+    going-on-small h = going-small s (i + 1) (o .machine) (rowsAfter rows e o) (going-on h (rowsAfter rows e o) refl)
 
     pub going-stop : not t ≡ true → RunIs s (record { answer = o .answer; machine = m; rows = rows })
     going-stop h =
         let a = sym told ∙ refused-of t h in
         record {
-          answer = ap (λ (x : Out). x .answer) out-is ∙ going-refused s i m rows g lt (subst (λ (x : Out). accepted (x .answer) ≡ false) out-is a);
+          answer = ap (λ (x : Acted). x .answer) out-is ∙ going-refused s i m rows g lt (subst (λ (x : Acted). accepted (x .answer) ≡ false) out-is a);
           machine = λ y. taken-or (accepted (o .answer)) a y;
           small = λ y. taken-or (accepted (o .answer)) a y;
           tables = λ y. taken-or (accepted (o .answer)) a y;

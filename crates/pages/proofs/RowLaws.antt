@@ -18,9 +18,12 @@ use Rattle.machine.specs.declared.Machine.{Machine}
 use Rattle.machine.specs.declared.Event.{Event}
 use Rattle.endtable.specs.Rows.{rowAfter, countAfter}
 use Rattle.endtable.specs.Tables.{tableAfter, countsAfter}
-use Rattle.endtable.specs.Touches.{touchIn}
-use Rattle.endtable.specs.declared.touch.Touch.{Touch}
-use Rattle.pages.specs.Rows.{atsOf, countsOf, noRow, noRows, rowAt, rowsOf, openedRows, rowJoined, rowsTouched, rowsAfter, noTable, noCounts, atsTo, countsTo}
+use Rattle.machine.specs.declared.Acted.{Acted}
+use Rattle.endtable.specs.Opened.{blankTable, blankCounts}
+use Rattle.endtable.specs.Touched.{touchedRow}
+use Rattle.endtable.specs.declared.touched.Touched.{Touched}
+use Rattle.endtable.proofs.Openings as openings
+use Rattle.pages.specs.Rows.{atsOf, countsOf, noRow, noRows, rowAt, rowsOf, openedRows, rowJoined, rowsTouched, rowsAfter, atsTo, countsTo}
 use Rattle.pages.specs.declared.rows.Row.{Row}
 
 map-set : {A B : Type 0} (f : A → B) (l : List A) (i : ℕ) (v : A) → map f (set l i v) ≡ set (map f l) i (f v)
@@ -56,7 +59,7 @@ count-of rows l = List·getD-map (λ (r : Row). r .count) rows l noRow
 
 -- ---- after an event
 
-pub touched-ats : (rows : List Row) (w : Touch) (next : Machine)
+pub touched-ats : (rows : List Row) (w : Touched) (next : Machine)
     → atsOf (rowsTouched rows w next) ≡ tableAfter (atsOf rows) (countsOf rows) w (cachedAt next (lineAt (next .n) (w .line)))
 unfolding tableAfter rowJoined
 touched-ats rows w next = by (ltb (w .line) 65)
@@ -68,7 +71,7 @@ touched-ats rows w next = by (ltb (w .line) 65)
         ∙ ap₂ (λ (a : List Content) (n : ℕ). set (atsOf rows) (w .line) (rowAfter a n (cachedAt next (lineAt (next .n) (w .line))) (w .persisted))) (sym (at-of rows (w .line))) (sym (count-of rows (w .line)))
     by false = refl
 
-pub touched-counts : (rows : List Row) (w : Touch) (next : Machine)
+pub touched-counts : (rows : List Row) (w : Touched) (next : Machine)
     → countsOf (rowsTouched rows w next) ≡ countsAfter (atsOf rows) (countsOf rows) w (cachedAt next (lineAt (next .n) (w .line)))
 unfolding countsAfter rowJoined
 touched-counts rows w next = by (ltb (w .line) 65)
@@ -81,21 +84,21 @@ touched-counts rows w next = by (ltb (w .line) 65)
     by false = refl
 
 -- the three ways of the loop over the events: a crash, no line touched, a line touched
-module _ (rows : List Row) (m : Machine) (e : Event) (next : Machine) where
-  pub after-crash : e .kind ≡ 5 → openedRows next ≡ rowsAfter rows m e next
+module _ (rows : List Row) (e : Event) (o : Acted) where
+  pub after-crash : e .kind ≡ 5 → openedRows (o .machine) ≡ rowsAfter rows e o
   unfolding rowsAfter
   after-crash h = rw (eq-eqb (e .kind) 5 h)
 
-  module _ (other : e .kind ≡ 5 → ⊥) (w : Touch) (is : w ≡ touchIn m e) where
-    touched-is : rowsTouched rows w next ≡ rowsAfter rows m e next
+  module _ (other : e .kind ≡ 5 → ⊥) (w : Touched) (is : w ≡ touchedRow (o .machine .n) (o .touch)) where
+    touched-is : rowsTouched rows w (o .machine) ≡ rowsAfter rows e o
     unfolding rowsAfter
     touched-is = rw (ne-eqb (e .kind) 5 other, ← is)
 
-    pub after-none : 65 ≤ w .line → rows ≡ rowsAfter rows m e next
+    pub after-none : 65 ≤ w .line → rows ≡ rowsAfter rows e o
     after-none h = sym (rw (le-ltb (w .line) 65 h)) ∙ touched-is
 
-    pub after-touch : w .line < 65 → (c : Content) → c ≡ cachedAt next (lineAt (next .n) (w .line)) → (r : Row) → r ≡ rowJoined (getD rows (w .line) noRow) c (w .persisted)
-        → set rows (w .line) r ≡ rowsAfter rows m e next
+    pub after-touch : w .line < 65 → (c : Content) → c ≡ cachedAt (o .machine) (lineAt (o .machine .n) (w .line)) → (r : Row)
+        → r ≡ rowJoined (getD rows (w .line) noRow) c (w .persisted) → set rows (w .line) r ≡ rowsAfter rows e o
     after-touch h c cached r joined =
         ap (set rows (w .line)) (joined ∙ ap (λ (x : Content). rowJoined (getD rows (w .line) noRow) x (w .persisted)) cached)
         ∙ sym (rw (lt-ltb (w .line) 65 h)) ∙ touched-is
@@ -111,39 +114,31 @@ rows-none t cs = refl
 
 -- ---- and that unpack them
 
-pub length-no-table : length noTable ≡ 65
-unfolding noTable
-length-no-table = refl
-
-pub length-no-counts : length noCounts ≡ 65
-unfolding noCounts
-length-no-counts = refl
-
-pub ats-none : (rows : List Row) → noTable ≡ atsTo rows 0
+pub ats-none : (rows : List Row) → blankTable ≡ atsTo rows 0
 unfolding atsTo front tab
 ats-none rows = refl
 
-pub counts-none : (rows : List Row) → noCounts ≡ countsTo rows 0
+pub counts-none : (rows : List Row) → blankCounts ≡ countsTo rows 0
 unfolding countsTo front tab
 counts-none rows = refl
 
 pub ats-next : (rows : List Row) (i : ℕ) → i < 65 → set (atsTo rows i) i (getD rows i noRow .at) ≡ atsTo rows (i + 1)
 unfolding atsTo front
-ats-next rows i h = tabs.tab-set (λ l. getD rows l noRow .at) i noTable (omega (arith, length-no-table))
+ats-next rows i h = tabs.tab-set (λ l. getD rows l noRow .at) i blankTable (omega (arith, openings.length-blank-table))
 
 pub counts-next : (rows : List Row) (i : ℕ) → i < 65 → set (countsTo rows i) i (getD rows i noRow .count) ≡ countsTo rows (i + 1)
 unfolding countsTo front
-counts-next rows i h = tabs.tab-set (λ l. getD rows l noRow .count) i noCounts (omega (arith, length-no-counts))
+counts-next rows i h = tabs.tab-set (λ l. getD rows l noRow .count) i blankCounts (omega (arith, openings.length-blank-counts))
 
 pub ats-all : (rows : List Row) → length rows ≡ 65 → atsTo rows 65 ≡ atsOf rows
-unfolding atsTo front noTable
+unfolding atsTo front blankTable
 ats-all rows h =
     append-nil (tab (λ l. getD rows l noRow .at) 65)
     ∙ sym (tabs.map-tab (λ (r : Row). r .at) (λ l. getD rows l noRow) 65)
     ∙ ap atsOf (list-tab rows noRow 65 h)
 
 pub counts-all : (rows : List Row) → length rows ≡ 65 → countsTo rows 65 ≡ countsOf rows
-unfolding countsTo front noCounts
+unfolding countsTo front blankCounts
 counts-all rows h =
     append-nil (tab (λ l. getD rows l noRow .count) 65)
     ∙ sym (tabs.map-tab (λ (r : Row). r .count) (λ l. getD rows l noRow) 65)

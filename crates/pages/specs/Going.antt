@@ -8,10 +8,10 @@ use Rattle.lists.specs.Tab.{tab}
 use Rattle.answer.specs.Answers.{accepted}
 use Rattle.machine.specs.declared.Machine.{Machine}
 use Rattle.schedule.specs.Layout.{scheduleIn, eventIn, eventsIn}
-use Rattle.schedule.specs.Run.{Ran, Bench, run, ran, opened}
+use Rattle.schedule.specs.Run.{Ran, Bench, benchAt, run, ran, opened}
 use Rattle.page.specs.Refusals.{tableIn}
 use Rattle.endtable.specs.Tables.{Tables}
-use Rattle.endtable.specs.Benches.{Stands, benchAt}
+use Rattle.endtable.specs.Benches.{Stands}
 use Rattle.pages.specs.Rows.{atsOf, countsOf}
 use Rattle.pages.specs.declared.rows.Row.{Row}
 use Rattle.pages.specs.declared.running.Run.{Run}

@@ -11,10 +11,11 @@ use Rattle.image.specs.declared.Content.{Content}
 use Rattle.machine.specs.Line.{lineCount, lineAt, cachedAt}
 use Rattle.machine.specs.declared.Machine.{Machine}
 use Rattle.machine.specs.declared.Event.{Event}
-use Rattle.endtable.specs.Opened.{openedTable, openedCounts}
+use Rattle.machine.specs.declared.Acted.{Acted}
+use Rattle.endtable.specs.Opened.{blankTable, blankCounts, openedTable, openedCounts}
 use Rattle.endtable.specs.Rows.{rowAfter, countAfter}
-use Rattle.endtable.specs.Touches.{touchIn}
-use Rattle.endtable.specs.declared.touch.Touch.{Touch}
+use Rattle.endtable.specs.Touched.{touchedRow}
+use Rattle.endtable.specs.declared.touched.Touched.{Touched}
 use Rattle.pages.specs.declared.rows.Row.{Row}
 
 abbrev pub atsOf : List Row → List (List Content)
@@ -42,22 +43,17 @@ openedRows m = rowsOf (openedTable m (lineCount (m .n))) (openedCounts m (lineCo
 unfoldable pub rowJoined : Row → Content → Bool → Row
 rowJoined r c p = record { count = countAfter (r .at) (r .count) c p; at = rowAfter (r .at) (r .count) c p }
 
-abbrev pub rowsTouched : List Row → Touch → Machine → List Row
+abbrev pub rowsTouched : List Row → Touched → Machine → List Row
 rowsTouched rows w next =
     pick (ltb (w .line) 65) (set rows (w .line) (rowJoined (getD rows (w .line) noRow) (cachedAt next (lineAt (next .n) (w .line))) (w .persisted))) rows
 
-unfoldable pub rowsAfter : List Row → Machine → Event → Machine → List Row
-rowsAfter rows m e next = pick (eqb (e .kind) 5) (openedRows next) (rowsTouched rows (touchIn m e) next)
-
-unfoldable pub noTable : List (List Content)
-noTable = replicate 65 (replicate 16 noContent)
-
-unfoldable pub noCounts : List ℕ
-noCounts = replicate 65 0
+-- the rows after event e with the outcome o: a crash is a start
+unfoldable pub rowsAfter : List Row → Event → Acted → List Row
+rowsAfter rows e o = pick (eqb (e .kind) 5) (openedRows (o .machine)) (rowsTouched rows (touchedRow (o .machine .n) (o .touch)) (o .machine))
 
 -- the first k lines of the rows' table, and of their counts
 unfoldable pub atsTo : List Row → ℕ → List (List Content)
-atsTo rows k = front (λ l. getD rows l noRow .at) k noTable
+atsTo rows k = front (λ l. getD rows l noRow .at) k blankTable
 
 unfoldable pub countsTo : List Row → ℕ → List ℕ
-countsTo rows k = front (λ l. getD rows l noRow .count) k noCounts
+countsTo rows k = front (λ l. getD rows l noRow .count) k blankCounts

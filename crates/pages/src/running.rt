@@ -9,7 +9,7 @@ use crate::rows::opened_rows;
 use crate::rows::row_joined;
 use answer::Answer;
 use endtable::opened::cached_at;
-use endtable::touch::touched;
+use endtable::touched::touched_row;
 use machine::Machine;
 use schedule::Schedule;
 
@@ -43,7 +43,8 @@ pub fn run_events(s: &[u8], d: Schedule) -> Run
             };
         }
         let next = out.machine;
-        let w = touched(m, e);
+        let touch = out.touch;
+        let w = touched_row(next.n, touch);
         m = next;
         i += 1;
         if e.kind == 5 {

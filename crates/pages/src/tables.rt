@@ -1,31 +1,15 @@
 // The rows of a run as a table of lines by sixteen contents, and its counts.
 ghost use mathlib.Core.Path.{_≡_};
-ghost use Rattle.pages.specs.Rows.{atsOf, countsOf, noTable, noCounts};
+ghost use Rattle.pages.specs.Rows.{atsOf, countsOf};
 use crate::rows::Row;
+use endtable::opened::blank_counts;
+use endtable::opened::blank_table;
 use image::Content;
-
-fn no_table() -> [[Content; 16]; 65]
-    ensures { λ r. ⌜ r ≡ noTable ⌝ }
-{
-    let zero = Content {
-        linked: 0,
-        index: 0,
-        item: 0,
-    };
-    let row = [zero; 16];
-    [row; 65]
-}
-
-fn no_counts() -> [u8; 65]
-    ensures { λ r. ⌜ r ≡ noCounts ⌝ }
-{
-    [0; 65]
-}
 
 pub fn table_of(rows: [Row; 65]) -> [[Content; 16]; 65]
     ensures { λ r. ⌜ r ≡ atsOf rows ⌝ }
 {
-    let mut t = no_table();
+    let mut t = blank_table();
     let mut i = 0;
     while i < 65 {
         let row = rows[i];
@@ -39,7 +23,7 @@ pub fn table_of(rows: [Row; 65]) -> [[Content; 16]; 65]
 pub fn counts_of(rows: [Row; 65]) -> [u8; 65]
     ensures { λ r. ⌜ r ≡ countsOf rows ⌝ }
 {
-    let mut counts = no_counts();
+    let mut counts = blank_counts();
     let mut i = 0;
     while i < 65 {
         let row = rows[i];

@@ -14,7 +14,7 @@ use Rattle.page.specs.Endings.{endings, ending, imageOf, choices, product}
 use Rattle.page.specs.Refusals.{tableIn, pageAnswer, endingCount}
 use Rattle.page.specs.Printed.{endingLine, linesFrom, firstLine, refusedLine, printed}
 use Rattle.page.specs.Filled.{linesOn}
-use Rattle.endtable.proofs.Choices as choosing
+use Rattle.moments.proofs.Choices as choosing
 use Rattle.printing.proofs.Fittings as fits
 
 -- the lines of a list of images, where f gives the line of each by its number

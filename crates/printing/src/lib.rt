@@ -11,7 +11,6 @@ ghost use Rattle.printing.specs.Digits.{fourDigits, eightDigits};
 pub mod fitting;
 pub mod items;
 pub mod lines;
-pub mod refused;
 pub mod stretch;
 pub mod whole;
 

@@ -14,12 +14,10 @@ ghost use Rattle.lists.specs.Tab.{over};
 ghost use Rattle.page.specs.Printed.{endingLine, firstLine, refusedLine};
 ghost use Rattle.printing.specs.Bounds.{lineRoom, firstRoom, refusedRoom};
 
-// How many bytes the longest line of each kind has: lineRoom 64, firstRoom, refusedRoom of specs/Bounds.
+// How many bytes the longest line of an ending and the longest first line have: lineRoom 64, firstRoom of specs/Bounds.
 pub const LINE: usize = 721;
 
 pub const FIRST: usize = 51;
-
-pub const REFUSED: usize = 25;
 
 // The line of ending k.
 pub fn write_ending(b: &mut [u8], at: usize, k: u32, g: Image) -> usize

@@ -1,2 +1,3 @@
 pub mod Layout
 pub mod Run
+pub mod Running

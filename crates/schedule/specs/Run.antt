@@ -6,53 +6,17 @@ use lib.ListN.{length}
 use Rattle.answer.specs.Answers.{accepted}
 use Rattle.answer.specs.declared.Answer.{Answer}
 use Rattle.answer.specs.declared.Answer.the-variants.{Taken}
-use Rattle.machine.specs.Record.{thread}
-use Rattle.machine.specs.Stage.{Stage, noStep, A1, A2, A3, A4, A5, A6, A7, A8, A9, A10, A11, A12, D1, D2, D3, D4, D5, D6, D7, stage}
-use Rattle.machine.specs.Line.{Line, ofHead, ofNode, lineAt, putLine}
+use Rattle.machine.specs.Line.{putLine}
+use Rattle.machine.specs.declared.Line.{Line}
+use Rattle.machine.specs.declared.Touch.{Touch}
+use Rattle.machine.specs.declared.Touch.the-variants.{Nothing as nothing, Store as aStore, Persist as aPersist}
 use Rattle.machine.specs.Start.{startOf}
 use Rattle.machine.specs.Event.{Deed, unknown, enqueues, dequeues, steps, writesBack, crashes, deedOf, eventAt}
 use Rattle.machine.specs.declared.Machine.{Machine}
 use Rattle.machine.specs.declared.Event.{Event}
-use Rattle.machine.specs.declared.Out.{Out}
+use Rattle.machine.specs.declared.Acted.{Acted}
 use Rattle.schedule.specs.Layout.{scheduleIn, eventsIn}
 use Rattle.schedule.specs.declared.Schedule.{Schedule}
-
--- ---- which line an event persists
-
-pub data Touched : Type 0 where
-  noLine : Touched
-  aLine : (l : Line) → Touched
-
--- A10 persists the thread's own node, D3 and D6 persist Head's line
-abbrev pub stepPersists : Machine → ℕ → Stage → Touched
-stepPersists m k noStep = noLine
-stepPersists m k A1 = noLine
-stepPersists m k A2 = noLine
-stepPersists m k A3 = noLine
-stepPersists m k A4 = noLine
-stepPersists m k A5 = noLine
-stepPersists m k A6 = noLine
-stepPersists m k A7 = noLine
-stepPersists m k A8 = noLine
-stepPersists m k A9 = noLine
-stepPersists m k A10 = aLine (ofNode (thread m k .node))
-stepPersists m k A11 = noLine
-stepPersists m k A12 = noLine
-stepPersists m k D1 = noLine
-stepPersists m k D2 = noLine
-stepPersists m k D3 = aLine (ofHead 0)
-stepPersists m k D4 = noLine
-stepPersists m k D5 = noLine
-stepPersists m k D6 = aLine (ofHead 0)
-stepPersists m k D7 = noLine
-
-abbrev pub persists : Machine → Event → Deed → Touched
-persists m e unknown = noLine
-persists m e enqueues = noLine
-persists m e dequeues = noLine
-persists m e steps = stepPersists m (e .number) (stage m (e .number))
-persists m e writesBack = aLine (lineAt (m .n) (e .number))
-persists m e crashes = noLine
 
 -- ---- the bench: moments are counted from the last start, which is moment 0; each event since is the next one
 
@@ -67,22 +31,32 @@ pub record Bench : Type 0 where
 abbrev pub begins : Machine → Bench
 begins m = record { machine = m; past = m ∷ []; from = λ l. 0 }
 
--- what persisting a line at moment k does to the moments from which contents count
-abbrev pub fromAfter : Touched → ℕ → (Line → ℕ) → Line → ℕ
-fromAfter noLine k f = f
-fromAfter (aLine l) k f = putLine f l k
+-- what a touch at moment k does to the moments from which contents count: a line that is persisted counts from there
+abbrev pub fromAfter : Touch → ℕ → (Line → ℕ) → Line → ℕ
+fromAfter nothing k f = f
+fromAfter (aStore l) k f = f
+fromAfter (aPersist l) k f = putLine f l k
 
-abbrev pub goesOn : Bench → Machine → Touched → Bench
+abbrev pub goesOn : Bench → Machine → Touch → Bench
 goesOn b m w = record { machine = m; past = b .past ++ (m ∷ []); from = fromAfter w (length (b .past)) (b .from) }
 
--- the bench after a taken event that left the machine m: a crash is a start
-abbrev pub turned : Bench → Machine → Event → Deed → Bench
-turned b m e unknown = b
-turned b m e enqueues = goesOn b m (persists (b .machine) e enqueues)
-turned b m e dequeues = goesOn b m (persists (b .machine) e dequeues)
-turned b m e steps = goesOn b m (persists (b .machine) e steps)
-turned b m e writesBack = goesOn b m (persists (b .machine) e writesBack)
-turned b m e crashes = begins m
+-- the bench after a taken event with the outcome o: a crash is a start
+abbrev pub turned : Bench → Acted → Deed → Bench
+turned b o unknown = b
+turned b o enqueues = goesOn b (o .machine) (o .touch)
+turned b o dequeues = goesOn b (o .machine) (o .touch)
+turned b o steps = goesOn b (o .machine) (o .touch)
+turned b o writesBack = goesOn b (o .machine) (o .touch)
+turned b o crashes = begins (o .machine)
+
+-- one step forward: event e, at place p of a run, was taken
+abbrev pub forward : ℕ → Bench → Event → Bench
+forward p b e = turned b (eventAt p (b .machine) e) (deedOf (e .kind))
+
+-- the bench b after the first i of the events f 0, f 1, .., where all of them are taken
+unfoldable pub benchAt : Bench → (ℕ → Event) → ℕ → Bench
+benchAt b f zero = b
+benchAt b f (suc i) = forward i (benchAt b f i) (f i)
 
 -- ---- the run
 
@@ -101,7 +75,7 @@ run p b [] = record { answer = Taken; replies = []; bench = b }
 run p b (e ∷ l) =
     let o = eventAt p (b .machine) e in
     elim (accepted (o .answer)) [
-      | true ↦ andBefore (o .answer) (run (suc p) (turned b (o .machine) e (deedOf (e .kind))) l)
+      | true ↦ andBefore (o .answer) (run (suc p) (forward p b e) l)
       | false ↦ record { answer = o .answer; replies = []; bench = b }
     ]
 

@@ -14,7 +14,7 @@ use Rattle.image.specs.Layout.{headLines}
 use Rattle.image.specs.Refusals.{nodesFit}
 use Rattle.image.specs.declared.Content.{Content}
 use Rattle.machine.specs.Record.{none, node, kept, headAt, keptHead, thread}
-use Rattle.machine.specs.Stage.{own, t, theHead, theNext, uses, stage}
+use Rattle.machine.specs.Stage.{lastStep, own, t, theHead, theNext, uses, stage}
 use Rattle.machine.specs.Start.{threadsFit}
 use Rattle.machine.specs.Range.{isNode, isLink, isFlag, sizesFit, endsFit, freeFits, nodeFits, readFits, nextFits, threadFits, rangesFit, isIndex, headFits, indexFits, formFits, inRange}
 use Rattle.machine.specs.declared.Machine.{Machine}
@@ -88,7 +88,7 @@ pub record NodeFit (n t : ℕ) (v : Node) (c : Content) : Type 0 where
   pub waits-in : v .waits < 2 ^ t
 
 pub record ThreadFit (n : ℕ) (v : Thread) : Type 0 where
-  pub step-in : v .step ≤ 19
+  pub step-in : v .step ≤ lastStep
   pub node-link : Link n (v .node)
   pub tail-link : Link n (v .tail)
   pub head-link : Link n (v .head)
@@ -172,7 +172,7 @@ of-node m i p =
 
 -- of a thread, with the tests that 18 adds
 record Tests (m : Machine) (k : ℕ) : Type 0 where
-  step-in : leb (thread m k .step) 19 ≡ true
+  step-in : leb (thread m k .step) lastStep ≡ true
   own-read : readFits m (uses (stage m k) own) (thread m k .node) ≡ true
   t-read : readFits m (uses (stage m k) t) (thread m k .tail) ≡ true
   head-read : readFits m (uses (stage m k) theHead) (thread m k .head) ≡ true
@@ -191,7 +191,7 @@ tests-of m k h =
     let d = readFits m (uses s theNext) (v .next) in
     let e = isLink m (v .held) in
     let f = nextFits m (eqb (v .step) 12) (v .tail) in
-    let p0 = both-true (leb (v .step) 19) (both a (both b (both c (both d (both e f))))) h in
+    let p0 = both-true (leb (v .step) lastStep) (both a (both b (both c (both d (both e f))))) h in
     let p1 = both-true a (both b (both c (both d (both e f)))) (p0 .1) in
     let p2 = both-true b (both c (both d (both e f))) (p1 .1) in
     let p3 = both-true c (both d (both e f)) (p2 .1) in
@@ -209,7 +209,7 @@ tests-of m k h =
 
 thread-tests : (m : Machine) (k : ℕ) → Tests m k → ThreadFit (m .n) (thread m k)
 thread-tests m k h = record {
-  step-in = leb-true (thread m k .step) 19 (h .step-in);
+  step-in = leb-true (thread m k .step) lastStep (h .step-in);
   node-link = read-link m (uses (stage m k) own) (thread m k .node) (h .own-read);
   tail-link = read-link m (uses (stage m k) t) (thread m k .tail) (h .t-read);
   head-link = read-link m (uses (stage m k) theHead) (thread m k .head) (h .head-read);
@@ -235,10 +235,10 @@ thread-of m k h =
     let c = isLink m (v .head) in
     let d = isLink m (v .next) in
     let e = isLink m (v .held) in
-    let p0 = both-true (leb (v .step) 19) (both a (both b (both c (both d e)))) h in
+    let p0 = both-true (leb (v .step) lastStep) (both a (both b (both c (both d e)))) h in
     let p = parts5 a b c d e (p0 .1) in
     record {
-      step-in = leb-true (v .step) 19 (p0 .0);
+      step-in = leb-true (v .step) lastStep (p0 .0);
       node-link = link-of (m .n) (v .node) (p .0);
       tail-link = link-of (m .n) (v .tail) (p .1);
       head-link = link-of (m .n) (v .head) (p .2);
@@ -256,7 +256,7 @@ of-thread m k p =
     let c = isLink m (v .head) in
     let d = isLink m (v .next) in
     let e = isLink m (v .held) in
-    both-of (leb (v .step) 19) (both a (both b (both c (both d e)))) (le-leb (v .step) 19 (p .step-in))
+    both-of (leb (v .step) lastStep) (both a (both b (both c (both d e)))) (le-leb (v .step) lastStep (p .step-in))
     (both-of a (both b (both c (both d e))) (of-link n (v .node) (p .node-link))
     (both-of b (both c (both d e)) (of-link n (v .tail) (p .tail-link))
     (both-of c (both d e) (of-link n (v .head) (p .head-link))

@@ -18,7 +18,7 @@ use Rattle.machine.specs.Retire.{nextFree, lastWait, releasedAt, released, left
 use Rattle.machine.specs.declared.Machine.{Machine}
 use Rattle.machine.specs.declared.Node.{Node}
 use Rattle.machine.specs.declared.Thread.{Thread}
-use Rattle.steps.proofs.StepLaws as laws
+use Rattle.hands.proofs.HandLaws as laws
 use Rattle.steps.proofs.Fit.{Link, link, NodeFit, ThreadFit, Fit}
 
 -- an element of a changed list is the new one or the old one there

@@ -11,9 +11,11 @@ use Rattle.lists.proofs.WordLaws as words
 use Rattle.answer.specs.declared.Answer.the-variants.{Full, WornOut}
 use Rattle.image.specs.Form.{topOf}
 use Rattle.machine.specs.Record.{none, node, thread, headAt, contentOf, ownNode, readTail, readNext, readItem, readHead, atStep, withItem, withNext, withLinked, withIndex, putNode, putTail, putFree, putHead}
-use Rattle.machine.specs.Stage.{Stage, noStep, A1, A2, A3, A4, A5, A6, A7, A8, A9, A10, A11, A12, D1, D2, D3, D4, D5, D6, D7, stage}
-use Rattle.machine.specs.Line.{Line, ofHead, ofNode, persist}
-use Rattle.machine.specs.Retire.{moving, going, answering, nextFree, freed, left, retired}
+use Rattle.machine.specs.Stage.{Stage, noStep, A1, A2, A3, A4, A5, A6, A7, A8, A9, A10, A11, A12, D1, D2, D3, D4, D5, D6, D7, lastStep, stage}
+use Rattle.machine.specs.Line.{persist}
+use Rattle.machine.specs.declared.Line.{Line}
+use Rattle.machine.specs.declared.Line.the-variants.{OfHead as ofHead, OfNode as ofNode}
+use Rattle.machine.specs.Retire.{moving, going, answering, storing, nextFree, freed, left, retired}
 use Rattle.machine.specs.Event.{begun, stepped}
 use Rattle.machine.specs.Range.{inRange}
 use Rattle.machine.specs.declared.Machine.{Machine}
@@ -28,7 +30,7 @@ use Rattle.steps.proofs.Keep.{none-link, fit-thread, fit-node, fit-kept
 
 -- ---- a thread with one thing replaced
 
-at-step : {n : ℕ} (v : Thread) (s : ℕ) → ThreadFit n v → s ≤ 19 → ThreadFit n (atStep v s)
+at-step : {n : ℕ} (v : Thread) (s : ℕ) → ThreadFit n v → s ≤ lastStep → ThreadFit n (atStep v s)
 at-step v s p h = record {
   step-in = h;
   node-link = p .node-link;
@@ -89,13 +91,13 @@ read-item v x p = record {
 }
 
 -- thread k, now v, goes on to step s
-fit-moving : (m : Machine) (k : ℕ) (v : Thread) (s : ℕ) → Fit m → ThreadFit (m .n) v → s ≤ 19 → Fit (moving m k v s .machine)
+fit-moving : (m : Machine) (k : ℕ) (v : Thread) (s : ℕ) → Fit m → ThreadFit (m .n) v → s ≤ lastStep → Fit (moving m k v s .machine)
 fit-moving m k v s f p h = fit-thread m k (atStep v s) f (at-step v s p h)
 
-fit-going : (m : Machine) (k s : ℕ) → Fit m → k < m .t → s ≤ 19 → Fit (going m k s .machine)
+fit-going : (m : Machine) (k s : ℕ) → Fit m → k < m .t → s ≤ lastStep → Fit (going m k s .machine)
 fit-going m k s f l h = fit-moving m k (thread m k) s f (f .threads k l) h
 
-pick-le : (b : Bool) (x y : ℕ) → x ≤ 19 → y ≤ 19 → pick b x y ≤ 19
+pick-le : (b : Bool) (x y : ℕ) → x ≤ lastStep → y ≤ lastStep → pick b x y ≤ lastStep
 pick-le true x y h k = h
 pick-le false x y h k = k
 
@@ -111,7 +113,7 @@ module _ (m : Machine) (k : ℕ) (f : Fit m) (u : Used m k) (l : k < m .t) where
       (own-node (thread m k) (nextFree m) (f .threads k l) (link (next-free-lt m f (eqb-false (m .free) 0 e)))) (omega arith)
 
   A7-by : thread m k .node < m .n → (b : Bool)
-      → Fit (pick b (answering WornOut (freed m (thread m k .node)) k) (going (putNode m (thread m k .node) (withIndex (node m (thread m k .node)) (node m (thread m k .tail) .index + 1))) k 8) .machine)
+      → Fit (pick b (answering WornOut (freed m (thread m k .node)) k) (storing (ofNode (thread m k .node)) (going (putNode m (thread m k .node) (withIndex (node m (thread m k .node)) (node m (thread m k .tail) .index + 1))) k 8)) .machine)
   A7-by h true =
       let i = thread m k .node in
       fit-left (freed m i) k (thread m k .held) (fit-free m (with (m .free) i) f (words.with-lt (m .n) (m .free) i h (f .sizes .free-in))) (f .threads k l .held-link)
@@ -139,7 +141,7 @@ module _ (m : Machine) (k : ℕ) (f : Fit m) (u : Used m k) (l : k < m .t) where
   A12-by false h = fit-going m k 5 f l (omega arith)
 
   D4-by : thread m k .next < m .n → (b : Bool)
-      → Fit (pick b (going (putHead m (thread m k .next) (node m (thread m k .next) .index)) k 17) (going m k 13) .machine)
+      → Fit (pick b (storing (ofHead 0) (going (putHead m (thread m k .next) (node m (thread m k .next) .index)) k 17)) (going m k 13) .machine)
   D4-by h true =
       let x = thread m k .next in
       let i = node m x .index in
@@ -154,7 +156,7 @@ module _ (m : Machine) (k : ℕ) (f : Fit m) (u : Used m k) (l : k < m .t) where
       fit-left (retired m k x) k (thread m k .head) (fit-retired m k x f (f .threads k l .held-link (eqb-false x none e))) (link h)
 
   -- a store to the thread's own node, and on to step s
-  stores : (v : Node) (s : ℕ) → Link (m .n) (v .next) → v .linked ≤ 1 → v .waits < 2 ^ m .t → s ≤ 19 → Fit (going (putNode m (thread m k .node) v) k s .machine)
+  stores : (v : Node) (s : ℕ) → Link (m .n) (v .next) → v .linked ≤ 1 → v .waits < 2 ^ m .t → s ≤ lastStep → Fit (going (putNode m (thread m k .node) v) k s .machine)
   stores v s a b w h = fit-going (putNode m (thread m k .node) v) k s (fit-node m (thread m k .node) v f a b w) l h
 
   pub fit-step : (s : Stage) → stage m k ≡ s → Fit (stepped m k s .machine)
@@ -199,7 +201,7 @@ kept-step m k h l =
     (narrow-step m k (narrow-range m h) u l (f .threads k l .held-link) (stage m k) refl)
 
 -- a begin
-pub kept-begun : (m : Machine) (k s v : ℕ) → numbersFit m ≡ true → k < m .t → s ≤ 19 → numbersFit (begun m k s v) ≡ true
+pub kept-begun : (m : Machine) (k s v : ℕ) → numbersFit m ≡ true → k < m .t → s ≤ lastStep → numbersFit (begun m k s v) ≡ true
 kept-begun m k s v h l q =
     let f = fit-numbers m h in
     numbers-fit (begun m k s v)

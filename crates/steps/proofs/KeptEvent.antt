@@ -20,11 +20,12 @@ use Rattle.machine.specs.Stage.{busy}
 use Rattle.machine.specs.Line.{lineCount, lineAt, persisted}
 use Rattle.machine.specs.Start.{startOf, startAnswer}
 use Rattle.machine.proofs.AnswerLaws.{answer-whole}
-use Rattle.machine.specs.Retire.{out}
-use Rattle.machine.specs.Event.{Deed, unknown, enqueues, dequeues, steps, writesBack, crashes, deedOf, threadTooLarge, lineTooLarge, itemNotZero, eventAnswer, done, eventAt, eventOn}
+use Rattle.machine.specs.Retire.{out, quiet}
+use Rattle.machine.specs.Event.{Deed, unknown, enqueues, dequeues, steps, writesBack, crashes, deedOf, threadTooLarge, lineTooLarge, itemNotZero, eventAnswer, done, eventAt, handed, eventOn}
 use Rattle.machine.specs.Range.{inRange}
 use Rattle.machine.specs.declared.Machine.{Machine}
 use Rattle.machine.specs.declared.Event.{Event}
+use Rattle.machine.specs.declared.Acted.{Acted}
 use Rattle.machine.specs.declared.Out.{Out}
 use Rattle.machine.proofs.RangeLaws.{start-in-range}
 use Rattle.machine.proofs.LineLaws.{line-in}
@@ -109,7 +110,7 @@ kept-event p m e h = by (accepted a) refl
     a : Answer
     a = eventAnswer p m e d
 
-    by : (b : Bool) → accepted a ≡ b → numbersFit ((elim b as (λ _. Out) [ true ↦ done m e d | false ↦ out a m ]) .machine) ≡ true
+    by : (b : Bool) → accepted a ≡ b → numbersFit ((elim b as (λ _. Acted) [ true ↦ done m e d | false ↦ quiet a m ]) .machine) ≡ true
     by true t = kept-done p m e d h t
     by false t = range-numbers m h
 
@@ -118,6 +119,6 @@ pub kept-on : (m : Machine) (e : Event) → inRange m ≡ true → numbersFit (e
 unfolding eventOn
 kept-on m e h = by (inRange m)
   where
-    by : (b : Bool) → numbersFit ((elim b as (λ _. Out) [ true ↦ eventAt 0 m e | false ↦ out Record m ]) .machine) ≡ true
+    by : (b : Bool) → numbersFit ((elim b as (λ _. Out) [ true ↦ handed (eventAt 0 m e) | false ↦ out Record m ]) .machine) ≡ true
     by true = kept-event 0 m e h
     by false = range-numbers m h

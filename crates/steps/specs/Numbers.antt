@@ -4,6 +4,7 @@ use mathlib.Core.Bool.{Bool, not}
 use lib.Dec.{leb}
 use Rattle.lists.specs.Find.{both, any}
 use Rattle.machine.specs.Record.{thread}
+use Rattle.machine.specs.Stage.{lastStep}
 use Rattle.machine.specs.Range.{isLink, sizesFit, endsFit, freeFits, nodeFits, formFits}
 use Rattle.machine.specs.declared.Machine.{Machine}
 
@@ -11,7 +12,7 @@ use Rattle.machine.specs.declared.Machine.{Machine}
 unfoldable pub threadNumbers : Machine → ℕ → Bool
 threadNumbers m k =
     let v = thread m k in
-    both (leb (v .step) 19)
+    both (leb (v .step) lastStep)
     (both (isLink m (v .node)) (both (isLink m (v .tail)) (both (isLink m (v .head)) (both (isLink m (v .next)) (isLink m (v .held))))))
 
 -- the whole record but its indices

@@ -2,14 +2,10 @@
 use Prim.Native.Nat.{ℕ, _<_, _≤_, _^_}
 use mathlib.Core.Path.{_≡_}
 use mathlib.Core.Bool.{true}
-use mathlib.Core.Logic.{_≢_}
-use Rattle.machine.specs.Record.{none, thread}
+use Rattle.machine.specs.Record.{thread}
 use Rattle.machine.specs.Stage.{own, t, theHead, theNext, uses, stage}
 use Rattle.machine.specs.declared.Machine.{Machine}
-
--- a number that is a place of the table unless it is none
-abbrev pub NodeOrNone : ℕ → Type 0
-NodeOrNone x = x ≢ none → x < 64
+use Rattle.dequeue.specs.Held.{NodeOrNone}
 
 -- what a thread has read is a place of the table where its step uses it
 pub record Ready (m : Machine) (k : ℕ) : Type 0 where

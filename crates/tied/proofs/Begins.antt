@@ -8,7 +8,7 @@ use lib.ListN.{getD}
 use Rattle.image.specs.declared.Content.{Content}
 use Rattle.image.specs.declared.Image.{Image}
 use Rattle.image.specs.Recovered.{dummyOf}
-use Rattle.machine.specs.Line as memory
+use Rattle.tied.specs.Memory as memory
 use Rattle.machine.specs.Line.{cachedAt, persistedAt}
 use Rattle.machine.specs.Start.{blankMachine, startWith, startOf}
 use Rattle.machine.specs.declared.Machine.{Machine}

@@ -8,7 +8,7 @@ use native.Mathlib.Decide.{decLt}
 use lib.ListN.{length, getD, drop, length-append, List·getD-append}
 use lib.Seq.{drop-append-seam, drop-append-le, getD-append-seam}
 use Rattle.image.specs.declared.Content.{Content}
-use Rattle.machine.specs.Line as memory
+use Rattle.tied.specs.Memory as memory
 use Rattle.image.specs.Form.{topOf}
 use Rattle.machine.specs.Line.{cachedAt, persistedAt}
 use Rattle.machine.specs.Start.{blankMachine}
@@ -17,7 +17,7 @@ use Rattle.image.proofs.HeadLaws.{one-head}
 use Rattle.machine.proofs.LineLaws as lines
 use Rattle.machine.proofs.LineLaws.{LineIn}
 use Rattle.schedule.specs.Run as run
-use Rattle.schedule.specs.Run.{Touched, noLine, aLine, fromAfter, goesOn}
+use Rattle.schedule.specs.Run.{fromAfter, goesOn}
 use Rattle.page.specs.Contents.{joins, gathered, contentsOf}
 use Rattle.model.specs.Lines as abstract
 use Rattle.model.specs.Lines.{updL, Line, Touch, nowhere, stores, flushes, issues, fences}
@@ -97,7 +97,7 @@ line-one (memory.ofNode i) (memory.ofNode j) e = let z : i ≡ j = cc in ap memo
 
 -- ---- the contents after one more moment
 
-contents-more : (b : run.Bench) (m : Machine) (w : Touched) (l : memory.Line) → fromAfter w (length (b .past)) (b .from) l ≡ b .from l
+contents-more : (b : run.Bench) (m : Machine) (w : memory.Touch) (l : memory.Line) → fromAfter w (length (b .past)) (b .from) l ≡ b .from l
     → b .from l ≤ length (b .past) → persistedAt m l ≡ persistedAt (b .machine) l → contentsOf (goesOn b m w) l ≡ joins (contentsOf b l) (cachedAt m l)
 unfolding contentsOf
 contents-more b m w l e h k =
@@ -107,7 +107,7 @@ contents-more b m w l e h k =
     ∙ ap (gathered (persistedAt (b .machine) l ∷ [])) (map-append (λ m. cachedAt m l) (drop (b .from l) (b .past)) (m ∷ []))
     ∙ gathered-snoc (persistedAt (b .machine) l ∷ []) (map (λ m. cachedAt m l) (drop (b .from l) (b .past))) (cachedAt m l)
 
-contents-new : (b : run.Bench) (m : Machine) (l : memory.Line) → contentsOf (goesOn b m (aLine l)) l ≡ joins (persistedAt m l ∷ []) (cachedAt m l)
+contents-new : (b : run.Bench) (m : Machine) (l : memory.Line) → contentsOf (goesOn b m (memory.aPersist l)) l ≡ joins (persistedAt m l ∷ []) (cachedAt m l)
 unfolding contentsOf gathered
 contents-new b m l =
     ap (λ i. gathered (persistedAt m l ∷ []) (map (λ m. cachedAt m l) (drop i (b .past ++ m ∷ [])))) (lines.put-same (b .from) l (length (b .past)))
@@ -135,7 +135,7 @@ pub record BenchT (b : run.Bench) (B : Bench) : Type 0 where
   pub lists : ListsT b (B .mach)
   pub past : PastT b
 
-module _ (b : run.Bench) (B : M) (c′ : Core) (m′ : Machine) (w : Touched) (k : Touch) (r : ListsT b B) (i : Timed B)
+module _ (b : run.Bench) (B : M) (c′ : Core) (m′ : Machine) (w : memory.Touch) (k : Touch) (r : ListsT b B) (i : Timed B)
     (d : Tied (persistedAt (b .machine)) (b .machine) (B .core)) (d′ : Tied (keeps w (b .machine) (persistedAt (b .machine))) m′ c′)
     (shape : c′ .conf ≡ B .core .conf) (frame : (l : Line) → k ≢ stores l → content c′ l ≡ content (B .core) l) (t : Touches w k) where
   same-n : m′ .n ≡ b .machine .n
@@ -169,7 +169,7 @@ module _ (b : run.Bench) (B : M) (c′ : Core) (m′ : Machine) (w : Touched) (k
       by a (inr e) = subst (λ a. Small (c′ .conf .top) a × Has (model.goesOn B c′ k) (lineShown l) (shownContent a)) (sym e) (cached-flag _ m′ c′ d′ l (in-new l h), present l h)
 
   -- the line that is persisted
-  persists : (j : memory.Line) → LineIn (b .machine .n) j → w ≡ aLine j → k ≡ flushes (lineShown j) → Line-at j
+  persists : (j : memory.Line) → LineIn (b .machine .n) j → w ≡ memory.aPersist j → k ≡ flushes (lineShown j) → Line-at j
   persists j h ew ek = (
     λ a z. by a (joins-old (persistedAt m′ j ∷ []) (cachedAt m′ j) a (subst (Among a) new z)),
     subst (λ k. model.goesOn B c′ k .past (lineShown j) (model.goesOn B c′ k .from (lineShown j)) ≡ shownContent (persistedAt m′ j)) (sym ek)
@@ -193,19 +193,24 @@ module _ (b : run.Bench) (B : M) (c′ : Core) (m′ : Machine) (w : Touched) (k
       by a (inl (inr z)) = absurd z
       by a (inr e) = subst (λ a. Small (c′ .conf .top) a × Has (model.goesOn B c′ k) (lineShown j) (shownContent a)) (sym e) (cached-flag _ m′ c′ d′ j (in-new j h), present j h)
 
-  line-by : (w₀ : Touched) (k₀ : Touch) → w ≡ w₀ → k ≡ k₀ → Touches w₀ k₀ → (l : memory.Line) → LineIn (b .machine .n) l → Line-at l
-  line-by noLine nowhere ew ek t l h = grows l h (ap (λ w. fromAfter w (length (b .past)) (b .from) l) ew)
+  line-by : (w₀ : memory.Touch) (k₀ : Touch) → w ≡ w₀ → k ≡ k₀ → Touches w₀ k₀ → (l : memory.Line) → LineIn (b .machine .n) l → Line-at l
+  line-by memory.nothing nowhere ew ek t l h = grows l h (ap (λ w. fromAfter w (length (b .past)) (b .from) l) ew)
       (ap (λ w. keeps w (b .machine) (persistedAt (b .machine)) l) ew) (ap (λ k. abstract.fromAfter k (suc (B .now)) (B .mark) (B .from) (lineShown l)) ek)
-  line-by noLine (stores L) ew ek t l h = grows l h (ap (λ w. fromAfter w (length (b .past)) (b .from) l) ew)
+  line-by memory.nothing (stores L) ew ek t l h = absurd t
+  line-by memory.nothing (flushes L) ew ek t l h = absurd t
+  line-by memory.nothing (issues u) ew ek t l h = absurd t
+  line-by memory.nothing (fences u L) ew ek t l h = absurd t
+  line-by (memory.aStore j) nowhere ew ek t l h = absurd t
+  line-by (memory.aStore j) (stores L) ew ek t l h = grows l h (ap (λ w. fromAfter w (length (b .past)) (b .from) l) ew)
       (ap (λ w. keeps w (b .machine) (persistedAt (b .machine)) l) ew) (ap (λ k. abstract.fromAfter k (suc (B .now)) (B .mark) (B .from) (lineShown l)) ek)
-  line-by noLine (flushes L) ew ek t l h = absurd t
-  line-by noLine (issues u) ew ek t l h = absurd t
-  line-by noLine (fences u L) ew ek t l h = absurd t
-  line-by (aLine j) nowhere ew ek t l h = absurd t
-  line-by (aLine j) (stores L) ew ek t l h = absurd t
-  line-by (aLine j) (issues u) ew ek t l h = absurd t
-  line-by (aLine j) (fences u L) ew ek t l h = absurd t
-  line-by (aLine j) (flushes L) ew ek t l h = by (lines.line-eq l j)
+  line-by (memory.aStore j) (flushes L) ew ek t l h = absurd t
+  line-by (memory.aStore j) (issues u) ew ek t l h = absurd t
+  line-by (memory.aStore j) (fences u L) ew ek t l h = absurd t
+  line-by (memory.aPersist j) nowhere ew ek t l h = absurd t
+  line-by (memory.aPersist j) (stores L) ew ek t l h = absurd t
+  line-by (memory.aPersist j) (issues u) ew ek t l h = absurd t
+  line-by (memory.aPersist j) (fences u L) ew ek t l h = absurd t
+  line-by (memory.aPersist j) (flushes L) ew ek t l h = by (lines.line-eq l j)
     where
       by : Dec (l ≡ j) → Line-at l
       by (yes e) = subst Line-at (sym e) (persists j (subst (LineIn (b .machine .n)) e h) ew (ek ∙ ap flushes t))
@@ -213,9 +218,10 @@ module _ (b : run.Bench) (B : M) (c′ : Core) (m′ : Machine) (w : Touched) (k
           (ap (λ w. keeps w (b .machine) (persistedAt (b .machine)) l) ew ∙ lines.put-other (persistedAt (b .machine)) j (cachedAt (b .machine) j) l ne)
           (ap (λ k. abstract.fromAfter k (suc (B .now)) (B .mark) (B .from) (lineShown l)) ek ∙ updL-other (B .from) L (suc (B .now)) (λ e. ne (line-one l j (e ∙ t))))
 
-  early-by : (w₀ : Touched) (l : memory.Line) → fromAfter w₀ (length (b .past)) (b .from) l ≤ length (b .past)
-  early-by noLine l = r .early l
-  early-by (aLine j) l = lines.put-ind (b .from) j (length (b .past)) (λ k y. y ≤ length (b .past)) l (omega arith) (λ ne. r .early l)
+  early-by : (w₀ : memory.Touch) (l : memory.Line) → fromAfter w₀ (length (b .past)) (b .from) l ≤ length (b .past)
+  early-by memory.nothing l = r .early l
+  early-by (memory.aStore j) l = r .early l
+  early-by (memory.aPersist j) l = lines.put-ind (b .from) j (length (b .past)) (λ k y. y ≤ length (b .past)) l (omega arith) (λ ne. r .early l)
 
   -- the two ways of counting
   now-on : model.goesOn B c′ k .now ≡ length (b .past ++ (m′ ∷ []))
@@ -237,18 +243,23 @@ module _ (b : run.Bench) (B : M) (c′ : Core) (m′ : Machine) (w : Touched) (k
           ∙ shown-cached _ m′ c′ d′ l (in-new l h)
           ∙ ap (λ a. shownContent (cachedAt a l)) (sym (ap (λ j. getD (b .past ++ (m′ ∷ [])) j blankMachine) e ∙ getD-append-seam (b .past) m′ [] blankMachine))
 
-  from-on : (w₀ : Touched) (k₀ : Touch) → Touches w₀ k₀ → (l : memory.Line) → LineIn (b .machine .n) l
+  from-on : (w₀ : memory.Touch) (k₀ : Touch) → Touches w₀ k₀ → (l : memory.Line) → LineIn (b .machine .n) l
       → FromT (abstract.fromAfter k₀ (suc (B .now)) (B .mark) (B .from) (lineShown l)) (fromAfter w₀ (length (b .past)) (b .from) l)
-  from-on noLine nowhere t l h = r .from l h
-  from-on noLine (stores L) t l h = r .from l h
-  from-on noLine (flushes L) t l h = absurd t
-  from-on noLine (issues u) t l h = absurd t
-  from-on noLine (fences u L) t l h = absurd t
-  from-on (aLine j) nowhere t l h = absurd t
-  from-on (aLine j) (stores L) t l h = absurd t
-  from-on (aLine j) (issues u) t l h = absurd t
-  from-on (aLine j) (fences u L) t l h = absurd t
-  from-on (aLine j) (flushes L) t l h = by (lines.line-eq l j)
+  from-on memory.nothing nowhere t l h = r .from l h
+  from-on memory.nothing (stores L) t l h = absurd t
+  from-on memory.nothing (flushes L) t l h = absurd t
+  from-on memory.nothing (issues u) t l h = absurd t
+  from-on memory.nothing (fences u L) t l h = absurd t
+  from-on (memory.aStore j) nowhere t l h = absurd t
+  from-on (memory.aStore j) (stores L) t l h = r .from l h
+  from-on (memory.aStore j) (flushes L) t l h = absurd t
+  from-on (memory.aStore j) (issues u) t l h = absurd t
+  from-on (memory.aStore j) (fences u L) t l h = absurd t
+  from-on (memory.aPersist j) nowhere t l h = absurd t
+  from-on (memory.aPersist j) (stores L) t l h = absurd t
+  from-on (memory.aPersist j) (issues u) t l h = absurd t
+  from-on (memory.aPersist j) (fences u L) t l h = absurd t
+  from-on (memory.aPersist j) (flushes L) t l h = by (lines.line-eq l j)
     where
       by : Dec (l ≡ j) → FromT (updL (B .from) L (suc (B .now)) (lineShown l)) (memory.putLine (b .from) j (length (b .past)) l)
       by (yes e) = inl (updL-at (B .from) L (suc (B .now)) (ap lineShown e ∙ sym t) ∙ ap suc (r .now)

@@ -12,7 +12,7 @@ use lib.ListN.{getD, set, length-set}
 use lib.Seq.{getD-set-same}
 use Rattle.lists.specs.Word.{has, with, without}
 use Rattle.image.specs.declared.Content.{Content}
-use Rattle.machine.specs.Line as memory
+use Rattle.tied.specs.Memory as memory
 use Rattle.image.specs.Form.{topOf}
 use Rattle.machine.specs.Record.{node, thread, contentOf, withNext, putNode, putTail, putHead, putFree, putThread, headAt}
 use Rattle.machine.specs.Line.{putLine, cachedAt, persist, headContent}

@@ -13,7 +13,7 @@ use Rattle.lists.specs.Find.{pick}
 use Rattle.lists.specs.Word.{has, with, without}
 use Rattle.lists.proofs.BoolLaws.{both-true, no-way}
 use Rattle.image.specs.declared.Content.{Content}
-use Rattle.machine.specs.Line as memory
+use Rattle.tied.specs.Memory as memory
 use Rattle.image.specs.Form.{topOf}
 use Rattle.machine.specs.Record.{node, thread, withWaits, idleThread, putThread}
 use Rattle.machine.specs.Retire.{lastWait, releasedAt, released, left}

@@ -5,12 +5,15 @@ use mathlib.Core.Logic.{_≢_, _⊎_, inl, inr}
 use Prim.Native.Nat.{ℕ, suc, _<_}
 use lib.ListN.{getD}
 use Rattle.image.specs.declared.Content.{Content}
-use Rattle.machine.specs.Line.{Line, cachedAt, persistedAt}
+use Rattle.machine.specs.Line.{cachedAt, persistedAt}
+use Rattle.machine.specs.declared.Line.{Line}
 use Rattle.machine.specs.declared.Machine.{Machine}
 use Rattle.machine.proofs.LineLaws as lines
 use Rattle.machine.proofs.LineLaws.{LineIn}
+use Rattle.machine.specs.declared.Touch.{Touch}
+use Rattle.machine.specs.declared.Touch.the-variants.{Nothing as nothing, Store as aStore, Persist as aPersist}
 use Rattle.schedule.specs.Run as run
-use Rattle.schedule.specs.Run.{Touched, noLine, aLine, begins, goesOn}
+use Rattle.schedule.specs.Run.{begins, goesOn}
 use Rattle.tied.specs.Always.{Among, atStart, WasThere}
 use Rattle.tied.proofs.Stepping.{keeps}
 
@@ -37,7 +40,7 @@ pub record PastT (b : run.Bench) : Type 0 where
 pub pastBegins : (m : Machine) → PastT (begins m)
 pastBegins m = record { first = m; then = []; is = refl; was = λ l h. inl refl; now = λ l. inl refl }
 
-pub pastOn : (b : run.Bench) (m : Machine) (w : Touched) → PastT b → m .n ≡ b .machine .n
+pub pastOn : (b : run.Bench) (m : Machine) (w : Touch) → PastT b → m .n ≡ b .machine .n
     → ((l : Line) → LineIn (m .n) l → persistedAt m l ≡ keeps w (b .machine) (persistedAt (b .machine)) l) → PastT (goesOn b m w)
 pastOn b m w r en k = record {
   first = r .first;
@@ -55,10 +58,11 @@ pastOn b m w r en k = record {
     older l c (inl e) = inl (e ∙ ap (λ z. persistedAt z l) (sym start-same))
     older l c (inr h) = inr (seen-on (b .past) m l c h)
 
-    was : (l : Line) → LineIn (b .machine .n) l → (w : Touched) → persistedAt m l ≡ keeps w (b .machine) (persistedAt (b .machine)) l
+    was : (l : Line) → LineIn (b .machine .n) l → (w : Touch) → persistedAt m l ≡ keeps w (b .machine) (persistedAt (b .machine)) l
         → Among (persistedAt m l) (persistedAt (getD (b .past ++ m ∷ []) 0 m) l ∷ map (λ m. cachedAt m l) (b .past ++ m ∷ []))
-    was l h noLine e = older l (persistedAt m l) (subst (λ c. Among c (persistedAt (getD (b .past) 0 (b .machine)) l ∷ map (λ m. cachedAt m l) (b .past))) (sym e) (r .was l h))
-    was l h (aLine j) e = by (lines.line-eq l j)
+    was l h nothing e = older l (persistedAt m l) (subst (λ c. Among c (persistedAt (getD (b .past) 0 (b .machine)) l ∷ map (λ m. cachedAt m l) (b .past))) (sym e) (r .was l h))
+    was l h (aStore j) e = older l (persistedAt m l) (subst (λ c. Among c (persistedAt (getD (b .past) 0 (b .machine)) l ∷ map (λ m. cachedAt m l) (b .past))) (sym e) (r .was l h))
+    was l h (aPersist j) e = by (lines.line-eq l j)
       where
         by : Dec (l ≡ j) → Among (persistedAt m l) (persistedAt (getD (b .past ++ m ∷ []) 0 m) l ∷ map (λ m. cachedAt m l) (b .past ++ m ∷ []))
         by (yes z) = inr (seen-on (b .past) m l (persistedAt m l)

@@ -10,7 +10,7 @@ use lib.Dec.{eqb, eqb-refl}
 use Rattle.lists.specs.Find.{pick, both, any, count}
 use Rattle.lists.proofs.BoolLaws.{no-way}
 use Rattle.image.specs.declared.Content.{Content}
-use Rattle.machine.specs.Line as memory
+use Rattle.tied.specs.Memory as memory
 use Rattle.machine.specs.Record.{node, thread}
 use Rattle.machine.specs.Stage.{Stage, noStep, A1, A2, A3, A4, A5, A6, A7, A8, A9, A10, A11, A12, D1, D2, D3, D4, D5, D6, D7, stage, enqueueOwns, dequeueOwns}
 use Rattle.machine.specs.Place as place

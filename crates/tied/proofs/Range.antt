@@ -10,12 +10,12 @@ use Rattle.lists.specs.Find.{pick}
 use Rattle.lists.proofs.BoolLaws.{both-of}
 use Rattle.lists.proofs.FindLaws.{any-none}
 use Rattle.image.specs.declared.Content.{Content}
+use Rattle.tied.specs.Memory as memory
 use Rattle.image.specs.Form.{topOf}
 use Rattle.image.specs.Layout.{headLines}
 use Rattle.image.proofs.HeadLaws.{one-head}
-use Rattle.machine.specs.Line as memory
 use Rattle.machine.specs.Record.{node, kept, thread}
-use Rattle.machine.specs.Stage.{Stage, noStep, A1, A2, A3, A4, A5, A6, A7, A8, A9, A10, A11, A12, D1, D2, D3, D4, D5, D6, D7, own, t, theHead, theNext, uses, stage, stageOf}
+use Rattle.machine.specs.Stage.{Stage, noStep, A1, A2, A3, A4, A5, A6, A7, A8, A9, A10, A11, A12, D1, D2, D3, D4, D5, D6, D7, own, t, theHead, theNext, uses, lastStep, stage, stageOf}
 use Rattle.machine.specs.Range.{isNode, isLink, readFits, nextFits, nodeFits, threadFits, rangesFit, headFits, indexFits, formFits, inRange}
 use Rattle.machine.specs.declared.Machine.{Machine}
 use Rattle.machine.specs.declared.Thread.{Thread}
@@ -88,7 +88,7 @@ module _ (p : memory.Line → Content) (m : Machine) (c : Core) (d : Tied p m c)
     thread-fits =
         let g = d .threads .at k hk .regs in
         let q = reads m (thread m k) (c .next) g (stage m k) (used p m c d k hk r (stage m k) refl) in
-        both-of _ _ (le-true _ 19 (g .step))
+        both-of _ _ (le-true _ lastStep (g .step))
         (both-of _ _ (q .0) (both-of _ _ (q .1) (both-of _ _ (q .2) (both-of _ _ (q .3) (both-of _ _ (is-link m _ (g .held)) (next-fits _ refl))))))
 
   -- N, T, and every number of a node, a line, a thread or a step

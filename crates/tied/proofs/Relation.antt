@@ -14,7 +14,10 @@ use Rattle.image.specs.declared.Content.{Content}
 use Rattle.image.specs.Form.{known, topOf}
 use Rattle.image.specs.Layout.{noContent}
 use Rattle.machine.specs.Record.{zeroNode, zeroThread, headAt, contentOf}
-use Rattle.machine.specs.Line.{Line, ofHead, ofNode, putLine, headContent}
+use Rattle.machine.specs.Stage.{lastStep}
+use Rattle.machine.specs.Line.{putLine, headContent}
+use Rattle.machine.specs.declared.Line.{Line}
+use Rattle.machine.specs.declared.Line.the-variants.{OfHead as ofHead, OfNode as ofNode}
 use Rattle.machine.specs.declared.Machine.{Machine}
 use Rattle.machine.specs.declared.Node.{Node}
 use Rattle.machine.specs.declared.Thread.{Thread}
@@ -64,7 +67,7 @@ pub record FreeT (n w : ℕ) (f : ℕ → Bool) : Type 0 where
 -- ---- a thread
 
 pub record Regs (z n : ℕ) (v : Thread) : Type 0 where
-  pub step : v .step ≤ 19
+  pub step : v .step ≤ lastStep
   pub node : Link n (v .node)
   pub tail : Link n (v .tail)
   pub head : Link n (v .head)

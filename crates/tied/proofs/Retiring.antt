@@ -8,16 +8,17 @@ use Prim.Native.Nat.{ℕ, zero, suc, _^_, _≤_, _<_}
 use native.Mathlib.Omega.{arith}
 use native.Mathlib.Decide.{ℕ-discrete}
 use lib.Dec.{eqb, eqb-refl, ltb}
-use lib.ListN.{getD}
-use Rattle.lists.specs.Find.{pick, both}
+use lib.ListN.{length, getD}
+use Rattle.lists.specs.Find.{pick, both, any}
 use Rattle.lists.specs.Word.{has, with, wordOf}
 use Rattle.lists.proofs.BoolLaws.{no-way}
+use Rattle.lists.proofs.FindLaws.{any-clear}
 use Rattle.image.specs.declared.Content.{Content}
-use Rattle.machine.specs.Line as memory
+use Rattle.tied.specs.Memory as memory
 use Rattle.image.specs.Form.{topOf}
 use Rattle.machine.specs.Record.{node, thread, withWaits}
 use Rattle.machine.specs.Stage as stage
-use Rattle.machine.specs.Stage.{stageOf}
+use Rattle.machine.specs.Stage.{stages, stageOf, lastStep}
 use Rattle.machine.specs.Retire as retire
 use Rattle.machine.specs.Retire.{retired, retiredHeld, left}
 use Rattle.machine.specs.declared.Machine.{Machine}
@@ -35,30 +36,24 @@ use Rattle.tied.proofs.Leaving.{freeAt, heldAs, leftT}
 
 -- ---- a thread has an operation where its step is not 0
 
-busy-at : (s : ℕ) (v : Thread) → s ≤ 19 → busy (threadOf (stageOf s) v) ≡ not (eqb s 0)
-busy-at zero v h = refl
-busy-at (suc zero) v h = refl
-busy-at (suc (suc zero)) v h = refl
-busy-at (suc (suc (suc zero))) v h = refl
-busy-at (suc (suc (suc (suc zero)))) v h = refl
-busy-at (suc (suc (suc (suc (suc zero))))) v h = refl
-busy-at (suc (suc (suc (suc (suc (suc zero)))))) v h = refl
-busy-at (suc (suc (suc (suc (suc (suc (suc zero))))))) v h = refl
-busy-at (suc (suc (suc (suc (suc (suc (suc (suc zero)))))))) v h = refl
-busy-at (suc (suc (suc (suc (suc (suc (suc (suc (suc zero))))))))) v h = refl
-busy-at (suc (suc (suc (suc (suc (suc (suc (suc (suc (suc zero)))))))))) v h = refl
-busy-at (suc (suc (suc (suc (suc (suc (suc (suc (suc (suc (suc zero))))))))))) v h = refl
-busy-at (suc (suc (suc (suc (suc (suc (suc (suc (suc (suc (suc (suc zero)))))))))))) v h = refl
-busy-at (suc (suc (suc (suc (suc (suc (suc (suc (suc (suc (suc (suc (suc zero))))))))))))) v h = refl
-busy-at (suc (suc (suc (suc (suc (suc (suc (suc (suc (suc (suc (suc (suc (suc zero)))))))))))))) v h = refl
-busy-at (suc (suc (suc (suc (suc (suc (suc (suc (suc (suc (suc (suc (suc (suc (suc zero))))))))))))))) v h = refl
-busy-at (suc (suc (suc (suc (suc (suc (suc (suc (suc (suc (suc (suc (suc (suc (suc (suc zero)))))))))))))))) v h = refl
-busy-at (suc (suc (suc (suc (suc (suc (suc (suc (suc (suc (suc (suc (suc (suc (suc (suc (suc zero))))))))))))))))) v h = refl
-busy-at (suc (suc (suc (suc (suc (suc (suc (suc (suc (suc (suc (suc (suc (suc (suc (suc (suc (suc zero)))))))))))))))))) v h = refl
-busy-at (suc (suc (suc (suc (suc (suc (suc (suc (suc (suc (suc (suc (suc (suc (suc (suc (suc (suc (suc zero))))))))))))))))))) v h = refl
-busy-at (suc (suc (suc (suc (suc (suc (suc (suc (suc (suc (suc (suc (suc (suc (suc (suc (suc (suc (suc (suc x)))))))))))))))))))) v h = absurd (omega arith)
+-- by one test over the table of steps
+same : (a b : Bool) → pick a (not b) b ≡ false → a ≡ b
+same true true e = refl
+same true false e = e
+same false true e = sym e
+same false false e = refl
 
-pub busy-shown : (v : Thread) → v .step ≤ 19 → busy (shownThread v) ≡ not (eqb (v .step) 0)
+busy-table : (v : Thread) → any (λ s. pick (busy (threadOf (stageOf s) v)) (not (not (eqb s 0))) (not (eqb s 0))) (length stages) ≡ false
+unfolding any
+busy-table v = refl
+
+busy-at : (s : ℕ) (v : Thread) → s ≤ lastStep → busy (threadOf (stageOf s) v) ≡ not (eqb s 0)
+busy-at s v h =
+    let l : s < suc lastStep = omega arith in
+    same (busy (threadOf (stageOf s) v)) (not (eqb s 0))
+    (any-clear (λ s. pick (busy (threadOf (stageOf s) v)) (not (not (eqb s 0))) (not (eqb s 0))) (length stages) s (busy-table v) l)
+
+pub busy-shown : (v : Thread) → v .step ≤ lastStep → busy (shownThread v) ≡ not (eqb (v .step) 0)
 busy-shown v h = busy-at (v .step) v h
 
 pub busy-tied : (p : memory.Line → Content) (m : Machine) (c : Core) → Tied p m c → (k : ℕ) → k < m .t → busy (c .thr k) ≡ stage.busy m k

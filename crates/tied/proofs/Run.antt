@@ -12,14 +12,14 @@ use Rattle.answer.specs.Answers.{told, accepted}
 use Rattle.answer.specs.declared.Answer.{Answer}
 use Rattle.answer.specs.declared.Answer.the-variants.{Taken}
 use Rattle.image.specs.declared.Image.{Image}
-use Rattle.machine.specs.Line as memory
+use Rattle.tied.specs.Memory as memory
 use Rattle.machine.specs.Start.{startOf, startAnswer}
-use Rattle.machine.specs.Retire.{out}
+use Rattle.machine.specs.Retire.{quiet}
 use Rattle.machine.specs.Range.{inRange}
 use Rattle.machine.specs.Event.{deedOf, eventAnswer, eventAt, done}
 use Rattle.machine.specs.declared.Machine.{Machine}
 use Rattle.machine.specs.declared.Event.{Event}
-use Rattle.machine.specs.declared.Out.{Out}
+use Rattle.machine.specs.declared.Acted.{Acted}
 use Rattle.image.proofs.HeadLaws.{one-head}
 use Rattle.machine.proofs.LineLaws.{LineIn}
 use Rattle.schedule.specs.Run as schedule
@@ -48,25 +48,25 @@ event-taken : (q : ℕ) (m : Machine) (e : Event) → accepted (eventAnswer q m 
 unfolding eventAt
 event-taken q m e a = by (accepted (eventAnswer q m e (deedOf (e .kind)))) a
   where
-    by : (x : Bool) → x ≡ true → _≡_ {A = Out} (elim x as (λ _. Out) [ true ↦ done m e (deedOf (e .kind)) | false ↦ out (eventAnswer q m e (deedOf (e .kind))) m ]) (done m e (deedOf (e .kind)))
+    by : (x : Bool) → x ≡ true → _≡_ {A = Acted} (elim x as (λ _. Acted) [ true ↦ done m e (deedOf (e .kind)) | false ↦ quiet (eventAnswer q m e (deedOf (e .kind))) m ]) (done m e (deedOf (e .kind)))
     by true z = refl
     by false z = no-way (sym z)
 
-event-refused : (q : ℕ) (m : Machine) (e : Event) → accepted (eventAnswer q m e (deedOf (e .kind))) ≡ false → eventAt q m e ≡ out (eventAnswer q m e (deedOf (e .kind))) m
+event-refused : (q : ℕ) (m : Machine) (e : Event) → accepted (eventAnswer q m e (deedOf (e .kind))) ≡ false → eventAt q m e ≡ quiet (eventAnswer q m e (deedOf (e .kind))) m
 unfolding eventAt
 event-refused q m e a = by (accepted (eventAnswer q m e (deedOf (e .kind)))) a
   where
-    by : (x : Bool) → x ≡ false → _≡_ {A = Out} (elim x as (λ _. Out) [ true ↦ done m e (deedOf (e .kind)) | false ↦ out (eventAnswer q m e (deedOf (e .kind))) m ]) (out (eventAnswer q m e (deedOf (e .kind))) m)
+    by : (x : Bool) → x ≡ false → _≡_ {A = Acted} (elim x as (λ _. Acted) [ true ↦ done m e (deedOf (e .kind)) | false ↦ quiet (eventAnswer q m e (deedOf (e .kind))) m ]) (quiet (eventAnswer q m e (deedOf (e .kind))) m)
     by true z = no-way z
     by false z = refl
 
 abbrev pub stopped : Answer → schedule.Bench → Ran
 stopped a b = record { answer = a; replies = []; bench = b }
 
-abbrev onward : ℕ → schedule.Bench → Event → List Event → Out → Ran
-onward q b e l o = andBefore (o .answer) (run (suc q) (turned b (o .machine) e (deedOf (e .kind))) l)
+abbrev onward : ℕ → schedule.Bench → Event → List Event → Acted → Ran
+onward q b e l o = andBefore (o .answer) (run (suc q) (turned b o (deedOf (e .kind))) l)
 
-run-by : (q : ℕ) (b : schedule.Bench) (e : Event) (l : List Event) (o : Out) → eventAt q (b .machine) e ≡ o → (x : Bool) → accepted (o .answer) ≡ x
+run-by : (q : ℕ) (b : schedule.Bench) (e : Event) (l : List Event) (o : Acted) → eventAt q (b .machine) e ≡ o → (x : Bool) → accepted (o .answer) ≡ x
     → _≡_ {A = Ran} (run q b (e ∷ l)) (elim x as (λ _. Ran) [ true ↦ onward q b e l o | false ↦ stopped (o .answer) b ])
 unfolding run
 run-by q b e l o h x a = ap (λ o. elim (accepted (o .answer)) as (λ _. Ran) [ true ↦ onward q b e l o | false ↦ stopped (o .answer) b ]) h
@@ -82,13 +82,13 @@ says-taken (item v) = refl
 
 -- an event of a run, taken or refused
 pub run-taken : (q : ℕ) (b : schedule.Bench) (B : Bench) (r : BenchT b B) (e : Event) (l : List Event) → accepted (eventAnswer q (b .machine) e (deedOf (e .kind))) ≡ true
-    → run q b (e ∷ l) ≡ andBefore (done (b .machine) e (deedOf (e .kind)) .answer) (run (suc q) (turned b (done (b .machine) e (deedOf (e .kind)) .machine) e (deedOf (e .kind))) l)
+    → run q b (e ∷ l) ≡ andBefore (done (b .machine) e (deedOf (e .kind)) .answer) (run (suc q) (turned b (done (b .machine) e (deedOf (e .kind))) (deedOf (e .kind))) l)
 run-taken q b B r e l a = run-by q b e l (done (b .machine) e (deedOf (e .kind))) (event-taken q (b .machine) e a) true
     (ap accepted (answers-same b B r q e (deedOf (e .kind)) a) ∙ says-taken (answer (B .mach) (eventShown (b .machine .n) e)))
 
 pub run-refused : (q : ℕ) (b : schedule.Bench) (e : Event) (l : List Event) → accepted (eventAnswer q (b .machine) e (deedOf (e .kind))) ≡ false
     → run q b (e ∷ l) ≡ stopped (eventAnswer q (b .machine) e (deedOf (e .kind))) b
-run-refused q b e l a = run-by q b e l (out (eventAnswer q (b .machine) e (deedOf (e .kind))) (b .machine)) (event-refused q (b .machine) e a) false a
+run-refused q b e l a = run-by q b e l (quiet (eventAnswer q (b .machine) e (deedOf (e .kind))) (b .machine)) (event-refused q (b .machine) e a) false a
 
 -- a run that is accepted takes its first event
 pub first-taken : (q : ℕ) (b : schedule.Bench) (e : Event) (l : List Event) → accepted (run q b (e ∷ l) .answer) ≡ true → accepted (eventAnswer q (b .machine) e (deedOf (e .kind))) ≡ true
@@ -131,7 +131,7 @@ runT (e ∷ l) q b B r = by (accepted (eventAnswer q (b .machine) e (deedOf (e .
         → ((q : ℕ) (b : schedule.Bench) (B : Bench) → BenchT b B → RunT (b .machine .n) q B l (run q b l)) → RunT (b .machine .n) q B (e ∷ l) (run q b (e ∷ l))
     by true a rec =
         let says = answers-same b B r q e (deedOf (e .kind)) a in
-        let b′ = turned b (done (b .machine) e (deedOf (e .kind)) .machine) e (deedOf (e .kind)) in
+        let b′ = turned b (done (b .machine) e (deedOf (e .kind))) (deedOf (e .kind)) in
         let s = subst (λ n. RunT n (suc q) (turn B (eventShown (b .machine .n) e)) l (run (suc q) b′ l)) (turned-size b B r q e (deedOf (e .kind)) a)
         (rec (suc q) b′ (turn B (eventShown (b .machine .n) e)) (turns b B r q e (deedOf (e .kind)) a)) in
         subst (RunT (b .machine .n) q B (e ∷ l)) (sym (run-taken q b B r e l a))

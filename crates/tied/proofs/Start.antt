@@ -21,7 +21,9 @@ use Rattle.image.proofs.HeadLaws.{one-head, heads-at, heads-length, head-one}
 use Rattle.image.specs.Recovered.{headOf, recoveredAt, dummyOf}
 use Rattle.image.specs.Form.{topOf}
 use Rattle.machine.specs.Record.{zeroNode, zeroThread, blankNodes, idleThread, idleThreads, contentOf}
-use Rattle.machine.specs.Line.{Line, ofHead, ofNode, headContent}
+use Rattle.machine.specs.Line.{headContent}
+use Rattle.machine.specs.declared.Line.{Line}
+use Rattle.machine.specs.declared.Line.the-variants.{OfHead as ofHead, OfNode as ofNode}
 use Rattle.machine.specs.Start as machine
 use Rattle.machine.specs.Start.{startNode, spare, startWith, startOf, queueOf, behind}
 use Rattle.model.specs.Basics.{sel, bothb, upd}

@@ -9,7 +9,8 @@ use Rattle.answer.specs.declared.Answer.{Answer}
 use Rattle.image.specs.declared.Content.{Content}
 use Rattle.image.specs.declared.Image.{Image}
 use Rattle.image.specs.Refusals.{startable}
-use Rattle.machine.specs.Line.{Line, persisted}
+use Rattle.machine.specs.Line.{persisted}
+use Rattle.machine.specs.declared.Line.{Line}
 use Rattle.machine.proofs.LineLaws.{LineIn}
 use Rattle.machine.specs.Start.{startOf, startAnswer}
 use Rattle.machine.specs.Range.{inRange}

@@ -4,12 +4,11 @@ use mathlib.Core.Logic.{inl, inr}
 use Prim.Native.Nat.{ℕ, _≤_, _<_}
 use native.Mathlib.Omega.{arith}
 use Rattle.image.specs.declared.Content.{Content}
-use Rattle.machine.specs.Line as memory
+use Rattle.tied.specs.Memory as memory
 use Rattle.machine.specs.Record.{thread}
 use Rattle.machine.specs.Stage.{Stage, noStep, A1, A2, A3, A4, A5, A6, A7, A8, A9, A10, A11, A12, D1, D2, D3, D4, D5, D6, D7, stage}
 use Rattle.machine.specs.Event.{stepped, begun}
 use Rattle.machine.specs.declared.Machine.{Machine}
-use Rattle.schedule.specs.Run.{stepPersists}
 use Rattle.model.specs.Core.{Core, a1, d1}
 use Rattle.model.specs.Changes.{setTh}
 use Rattle.model.specs.Steps.{step, does, move}
@@ -22,7 +21,7 @@ use Rattle.tied.proofs.Enqueue.{sA1, sA2, sA3, sA4, sA5, sA6, sA7, sA8,
 use Rattle.tied.proofs.Dequeue.{sD1, sD2, sD3, sD4, sD5, sD6, sD7}
 
 module _ (p : memory.Line → Content) (m : Machine) (c : Core) (d : Tied p m c) (r : InRange c) (k : ℕ) (hk : k < m .t) where
-  stepBy : (s : Stage) → stage m k ≡ s → StepT p m (stepPersists m k s) (stepped m k s) (step c k (threadOf s (thread m k)))
+  stepBy : (s : Stage) → stage m k ≡ s → StepT p m (stepped m k s) (step c k (threadOf s (thread m k)))
   stepBy noStep e = record { tied = d; says = refl; touch = tt }
   stepBy A1 e = sA1 p m c d r k hk e
   stepBy A2 e = sA2 p m c d r k hk e
@@ -45,8 +44,8 @@ module _ (p : memory.Line → Content) (m : Machine) (c : Core) (d : Tied p m c)
   stepBy D7 e = sD7 p m c d r k hk e
 
   -- a thread moves by one step
-  pub stepT : StepT p m (stepPersists m k (stage m k)) (stepped m k (stage m k)) (does c (move k))
-  stepT = subst (λ s. StepT p m (stepPersists m k (stage m k)) (stepped m k (stage m k)) (step c k s)) (sym (d .threads .at k hk .stage)) (stepBy (stage m k) refl)
+  pub stepT : StepT p m (stepped m k (stage m k)) (does c (move k))
+  stepT = subst (λ s. StepT p m (stepped m k (stage m k)) (step c k s)) (sym (d .threads .at k hk .stage)) (stepBy (stage m k) refl)
 
   -- an operation begins
   pub enqueuesT : (v : ℕ) → Tied p (begun m k 1 v) (setTh c k (a1 v))

@@ -1,4 +1,4 @@
--- What is to be shown of a step: the same answer, records that show the same after it, the line persisted if one is.
+-- What is to be shown of a step: the same answer, records that show the same after it, the same line touched.
 use mathlib.Core.Path.{_≡_, refl, sym, ap, subst, _∙_}
 use mathlib.Core.Bool.{Bool, true, false}
 use mathlib.Core.Logic.{inl, inr}
@@ -9,16 +9,15 @@ use lib.Dec.{eqb}
 use Rattle.lists.proofs.BoolLaws.{no-way}
 use Rattle.answer.specs.declared.Answer.{Answer}
 use Rattle.image.specs.declared.Content.{Content}
+use Rattle.tied.specs.Memory as memory
 use Rattle.image.specs.Form.{topOf}
-use Rattle.machine.specs.Line as memory
 use Rattle.machine.specs.Record.{thread, atStep}
 use Rattle.machine.specs.Line.{putLine, cachedAt}
-use Rattle.machine.specs.Stage.{Stage, stage}
+use Rattle.machine.specs.Stage.{Stage, lastStep, stage}
 use Rattle.machine.specs.Retire.{left}
 use Rattle.machine.specs.declared.Machine.{Machine}
 use Rattle.machine.specs.declared.Thread.{Thread}
-use Rattle.machine.specs.declared.Out as machine
-use Rattle.schedule.specs.Run.{Touched, noLine, aLine}
+use Rattle.machine.specs.declared.Acted as machine
 use Rattle.model.specs.Lines.{Touch, nowhere, stores, flushes, issues, fences}
 use Rattle.model.specs.Conf.{shared, atOnce}
 use Rattle.model.specs.Core.{Core, Th}
@@ -32,27 +31,33 @@ use Rattle.tied.proofs.Changes.{count-n}
 use Rattle.tied.proofs.Leaving.{leftT}
 
 -- what the lines hold persisted after one is, or none
-abbrev pub keeps : Touched → Machine → (memory.Line → Content) → memory.Line → Content
-keeps noLine m p = p
-keeps (aLine l) m p = putLine p l (cachedAt m l)
+abbrev pub keeps : memory.Touch → Machine → (memory.Line → Content) → memory.Line → Content
+keeps memory.nothing m p = p
+keeps (memory.aStore l) m p = p
+keeps (memory.aPersist l) m p = putLine p l (cachedAt m l)
 
--- the record persists what the core flushes
-abbrev pub Touches : Touched → Touch → Type 0
-Touches noLine nowhere = Unit {0}
-Touches noLine (stores l) = Unit {0}
-Touches noLine (flushes l) = ⊥
-Touches noLine (issues t) = ⊥
-Touches noLine (fences t l) = ⊥
-Touches (aLine k) nowhere = ⊥
-Touches (aLine k) (stores l) = ⊥
-Touches (aLine k) (flushes l) = l ≡ lineShown k
-Touches (aLine k) (issues t) = ⊥
-Touches (aLine k) (fences t l) = ⊥
+-- the record touches what the core touches
+abbrev pub Touches : memory.Touch → Touch → Type 0
+Touches memory.nothing nowhere = Unit {0}
+Touches memory.nothing (stores l) = ⊥
+Touches memory.nothing (flushes l) = ⊥
+Touches memory.nothing (issues t) = ⊥
+Touches memory.nothing (fences t l) = ⊥
+Touches (memory.aStore k) nowhere = ⊥
+Touches (memory.aStore k) (stores l) = l ≡ lineShown k
+Touches (memory.aStore k) (flushes l) = ⊥
+Touches (memory.aStore k) (issues t) = ⊥
+Touches (memory.aStore k) (fences t l) = ⊥
+Touches (memory.aPersist k) nowhere = ⊥
+Touches (memory.aPersist k) (stores l) = ⊥
+Touches (memory.aPersist k) (flushes l) = l ≡ lineShown k
+Touches (memory.aPersist k) (issues t) = ⊥
+Touches (memory.aPersist k) (fences t l) = ⊥
 
-pub record StepT (p : memory.Line → Content) (m : Machine) (w : Touched) (o : machine.Out) (O : Out) : Type 0 where
-  pub tied : Tied (keeps w m p) (o .machine) (O .core)
+pub record StepT (p : memory.Line → Content) (m : Machine) (o : machine.Acted) (O : Out) : Type 0 where
+  pub tied : Tied (keeps (o .touch) m p) (o .machine) (O .core)
   pub says : o .answer ≡ answerOf (O .ans)
-  pub touch : Touches w (O .touch)
+  pub touch : Touches (o .touch) (O .touch)
 
 pub link-in : (n x : ℕ) → Link n x → eqb x 255 ≡ false → x < n
 link-in n x (inl h) e = h
@@ -93,7 +98,7 @@ module _ (p : memory.Line → Content) (m : Machine) (c : Core) (d : Tied p m c)
   regs-of = d .threads .at k hk .regs
 
   -- the thread goes on to step s with what it has read
-  pub goes-on : (s : ℕ) (S : Th) → s ≤ 19 → S ≡ shownThread (atStep (thread m k) s) → ThreadAt (topOf (m .form)) (m .n) (atStep (thread m k) s) S (c .held k)
+  pub goes-on : (s : ℕ) (S : Th) → s ≤ lastStep → S ≡ shownThread (atStep (thread m k) s) → ThreadAt (topOf (m .form)) (m .n) (atStep (thread m k) s) S (c .held k)
   goes-on s S h e = record {
     stage = e;
     holds = d .threads .at k hk .holds;

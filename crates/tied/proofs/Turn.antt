@@ -11,7 +11,7 @@ use Rattle.answer.specs.Answers.{accepted}
 use Rattle.answer.specs.declared.Answer.the-variants.{Taken, Number, Busy, Idle, NotZero}
 use Rattle.machine.specs.Record.{kept}
 use Rattle.machine.specs.Line.{lineCount, persisted}
-use Rattle.machine.specs.Line as memory
+use Rattle.tied.specs.Memory as memory
 use Rattle.machine.specs.Stage as stage
 use Rattle.machine.specs.Start.{startOf}
 use Rattle.machine.specs.Event.{Deed, unknown, enqueues, dequeues, steps, writesBack, crashes, eventAnswer, threadTooLarge, lineTooLarge, itemNotZero, done}
@@ -21,7 +21,7 @@ use Rattle.machine.proofs.LineLaws as lines
 use Rattle.machine.proofs.LineLaws.{LineIn}
 use Rattle.machine.specs.declared.Event.{Event}
 use Rattle.schedule.specs.Run as run
-use Rattle.schedule.specs.Run.{noLine, aLine, turned, persists}
+use Rattle.schedule.specs.Run.{turned}
 use Rattle.model.specs.Lines.{act, back, nowhere, flushes}
 use Rattle.model.specs.Conf.{Within, headLines}
 use Rattle.model.specs.Core.{Core, busy}
@@ -109,7 +109,7 @@ module _ (b : run.Bench) (B : Bench) (r : BenchT b B) where
     takes crashes a = tt
 
     -- and the same after it
-    pub turns : (δ : Deed) → accepted (eventAnswer q m e δ) ≡ true → BenchT (turned b (done m e δ .machine) e δ) (turn B (eventBy (m .n) δ e))
+    pub turns : (δ : Deed) → accepted (eventAnswer q m e δ) ≡ true → BenchT (turned b (done m e δ) δ) (turn B (eventBy (m .n) δ e))
     turns unknown a = no-way (sym a)
     turns enqueues a =
         let x = pass (threadTooLarge m e) (Number q) _ refl a in
@@ -118,8 +118,8 @@ module _ (b : run.Bench) (B : Bench) (r : BenchT b B) where
         record {
           kept = turnKept B (ev (act (enq (e .number) (e .item)))) (r .kept) (takes enqueues a);
           tied = own-kept _ _ _ d;
-          lists = goesOnT b (B .mach) _ _ noLine nowhere (r .lists) (r .kept .timed) (r .tied) d refl (λ l ne. refl) tt;
-          past = nextPast b (B .mach) _ _ noLine nowhere (r .lists) (r .kept .timed) (r .tied) d refl (λ l ne. refl) tt (r .past);
+          lists = goesOnT b (B .mach) _ _ memory.nothing nowhere (r .lists) (r .kept .timed) (r .tied) d refl (λ l ne. refl) tt;
+          past = nextPast b (B .mach) _ _ memory.nothing nowhere (r .lists) (r .kept .timed) (r .tied) d refl (λ l ne. refl) tt (r .past);
         }
     turns dequeues a =
         let x = pass (threadTooLarge m e) (Number q) _ refl a in
@@ -128,8 +128,8 @@ module _ (b : run.Bench) (B : Bench) (r : BenchT b B) where
         record {
           kept = turnKept B (ev (act (deq (e .number)))) (r .kept) (takes dequeues a);
           tied = own-kept _ _ _ d;
-          lists = goesOnT b (B .mach) _ _ noLine nowhere (r .lists) (r .kept .timed) (r .tied) d refl (λ l ne. refl) tt;
-          past = nextPast b (B .mach) _ _ noLine nowhere (r .lists) (r .kept .timed) (r .tied) d refl (λ l ne. refl) tt (r .past);
+          lists = goesOnT b (B .mach) _ _ memory.nothing nowhere (r .lists) (r .kept .timed) (r .tied) d refl (λ l ne. refl) tt;
+          past = nextPast b (B .mach) _ _ memory.nothing nowhere (r .lists) (r .kept .timed) (r .tied) d refl (λ l ne. refl) tt (r .past);
         }
     turns steps a =
         let x = pass (threadTooLarge m e) (Number q) _ refl a in
@@ -138,8 +138,8 @@ module _ (b : run.Bench) (B : Bench) (r : BenchT b B) where
         record {
           kept = turnKept B (ev (act (move (e .number)))) (r .kept) (takes steps a);
           tied = own-kept _ _ _ (s .tied);
-          lists = goesOnT b (B .mach) _ _ (persists m e steps) _ (r .lists) (r .kept .timed) (r .tied) (s .tied) (conf-same c (move (e .number))) (frame c (move (e .number))) (s .touch);
-          past = nextPast b (B .mach) _ _ (persists m e steps) _ (r .lists) (r .kept .timed) (r .tied) (s .tied) (conf-same c (move (e .number))) (frame c (move (e .number))) (s .touch) (r .past);
+          lists = goesOnT b (B .mach) _ _ (done m e steps .touch) _ (r .lists) (r .kept .timed) (r .tied) (s .tied) (conf-same c (move (e .number))) (frame c (move (e .number))) (s .touch);
+          past = nextPast b (B .mach) _ _ (done m e steps .touch) _ (r .lists) (r .kept .timed) (r .tied) (s .tied) (conf-same c (move (e .number))) (frame c (move (e .number))) (s .touch) (r .past);
         }
     turns writesBack a =
         let x = pass (lineTooLarge m e) (Number q) _ refl a in
@@ -147,8 +147,8 @@ module _ (b : run.Bench) (B : Bench) (r : BenchT b B) where
         record {
           kept = turnKept B (ev (back (lineShown (line-of e)))) (r .kept) (takes writesBack a);
           tied = own-kept _ _ _ d;
-          lists = goesOnT b (B .mach) c _ (aLine (line-of e)) (flushes (lineShown (line-of e))) (r .lists) (r .kept .timed) (r .tied) d refl (λ l ne. refl) refl;
-          past = nextPast b (B .mach) c _ (aLine (line-of e)) (flushes (lineShown (line-of e))) (r .lists) (r .kept .timed) (r .tied) d refl (λ l ne. refl) refl (r .past);
+          lists = goesOnT b (B .mach) c _ (memory.aPersist (line-of e)) (flushes (lineShown (line-of e))) (r .lists) (r .kept .timed) (r .tied) d refl (λ l ne. refl) refl;
+          past = nextPast b (B .mach) c _ (memory.aPersist (line-of e)) (flushes (lineShown (line-of e))) (r .lists) (r .kept .timed) (r .tied) d refl (λ l ne. refl) refl (r .past);
         }
     turns crashes a =
         let dm = fit-dummy (persisted m) (m .t) (machine.persisted (B .mach)) persistedT persisted-fit in
@@ -160,7 +160,7 @@ module _ (b : run.Bench) (B : Bench) (r : BenchT b B) where
         }
 
     -- N stays
-    pub turned-size : (δ : Deed) → accepted (eventAnswer q m e δ) ≡ true → turned b (done m e δ .machine) e δ .machine .n ≡ m .n
+    pub turned-size : (δ : Deed) → accepted (eventAnswer q m e δ) ≡ true → turned b (done m e δ) δ .machine .n ≡ m .n
     turned-size unknown a = no-way (sym a)
     turned-size enqueues a = refl
     turned-size dequeues a = refl

@@ -6,7 +6,9 @@ use mathlib.Core.Logic.{_⊎_}
 use Prim.Native.Nat.{ℕ, _+_, _≤_, _<_}
 use lib.ListN.{getD, length}
 use Rattle.image.specs.declared.Content.{Content}
-use Rattle.machine.specs.Line.{Line, ofHead, cachedAt, persistedAt}
+use Rattle.machine.specs.Line.{cachedAt, persistedAt}
+use Rattle.machine.specs.declared.Line.{Line}
+use Rattle.machine.specs.declared.Line.the-variants.{OfHead as ofHead}
 use Rattle.machine.specs.Place.{inQueue, isFree, isWaiting, isHeld, inEnqueue, inDequeue, placesOf}
 use Rattle.machine.specs.Start.{blankMachine}
 use Rattle.machine.specs.declared.Machine.{Machine}

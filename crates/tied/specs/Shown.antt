@@ -11,7 +11,7 @@ use Rattle.image.specs.declared.Content.{Content}
 use Rattle.image.specs.declared.Image.{Image}
 use Rattle.image.specs.Layout.{contentAt, headIn}
 use Rattle.image.specs.Form.{topOf}
-use Rattle.machine.specs.Line as memory
+use Rattle.tied.specs.Memory as memory
 use Rattle.machine.specs.Stage.{Stage, noStep, A1, A2, A3, A4, A5, A6, A7, A8, A9, A10, A11, A12, D1, D2, D3, D4, D5, D6, D7, stageOf}
 use Rattle.machine.specs.declared.Thread.{Thread}
 use Rattle.machine.specs.declared.Event.{Event}

@@ -18,8 +18,9 @@ act-requires c κs = sym (c .before .in-range .ensures) ∙ not-false (c .before
 
 returns-2 : tie.Need-returns-2
 returns-2 c =
-    let a = c .before .before .before .args in
-    rw (by.on-in (a .m) (a .e) (sym (c .before .before .in-range .ensures) ∙ not-false (c .before .before .in-range .result) (c .before .if1 .left)), c .act .ensures) (refl, refl)
+    let a = c .before .before .before .before .args in
+    let r = c .before .before .before .in-range in
+    rw (by.on-in (a .m) (a .e) (sym (r .ensures) ∙ not-false (r .result) (c .before .before .if1 .left)), c .before .act .ensures) (refl, refl)
 
 pub on-event-spec : {M : Type 1} → statement M
 on-event-spec = tie.close (tie.spec in-range-requires returns act-requires returns-2)

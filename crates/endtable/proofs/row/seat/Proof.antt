@@ -1,4 +1,4 @@
-use Rattle.endtable.specs.Rows.{seatOf, isAt}
+use Rattle.moments.specs.Seats.{seatOf, isAt}
 use Rattle.lists.specs.Find.{least}
 use native.Mathlib.Nat.{sub-zero}
 use Prim.Native.Nat.{_≤_, _-_}

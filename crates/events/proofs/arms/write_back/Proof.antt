@@ -1,11 +1,14 @@
-use mathlib.Core.Path.{refl}
+use mathlib.Core.Path.{refl, sym, subst}
 use native.Mathlib.Omega.{arith}
 use borrow.Author.Tests.{eq-eqb, ne-eqb, le-leb, lt-leb}
 use borrow.Author.Needs.{needs}
 use Rattle.answer.specs.declared.Answer.the-variants.{Taken, Number, NotZero}
-use Rattle.machine.specs.Line.{lineCount}
+use Rattle.machine.specs.Line.{lineCount, lineAt}
 use Rattle.machine.specs.Event.{writesBack}
 use Rattle.image.proofs.HeadLaws.{one-head}
+use Rattle.machine.proofs.LineLaws.{line-in}
+use Rattle.hands.specs.Places.{HasPlace}
+use Rattle.hands.proofs.HandLaws.{place-in}
 use Rattle.events.proofs.ByAnswer as by
 use Rattle.range.proofs.InRange as range
 use Rattle.events.proofs.arms.write_back.Statement.{statement}
@@ -21,17 +24,21 @@ returns-2 c =
     let a = c .before .before .before .before .before .args in
     by.refused (a .p) (a .m) (a .e) writesBack (NotZero (a .p)) (rw (lt-leb (lineCount (a .m .n)) (a .e .number) (omega (arith, one-head (a .m .n), c .before .before .if1 .left)), ne-eqb _ _ (c .if2 .taken))) refl
 
-cast-persist-line : tie.Need-cast-persist-line
-cast-persist-line c = search needs
+line-at-requires : tie.Need-line-at-requires
+line-at-requires c κs = search needs
 
 persist-line-requires : tie.Need-persist-line-requires
-persist-line-requires c κs = omega (arith, range.in-range _ (c .before .before .before .before .before .before .pre) .sizes .nodes-high, c .before .before .before .if1 .left)
+persist-line-requires c κs =
+    let z = c .before .before .before .before .before .before in
+    let a = z .args in
+    let in-line = line-in (a .m .n) (a .e .number) (omega (arith, one-head (a .m .n), c .before .before .before .if1 .left)) in
+    subst HasPlace (sym (c .line-at .ensures)) (place-in (a .m .n) (lineAt (a .m .n) (a .e .number)) (range.in-range _ (z .pre) .sizes .nodes-high) in-line)
 
 returns-3 : tie.Need-returns-3
 returns-3 c =
     let a = c .before .before .before .before .before .before .before .args in
-    rw (c .persist-line .ensures) (by.taken (a .p) (a .m) (a .e) writesBack Taken (rw (lt-leb (lineCount (a .m .n)) (a .e .number) (omega (arith, one-head (a .m .n), c .before .before .before .before .if1 .left)), eq-eqb _ _ (c .before .before .if2 .left))) refl)
+    rw (c .persist-line .ensures, c .before .line-at .ensures) (by.taken (a .p) (a .m) (a .e) writesBack Taken (rw (lt-leb (lineCount (a .m .n)) (a .e .number) (omega (arith, one-head (a .m .n), c .before .before .before .before .if1 .left)), eq-eqb _ _ (c .before .before .if2 .left))) refl)
 
 pub write-back-spec : {M : Type 1} → statement M
 write-back-spec =
-    tie.close (tie.spec returns returns-2 cast-persist-line persist-line-requires returns-3)
+    tie.close (tie.spec returns returns-2 line-at-requires persist-line-requires returns-3)

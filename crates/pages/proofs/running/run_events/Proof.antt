@@ -17,7 +17,7 @@ use Rattle.machine.proofs.start.start.Reads as start-reads
 use Rattle.pages.proofs.rows.opened_rows.Reads as opened-rows-reads
 use Rattle.pages.proofs.rows.row_joined.Reads as row-joined-reads
 use Rattle.endtable.proofs.opened.cached_at.Reads as cached-at-reads
-use Rattle.endtable.proofs.touch.touched.Reads as touched-reads
+use Rattle.endtable.proofs.touched.touched_row.Reads as touched-row-reads
 
 abbrev Inv-loop : tie.InvT-loop
 Inv-loop s t n count m₀ rows₀ i₀ m rows i = (i ≤ count) × Going s i m rows
@@ -64,8 +64,8 @@ returns c =
     let e = c .before .before .before .event-at in
     laws.going-stop (z .args .s .now) (z .args .d) (z .pre .1) (p .i) (p .m) (p .rows) (p .inv .1) (omega arith) (e .result) (o .result) (k .result) (e .ensures) (o .ensures) (k .ensures) (c .if1 .taken)
 
-touched-requires : tie.Need-touched-requires Inv-loop μ-loop
-touched-requires c κs = search needs
+touched-row-requires : tie.Need-touched-row-requires Inv-loop μ-loop
+touched-row-requires c κs = search needs
 
 add-i : tie.Need-add-i Inv-loop μ-loop
 add-i c = omega arith
@@ -91,21 +91,21 @@ loop-again c =
     let k = x .before .is-taken in
     let o = x .before .before .act in
     let e = x .before .before .before .event-at in
-    (omega arith, laws.going-on (z .args .s .now) (z .args .d) (z .pre .1) (p .i) (p .m) (p .rows) (p .inv .1) (omega arith) (e .result) (o .result) (k .result) (e .ensures) (o .ensures) (k .ensures) (x .if1 .left) (c .opened-rows2 .result) (c .opened-rows2 .ensures ∙ rows.after-crash (p .rows) (p .m) (e .result) (o .result .machine) (c .before .if2 .taken)))
+    (omega arith, laws.going-on (z .args .s .now) (z .args .d) (z .pre .1) (p .i) (p .m) (p .rows) (p .inv .1) (omega arith) (e .result) (o .result) (k .result) (e .ensures) (o .ensures) (k .ensures) (x .if1 .left) (c .opened-rows2 .result) (c .opened-rows2 .ensures ∙ rows.after-crash (p .rows) (e .result) (o .result) (c .before .if2 .taken)))
 
 loop-less-2 : tie.Need-loop-less-2 Inv-loop μ-loop
 loop-less-2 c = omega arith
 
 loop-again-2 : tie.Need-loop-again-2 Inv-loop μ-loop
 loop-again-2 c =
-    let w = c .before .before .before .touched in
+    let w = c .before .before .before .touched-row in
     let x = c .before .before .before .before .before in
     let z = x .before .before .before .before .before .before .before .before .before .before .before .before .before in
     let p = x .before .before .before .before .before .loop in
     let k = x .before .is-taken in
     let o = x .before .before .act in
     let e = x .before .before .before .event-at in
-    (omega arith, laws.going-on (z .args .s .now) (z .args .d) (z .pre .1) (p .i) (p .m) (p .rows) (p .inv .1) (omega arith) (e .result) (o .result) (k .result) (e .ensures) (o .ensures) (k .ensures) (x .if1 .left) (p .rows) (rows.after-none (p .rows) (p .m) (e .result) (o .result .machine) (c .before .if2 .left) (w .result) (w .ensures) (c .if3 .taken)))
+    (omega arith, laws.going-on (z .args .s .now) (z .args .d) (z .pre .1) (p .i) (p .m) (p .rows) (p .inv .1) (omega arith) (e .result) (o .result) (k .result) (e .ensures) (o .ensures) (k .ensures) (x .if1 .left) (p .rows) (rows.after-none (p .rows) (e .result) (o .result) (c .before .if2 .left) (w .result) (w .ensures) (c .if3 .taken)))
 
 mul-row : tie.Need-mul-row Inv-loop μ-loop
 mul-row c = omega arith
@@ -131,7 +131,7 @@ loop-less-3 c = omega arith
 loop-again-3 : tie.Need-loop-again-3 Inv-loop μ-loop
 loop-again-3 c =
     let l = c .before .before .before in
-    let w = l .before .before .before .touched in
+    let w = l .before .before .before .touched-row in
     let x = l .before .before .before .before .before in
     let z = x .before .before .before .before .before .before .before .before .before .before .before .before .before in
     let p = x .before .before .before .before .before .loop in
@@ -139,7 +139,7 @@ loop-again-3 c =
     let o = x .before .before .act in
     let e = x .before .before .before .event-at in
     let lt = x .before .before .before .before .loop-test .taken in
-    (omega (arith, lt), laws.going-on (z .args .s .now) (z .args .d) (z .pre .1) (p .i) (p .m) (p .rows) (p .inv .1) lt (e .result) (o .result) (k .result) (e .ensures) (o .ensures) (k .ensures) (x .if1 .left) _ (rows.after-touch (p .rows) (p .m) (e .result) (o .result .machine) (l .before .if2 .left) (w .result) (w .ensures) (l .if3 .left) (c .before .cached-at .result) (c .before .cached-at .ensures) (c .row-joined .result) (c .row-joined .ensures)))
+    (omega (arith, lt), laws.going-on (z .args .s .now) (z .args .d) (z .pre .1) (p .i) (p .m) (p .rows) (p .inv .1) lt (e .result) (o .result) (k .result) (e .ensures) (o .ensures) (k .ensures) (x .if1 .left) _ (rows.after-touch (p .rows) (e .result) (o .result) (l .before .if2 .left) (w .result) (w .ensures) (l .if3 .left) (c .before .cached-at .result) (c .before .cached-at .ensures) (c .row-joined .result) (c .row-joined .ensures)))
 
 returns-2 : tie.Need-returns-2 Inv-loop μ-loop
 returns-2 c = let z = c .before .before .before .before .before .before .before .before .before in let p = c .before .loop in laws.going-end (z .args .s .now) (p .i) (p .m) (p .rows) (p .inv .1) (omega (arith, laws.count-is (z .args .s .now) (z .args .d) (z .pre .1)))
@@ -161,7 +161,7 @@ run-events-spec =
     act-requires
     is-taken-requires
     returns
-    touched-requires
+    touched-row-requires
     add-i
     opened-rows-requires-2
     loop-less

@@ -9,7 +9,7 @@ use Rattle.pages.proofs.tables.counts_of.Statement.{statement}
 use Rattle.pages.proofs.tables.counts_of.Tie as tie
 use Rattle.pages.proofs.tables.counts_of.Reads as reads
 use Rattle.pages.proofs.tables.counts_of.Lts as lts
-use Rattle.pages.proofs.tables.no_counts.Reads as no-counts-reads
+use Rattle.endtable.proofs.opened.blank_counts.Reads as blank-counts-reads
 
 abbrev Inv-loop : tie.InvT-loop
 Inv-loop rows counts₀ i₀ counts i = (i ≤ 65) × (counts ≡ countsTo rows i)
@@ -17,11 +17,11 @@ Inv-loop rows counts₀ i₀ counts i = (i ≤ 65) × (counts ≡ countsTo rows 
 abbrev μ-loop : tie.MeasureT-loop
 μ-loop rows counts₀ i₀ counts i = 65 - i
 
-no-counts-requires : tie.Need-no-counts-requires Inv-loop μ-loop
-no-counts-requires c κs = omega arith
+blank-counts-requires : tie.Need-blank-counts-requires Inv-loop μ-loop
+blank-counts-requires c κs = omega arith
 
 loop-holds : tie.Need-loop-holds Inv-loop μ-loop
-loop-holds c = (omega arith, c .no-counts .ensures ∙ laws.counts-none (c .before .args .t1))
+loop-holds c = (omega arith, c .blank-counts .ensures ∙ laws.counts-none (c .before .args .t1))
 
 mul-row : tie.Need-mul-row Inv-loop μ-loop
 mul-row c = omega arith
@@ -57,7 +57,7 @@ counts-of-spec =
     (tie.spec
     Inv-loop
     μ-loop
-    no-counts-requires
+    blank-counts-requires
     loop-holds
     mul-row
     array-copy-out-row

@@ -9,7 +9,7 @@ use Rattle.pages.proofs.tables.table_of.Statement.{statement}
 use Rattle.pages.proofs.tables.table_of.Tie as tie
 use Rattle.pages.proofs.tables.table_of.Reads as reads
 use Rattle.pages.proofs.tables.table_of.Lts as lts
-use Rattle.pages.proofs.tables.no_table.Reads as no-table-reads
+use Rattle.endtable.proofs.opened.blank_table.Reads as blank-table-reads
 
 abbrev Inv-loop : tie.InvT-loop
 Inv-loop rows t₀ i₀ t i = (i ≤ 65) × (t ≡ atsTo rows i)
@@ -17,11 +17,11 @@ Inv-loop rows t₀ i₀ t i = (i ≤ 65) × (t ≡ atsTo rows i)
 abbrev μ-loop : tie.MeasureT-loop
 μ-loop rows t₀ i₀ t i = 65 - i
 
-no-table-requires : tie.Need-no-table-requires Inv-loop μ-loop
-no-table-requires c κs = omega arith
+blank-table-requires : tie.Need-blank-table-requires Inv-loop μ-loop
+blank-table-requires c κs = omega arith
 
 loop-holds : tie.Need-loop-holds Inv-loop μ-loop
-loop-holds c = (omega arith, c .no-table .ensures ∙ laws.ats-none (c .before .args .t1))
+loop-holds c = (omega arith, c .blank-table .ensures ∙ laws.ats-none (c .before .args .t1))
 
 mul-row : tie.Need-mul-row Inv-loop μ-loop
 mul-row c = omega arith
@@ -60,7 +60,7 @@ table-of-spec =
     (tie.spec
     Inv-loop
     μ-loop
-    no-table-requires
+    blank-table-requires
     loop-holds
     mul-row
     array-copy-out-row

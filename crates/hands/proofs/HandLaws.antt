@@ -1,0 +1,67 @@
+-- Laws that the proofs of this crate's functions use.
+use Prim.Native.Nat.{ℕ, zero, suc, _+_, _^_, _≤_, _<_}
+use mathlib.Core.Path.{_≡_, refl, sym, ap, ap₂, _∙_}
+use native.Mathlib.Omega.{arith}
+use native.Mathlib.Numerals.{add-one}
+use Rattle.lists.specs.Find.{pick}
+use Rattle.lists.specs.Word.{with, without, wordOf}
+use Rattle.lists.proofs.WordLaws as words
+use Rattle.machine.specs.Record.{node, headAt, contentOf, withWaits, putNode, putFree, putKept, putKeptHead}
+use Rattle.machine.specs.Line.{persist}
+use Rattle.machine.specs.declared.Line.{Line}
+use Rattle.machine.specs.declared.Line.the-variants.{OfHead as ofHead, OfNode as ofNode}
+use Rattle.machine.specs.Retire.{others, lastWait, releasedAt, released}
+use Rattle.machine.specs.declared.Machine.{Machine}
+use Rattle.image.proofs.HeadLaws.{one-head}
+use Rattle.machine.proofs.LineLaws.{LineIn}
+use Rattle.hands.specs.Others.{isOther, joined, othersBelow}
+use Rattle.hands.specs.Places.{HasPlace}
+
+-- a number above all those in the set
+pub with-new : (w i : ℕ) → w < 2 ^ i → with w i ≡ w + 2 ^ i
+unfolding with
+with-new w i h = rw (words.has-beyond i w i h (omega arith))
+
+-- ---- the other threads
+
+pub below-is : (m : Machine) (k n : ℕ) → othersBelow m k n ≡ wordOf (λ u. isOther m k u) n
+unfolding othersBelow wordOf
+below-is m k zero = refl
+below-is m k (suc n) = ap (λ (w : ℕ). joined m k n w) (below-is m k n)
+
+pub others-is : (m : Machine) (k : ℕ) → others m k ≡ othersBelow m k (m .t)
+unfolding others
+others-is m k = sym (below-is m k (m .t))
+
+pub below-lt : (m : Machine) (k n : ℕ) → othersBelow m k n < 2 ^ n
+below-lt m k n = rw (below-is m k n) (words.wordOf-lt (λ u. isOther m k u) n)
+
+-- ---- one node more no longer waits: its waits and the free set are put in place
+
+pub released-next : (m r : Machine) (k i : ℕ) → r ≡ released m k i → (w f : ℕ) → w ≡ without (node r i .waits) k
+    → f ≡ pick (lastWait (node r i .waits) k) (with (r .free) i) (r .free)
+    → putFree (putNode r i (withWaits (node r i) w)) f ≡ released m k (i + 1)
+unfolding released releasedAt
+released-next m r k i e w f rest free =
+    ap₂ (λ (x y : ℕ). putFree (putNode r i (withWaits (node r i) x)) y) rest free
+    ∙ ap (λ (x : Machine). releasedAt x k i) e
+    ∙ ap (released m k) (sym (add-one i))
+
+-- ---- a line, known to be a head line or a node's
+
+pub persist-head : (m : Machine) (l : Line) (k : ℕ) → l ≡ ofHead k → putKeptHead m k (headAt m k) ≡ persist m l
+persist-head m l k e = sym (ap (persist m) e)
+
+pub persist-node : (m : Machine) (l : Line) (i : ℕ) → l ≡ ofNode i → putKept m i (contentOf (node m i)) ≡ persist m l
+persist-node m l i e = sym (ap (persist m) e)
+
+pub place-head : (l : Line) (k : ℕ) → l ≡ ofHead k → HasPlace l → k < 8
+place-head l k e h = rw e at h
+
+pub place-node : (l : Line) (i : ℕ) → l ≡ ofNode i → HasPlace l → i < 64
+place-node l i e h = rw e at h
+
+-- every line that there is
+pub place-in : (n : ℕ) (l : Line) → n ≤ 64 → LineIn n l → HasPlace l
+place-in n (ofHead k) h i = omega (arith, one-head n)
+place-in n (ofNode i) h j = omega arith

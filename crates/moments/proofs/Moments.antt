@@ -1,0 +1,104 @@
+-- How a line's list of contents goes on, moment by moment.
+use Prim.Native.Nat.{ℕ, _+_, _≤_, _<_}
+use mathlib.Core.Path.{_≡_, refl, sym, ap, _∙_}
+use mathlib.Core.List.{List, [], _∷_, _++_, map, map-append}
+use native.Mathlib.Omega.{arith}
+use lib.ListN.{length, getD, drop, length-append}
+use lib.Seq.{drop-append-le, drop-append-seam}
+use Rattle.lists.proofs.TabLaws as tabs
+use Rattle.image.specs.declared.Content.{Content}
+use Rattle.machine.specs.Line.{lineCount, lineAt, cachedAt, persistedAt}
+use Rattle.machine.specs.declared.Line.{Line}
+use Rattle.machine.specs.declared.Machine.{Machine}
+use Rattle.machine.proofs.LineLaws.{put-same, put-other, put-ind}
+use Rattle.schedule.specs.Run.{Bench, begins, goesOn, fromAfter}
+use Rattle.page.specs.Contents.{joins, gathered, contentsOf, tableOf}
+use Rattle.machine.specs.declared.Touch.{Touch}
+use Rattle.machine.specs.declared.Touch.the-variants.{Nothing as nothing, Store as aStore, Persist as aPersist}
+use Rattle.moments.specs.Moments.{Timed}
+use Rattle.moments.specs.Frame.{Persists}
+use Rattle.moments.proofs.Joins as joined
+
+-- ---- the moments from which contents count
+
+-- the moment of a line that is not persisted stays
+from-other : (w : Touch) (k : ℕ) (f : Line → ℕ) (l : Line) → (Persists w l → ⊥) → fromAfter w k f l ≡ f l
+from-other nothing k f l ne = refl
+from-other (aStore x) k f l ne = refl
+from-other (aPersist x) k f l ne = put-other f x k l ne
+
+from-le : (w : Touch) (k : ℕ) (f : Line → ℕ) (l : Line) → f l ≤ k → fromAfter w k f l ≤ k
+from-le nothing k f l h = h
+from-le (aStore x) k f l h = h
+from-le (aPersist x) k f l h = put-ind f x k (λ j y. y ≤ k) l (omega arith) (λ ne. h)
+
+-- ---- every bench of a run is timed
+
+pub timed-begins : (m : Machine) → Timed (begins m)
+timed-begins m = record {
+  before = [];
+  now = refl;
+  early = λ l. omega arith;
+}
+
+pub timed-goes : (b : Bench) (m : Machine) (w : Touch) → Timed b → Timed (goesOn b m w)
+timed-goes b m w t = record {
+  before = b .past;
+  now = refl;
+  early = λ l. from-le w (length (b .past)) (b .from) l (omega (arith, t .early l, ap length (t .now), length-append (t .before) (b .machine ∷ [])));
+}
+
+-- ---- the contents
+
+-- a line's contents at each of some moments
+abbrev seen : Line → List Machine → List Content
+seen l ms = map (λ m. cachedAt m l) ms
+
+seen-more : (l : Line) (k : ℕ) (ms : List Machine) (m : Machine) → k ≤ length ms → seen l (drop k (ms ++ (m ∷ []))) ≡ seen l (drop k ms) ++ (cachedAt m l ∷ [])
+seen-more l k ms m h = ap (seen l) (drop-append-le k ms (m ∷ []) h) ∙ map-append (λ m. cachedAt m l) (drop k ms) (m ∷ [])
+
+-- after a start: the persisted content, joined by the cached one
+pub contents-begin : (m : Machine) (l : Line) → contentsOf (begins m) l ≡ joins (persistedAt m l ∷ []) (cachedAt m l)
+unfolding contentsOf gathered
+contents-begin m l = refl
+
+-- a line that was persisted has its present content alone
+pub contents-persisted : (b : Bench) (m : Machine) (l : Line) → persistedAt m l ≡ cachedAt m l → contentsOf (goesOn b m (aPersist l)) l ≡ cachedAt m l ∷ []
+unfolding contentsOf gathered
+contents-persisted b m l e =
+    rw (put-same (b .from) l (length (b .past)), drop-append-seam (b .past) (m ∷ []), e)
+    (joined.joins-first (cachedAt m l) [] (cachedAt m l) (joined.same-self (cachedAt m l)))
+
+module _ (b : Bench) (t : Timed b) (m : Machine) (w : Touch) (l : Line) (ne : Persists w l → ⊥) (kept : persistedAt m l ≡ persistedAt (b .machine) l) where
+  -- any other line's list is joined by the present content
+  pub contents-joined : contentsOf (goesOn b m w) l ≡ joins (contentsOf b l) (cachedAt m l)
+  unfolding contentsOf
+  contents-joined =
+      rw (from-other w (length (b .past)) (b .from) l ne, kept)
+      (ap (gathered (persistedAt (b .machine) l ∷ [])) (seen-more l (b .from l) (b .past) m in-time)
+      ∙ joined.gathered-more (persistedAt (b .machine) l ∷ []) (seen l (drop (b .from l) (b .past))) (cachedAt m l))
+    where
+      in-time : b .from l ≤ length (b .past)
+      in-time = omega (arith, t .early l, ap length (t .now), length-append (t .before) (b .machine ∷ []))
+
+-- the list has the present content
+pub contents-present : (b : Bench) → Timed b → (l : Line) → joins (contentsOf b l) (cachedAt (b .machine) l) ≡ contentsOf b l
+unfolding contentsOf
+contents-present b t l =
+    rw (ap (λ ms. seen l (drop (b .from l) ms)) (t .now) ∙ seen-more l (b .from l) (t .before) (b .machine) (t .early l))
+    (joined.gathered-last (persistedAt (b .machine) l ∷ []) (seen l (drop (b .from l) (t .before))) (cachedAt (b .machine) l))
+
+-- so a line that an event leaves alone keeps its list
+pub contents-kept : (b : Bench) → Timed b → (m : Machine) (w : Touch) (l : Line) → (Persists w l → ⊥) → persistedAt m l ≡ persistedAt (b .machine) l
+    → cachedAt m l ≡ cachedAt (b .machine) l → contentsOf (goesOn b m w) l ≡ contentsOf b l
+contents-kept b t m w l ne p e = contents-joined b t m w l ne p ∙ ap (joins (contentsOf b l)) e ∙ contents-present b t l
+
+-- ---- the table of lists
+
+pub table-length : (b : Bench) → length (tableOf b) ≡ lineCount (b .machine .n)
+unfolding tableOf
+table-length b = tabs.length-tab (λ l. contentsOf b (lineAt (b .machine .n) l)) (lineCount (b .machine .n))
+
+pub table-at : (b : Bench) (l : ℕ) → l < lineCount (b .machine .n) → getD (tableOf b) l [] ≡ contentsOf b (lineAt (b .machine .n) l)
+unfolding tableOf
+table-at b l h = tabs.getD-tab (λ l. contentsOf b (lineAt (b .machine .n) l)) (lineCount (b .machine .n)) l [] h

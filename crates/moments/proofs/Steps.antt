@@ -1,0 +1,164 @@
+-- Every step and every event leaves all lines alone but the one it touches.
+use Prim.Native.Nat.{ℕ, _+_}
+use mathlib.Core.Path.{_≡_, refl, sym, ap, subst, _∙_}
+use mathlib.Core.Bool.{Bool, true, false}
+use native.Mathlib.Omega.{arith}
+use lib.ListN.{length}
+use lib.Dec.{eqb, leb}
+use Rattle.lists.specs.Find.{pick, both}
+use Rattle.answer.specs.Answers.{accepted}
+use Rattle.answer.specs.declared.Answer.{Answer}
+use Rattle.image.specs.Form.{topOf}
+use Rattle.machine.specs.Record.{none, node, thread, headAt, withItem, withNext, withLinked, withIndex, putNode, putTail}
+use Rattle.machine.specs.Stage.{Stage, noStep, A1, A2, A3, A4, A5, A6, A7, A8, A9, A10, A11, A12, D1, D2, D3, D4, D5, D6, D7, stage}
+use Rattle.machine.specs.Line.{lineAt, persist}
+use Rattle.machine.specs.declared.Line.the-variants.{OfHead as ofHead, OfNode as ofNode}
+use Rattle.machine.specs.Retire.{quiet, left, freed, released, retired, retiredHeld}
+use Rattle.machine.specs.Event.{Deed, unknown, enqueues, dequeues, steps, writesBack, crashes, deedOf, eventAnswer, stepped, done, ifTaken, eventAt}
+use Rattle.machine.specs.declared.Machine.{Machine}
+use Rattle.machine.specs.declared.Event.{Event}
+use Rattle.machine.specs.declared.Acted.{Acted}
+use Rattle.machine.proofs.LineLaws.{line-node, line-zero, number-line}
+use Rattle.machine.specs.declared.Touch.{Touch}
+use Rattle.machine.specs.declared.Touch.the-variants.{Nothing as nothing, Store as aStore, Persist as aPersist}
+use Rattle.schedule.specs.Run.{Bench, goesOn, turned, forward}
+use Rattle.moments.specs.Frame.{Even, Frame}
+use Rattle.moments.proofs.Frame as frame
+
+-- ---- the steps
+
+-- a step that touches no line
+still : (m m′ : Machine) → frame.Same m m′ → Frame m m′ nothing
+still m m′ s = frame.frame-same m m′ s
+
+answers : (m a : Machine) (k x : ℕ) → frame.Same m a → frame.Same m (left a k x)
+answers m a k x s =
+    let r = frame.same-then m a (released a k (a .n)) s (frame.same-released a k (a .n)) in
+    record { size = r .size; index = r .index; nodes = r .nodes; head = r .head; kept = r .kept }
+
+-- a thread moves on, and the contents are those of a
+moves : (m a b : Machine) → frame.Same m a → b .n ≡ a .n → b .heads ≡ a .heads → b .nodes ≡ a .nodes → b .«kept_heads» ≡ a .«kept_heads» → b .kept ≡ a .kept → frame.Same m b
+moves m a b s p q r t u = record {
+  size = p ∙ s .size;
+  index = q ∙ s .index;
+  nodes = rw r (s .nodes);
+  head = t ∙ s .head;
+  kept = u ∙ s .kept;
+}
+
+module _ (m : Machine) (k : ℕ) where
+  picked : (t : Bool) (a b : Acted) → Frame m (a .machine) (a .touch) → Frame m (b .machine) (b .touch) → Frame m (pick t a b .machine) (pick t a b .touch)
+  picked true a b p q = p
+  picked false a b p q = q
+
+  here : (a : Machine) → a .n ≡ m .n → a .heads ≡ m .heads → a .nodes ≡ m .nodes → a .«kept_heads» ≡ m .«kept_heads» → a .kept ≡ m .kept → frame.Same m a
+  here a = moves m m a (frame.same-self m)
+
+  -- what a machine a with the frame w is after its thread moved
+  on : (a b : Machine) (w : Touch) → Frame m a w → b .n ≡ a .n → b .heads ≡ a .heads → b .nodes ≡ a .nodes → b .«kept_heads» ≡ a .«kept_heads» → b .kept ≡ a .kept → Frame m b w
+  on a b w f p q r t u = frame.frame-then m a b w f (moves a a b (frame.same-self a) p q r t u)
+
+  pub frame-step : Even m → (s : Stage) → Frame m (stepped m k s .machine) (stepped m k s .touch)
+  frame-step h noStep = still m m (frame.same-self m)
+  frame-step h A1 =
+      picked (eqb (m .free) 0) _ _
+      (still m _ (answers m m k (thread m k .held) (frame.same-self m)))
+      (still m _ (here _ refl refl refl refl refl))
+  frame-step h A2 = on _ _ _ (frame.frame-node m (thread m k .node) (withItem (node m (thread m k .node)) (thread m k .item))) refl refl refl refl refl
+  frame-step h A3 =
+      let i = thread m k .node in
+      still m _ (moves m (putNode m i (withNext (node m i) none)) _ (frame.same-node m i (withNext (node m i) none) refl) refl refl refl refl refl)
+  frame-step h A4 = on _ _ _ (frame.frame-node m (thread m k .node) (withLinked (node m (thread m k .node)) 0)) refl refl refl refl refl
+  frame-step h A5 = still m _ (here _ refl refl refl refl refl)
+  frame-step h A6 = still m _ (here _ refl refl refl refl refl)
+  frame-step h A7 =
+      let i = thread m k .node in
+      let t = thread m k .tail in
+      picked (leb (topOf (m .form)) (node m t .index)) _ _
+      (still m _ (answers m (freed m i) k _ (here _ refl refl refl refl refl)))
+      (on _ _ _ (frame.frame-node m i (withIndex (node m i) (node m t .index + 1))) refl refl refl refl refl)
+  frame-step h A8 =
+      let i = thread m k .node in
+      let t = thread m k .tail in
+      picked (eqb (node m t .next) none) _ _
+      (still m _ (moves m (putNode m t (withNext (node m t) i)) _ (frame.same-node m t (withNext (node m t) i) refl) refl refl refl refl refl))
+      (still m _ (here _ refl refl refl refl refl))
+  frame-step h A9 = on _ _ _ (frame.frame-node m (thread m k .node) (withLinked (node m (thread m k .node)) 1)) refl refl refl refl refl
+  frame-step h A10 =
+      let i = thread m k .node in
+      on (persist m (ofNode i)) _ _ (frame.frame-persist m (ofNode i) (line-node (m .n) i) h) refl refl refl refl refl
+  frame-step h A11 =
+      let b = pick (eqb (m .tail) (thread m k .tail)) (putTail m (thread m k .node)) m in
+      still m _ (answers m b k _ (frame.same-pick m (putTail m (thread m k .node)) m (eqb (m .tail) (thread m k .tail)) (here _ refl refl refl refl refl) (frame.same-self m)))
+  frame-step h A12 =
+      let t = thread m k .tail in
+      let b = pick (eqb (m .tail) t) (putTail m (node m t .next)) m in
+      still m _ (moves m b _ (frame.same-pick m (putTail m (node m t .next)) m (eqb (m .tail) t) (here _ refl refl refl refl refl) (frame.same-self m)) refl refl refl refl refl)
+  frame-step h D1 = still m _ (here _ refl refl refl refl refl)
+  frame-step h D2 = still m _ (here _ refl refl refl refl refl)
+  frame-step h D3 =
+      let p = persist m (ofHead 0) in
+      frame.frame-then m p _ (aPersist (ofHead 0)) (frame.frame-persist m (ofHead 0) (line-zero (m .n)) h) (answers p p k (thread m k .held) (frame.same-self p))
+  frame-step h D4 =
+      let x = thread m k .next in
+      picked (both (eqb (m .head) (thread m k .head)) (eqb (headAt m 0) (thread m k .index))) _ _
+      (on _ _ _ (frame.frame-head m x (node m x .index)) refl refl refl refl refl)
+      (still m _ (here _ refl refl refl refl refl))
+  frame-step h D5 = still m _ (here _ refl refl refl refl refl)
+  frame-step h D6 = on (persist m (ofHead 0)) _ _ (frame.frame-persist m (ofHead 0) (line-zero (m .n)) h) refl refl refl refl refl
+  frame-step h D7 =
+      still m _
+      (answers m (retiredHeld m k) k (thread m k .head)
+      (frame.same-pick m m (retired m k (thread m k .held)) (eqb (thread m k .held) none) (frame.same-self m) (frame.same-retired m k (thread m k .held))))
+
+-- ---- the events
+
+pub frame-done : (m : Machine) (e : Event) (d : Deed) → Even m → (d ≡ crashes → ⊥) → Frame m (done m e d .machine) (done m e d .touch)
+frame-done m e unknown h ne = still m m (frame.same-self m)
+frame-done m e enqueues h ne = still m _ (here m 0 _ refl refl refl refl refl)
+frame-done m e dequeues h ne = still m _ (here m 0 _ refl refl refl refl refl)
+frame-done m e steps h ne = frame-step m (e .number) h (stage m (e .number))
+frame-done m e writesBack h ne = frame.frame-persist m (lineAt (m .n) (e .number)) (ap (lineAt (m .n)) (number-line (m .n) (e .number))) h
+frame-done m e crashes h ne = absurd (ne refl)
+
+-- a taken event did what its kind says
+taken : (a : Answer) (m : Machine) (e : Event) (d : Deed) → accepted (ifTaken a m e d .answer) ≡ true → ifTaken a m e d ≡ done m e d
+taken a m e d h = by (accepted a) refl h
+  where
+    by : (b : Bool) → accepted a ≡ b → accepted (elim b as (λ _. Acted) [ true ↦ done m e d | false ↦ quiet a m ] .answer) ≡ true
+        → elim b as (λ _. Acted) [ true ↦ done m e d | false ↦ quiet a m ] ≡ done m e d
+    by true q p = refl
+    by false q p = absurd (let z : _≡_ {A = ℕ} 0 1 = cc in omega arith)
+
+pub event-done : (p : ℕ) (m : Machine) (e : Event) → accepted (eventAt p m e .answer) ≡ true → eventAt p m e ≡ done m e (deedOf (e .kind))
+unfolding eventAt
+event-done p m e h = taken (eventAnswer p m e (deedOf (e .kind))) m e (deedOf (e .kind)) h
+
+-- what any taken event but a crash leaves alone
+pub frame-event : (p : ℕ) (m : Machine) (e : Event) → Even m → accepted (eventAt p m e .answer) ≡ true
+    → (deedOf (e .kind) ≡ crashes → ⊥) → Frame m (eventAt p m e .machine) (eventAt p m e .touch)
+frame-event p m e h a ne = rw (event-done p m e a) (frame-done m e (deedOf (e .kind)) h ne)
+
+-- no event of an unknown kind is taken
+unknown-refused : (p : ℕ) (m : Machine) (e : Event) (d : Deed) → accepted (ifTaken (eventAnswer p m e d) m e d .answer) ≡ true → d ≡ unknown → ⊥
+unknown-refused p m e d h q =
+    let z : accepted (ifTaken (eventAnswer p m e unknown) m e unknown .answer) ≡ true = subst (λ (x : Deed). accepted (ifTaken (eventAnswer p m e x) m e x .answer) ≡ true) q h in
+    let y : _≡_ {A = ℕ} 0 1 = cc in
+    omega arith
+
+goes-on : (b : Bench) (o : Acted) (d : Deed) → (d ≡ unknown → ⊥) → (d ≡ crashes → ⊥) → turned b o d ≡ goesOn b (o .machine) (o .touch)
+goes-on b o unknown n1 n2 = absurd (n1 refl)
+goes-on b o enqueues n1 n2 = refl
+goes-on b o dequeues n1 n2 = refl
+goes-on b o steps n1 n2 = refl
+goes-on b o writesBack n1 n2 = refl
+goes-on b o crashes n1 n2 = absurd (n2 refl)
+
+known : (p : ℕ) (b : Bench) (e : Event) → accepted (eventAt p (b .machine) e .answer) ≡ true → deedOf (e .kind) ≡ unknown → ⊥
+unfolding eventAt
+known p b e h = unknown-refused p (b .machine) e (deedOf (e .kind)) h
+
+-- and the bench goes on from it
+pub turned-on : (p : ℕ) (b : Bench) (e : Event) → accepted (eventAt p (b .machine) e .answer) ≡ true → (deedOf (e .kind) ≡ crashes → ⊥)
+    → forward p b e ≡ goesOn b (eventAt p (b .machine) e .machine) (eventAt p (b .machine) e .touch)
+turned-on p b e h ne = goes-on b (eventAt p (b .machine) e) (deedOf (e .kind)) (known p b e h) ne

@@ -1,0 +1,4 @@
+pub mod Seats
+pub mod Moments
+pub mod Frame
+pub mod Distinct
