@@ -25,8 +25,9 @@ use Rattle.codec.proofs.Accepted as codec
 use Rattle.machine.specs.declared.Event.{Event}
 use Rattle.machine.specs.declared.Acted.{Acted}
 use Rattle.schedule.specs.declared.Schedule.{Schedule}
-use Rattle.image.specs.Layout.{imageIn}
-use Rattle.schedule.specs.Layout.{scheduleIn, scheduleAnswer, eventFrom, eventPlace, eventIn, eventsIn, countIn, nodesIn}
+use Rattle.image.specs.Form.{known}
+use Rattle.image.specs.Layout.{formIn, imageIn}
+use Rattle.schedule.specs.Layout.{scheduleIn, scheduleAnswer, eventFrom, eventPlace, eventIn, eventsIn, countIn, imagePart, nodesIn}
 use Rattle.schedule.specs.Run.{Ran, Bench, forward, benchAt, run, ran, opened, begins, andBefore}
 use Rattle.page.specs.Refusals.{tableIn}
 use Rattle.page.specs.Contents.{tableOf}
@@ -232,8 +233,12 @@ module _ (s : List ℕ) (d : Schedule) (is : d ≡ scheduleIn s) where
   unfolding scheduleIn imageIn
   nodes-is = ap (λ (x : Schedule). x .image .n) is
 
-  pub event-is : (i : ℕ) → eventFrom s (eventPlace (d .image .n) i) ≡ eventIn s i
-  event-is i = ap (λ (n : ℕ). eventFrom s (eventPlace n i)) nodes-is
+  pub form-is : d .image .form ≡ formIn (imagePart s)
+  unfolding scheduleIn imageIn
+  form-is = ap (λ (x : Schedule). x .image .form) is
+
+  pub event-is : (i : ℕ) → eventFrom s (eventPlace (d .image .form) (d .image .n) i) ≡ eventIn s i
+  event-is i = ap₂ (λ (f n : ℕ). eventFrom s (eventPlace f n i)) form-is nodes-is
 
   pub start-is : startOf (d .image) (getD s 5 0) ≡ opened (scheduleIn s) .machine
   unfolding scheduleIn
@@ -241,7 +246,7 @@ module _ (s : List ℕ) (d : Schedule) (is : d ≡ scheduleIn s) where
 
   -- the code's tests of one event: t says whether it was taken
   module _ (i : ℕ) (m : Machine) (rows : List Row) (g : Going s i m rows) (below : i < d .count) (e : Event) (o : Acted) (t : Bool)
-      (event : e ≡ eventFrom s (eventPlace (d .image .n) i)) (act : o ≡ eventAt i m e) (told : t ≡ accepted (o .answer)) where
+      (event : e ≡ eventFrom s (eventPlace (d .image .form) (d .image .n) i)) (act : o ≡ eventAt i m e) (told : t ≡ accepted (o .answer)) where
     lt : i < countIn s
     lt = omega (arith, count-is)
 
@@ -276,6 +281,12 @@ module _ (s : List ℕ) (d : Schedule) (is : d ≡ scheduleIn s) where
 module _ (s : List ℕ) (d : Schedule) (is : d ≡ scheduleIn s) (a : accepted (scheduleAnswer s) ≡ true) where
   pub nodes-small : d .image .n ≤ 64
   nodes-small = omega (arith, nodes-is s d is, machines.nodes-range (nodesIn s) (codec.schedule-taken s a .part .nodes) .1)
+
+  -- where its events stand
+  pub event-in-bytes : (i : ℕ) → i < d .count → (known (d .image .form) ≡ true) × ((d .image .n ≤ 64) × (eventPlace (d .image .form) (d .image .n) i + 6 ≤ length s))
+  event-in-bytes i h =
+      rw (form-is s d is, nodes-is s d is)
+      (let l = codec.schedule-lies s a in (l .0, (l .1 .0, codec.event-fits s i a (omega (arith, count-is s d is)))))
 
   module _ (m : Machine) (begun : m ≡ startOf (d .image) (getD s 5 0)) where
     pub start-small : m .n ≤ 64

@@ -32,7 +32,7 @@ pub fn run_events(s: &[u8], d: Schedule) -> Run
     let mut rows = opened_rows(m);
     let mut i = 0;
     while i < count {
-        let e = codec::event_at(s, n, i);
+        let e = codec::event_at(s, g.form, n, i);
         let out = events::act(i as u32, m, e);
         let a = out.answer;
         if !answer::is_taken(a) {

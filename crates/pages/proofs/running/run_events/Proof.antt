@@ -44,7 +44,7 @@ loop-holds : tie.Need-loop-holds Inv-loop μ-loop
 loop-holds c = let z = c .before .before .before .before .before .before .before in (omega arith, laws.going-begun (z .args .s .now) (z .args .d) (z .pre .1) (z .pre .0) (c .before .start .result) (c .before .start .ensures) (c .opened-rows .result) (c .opened-rows .ensures))
 
 event-at-requires : tie.Need-event-at-requires Inv-loop μ-loop
-event-at-requires c κs = let z = c .before .before .before .before .before .before .before .before .before in let lt : c .before .loop .i < countIn (z .args .s .now) = omega (arith, laws.count-is (z .args .s .now) (z .args .d) (z .pre .1)) in omega (arith, laws.nodes-is (z .args .s .now) (z .args .d) (z .pre .1), codec.event-fits (z .args .s .now) (c .before .loop .i) (z .pre .0) lt)
+event-at-requires c κs = let z = c .before .before .before .before .before .before .before .before .before in laws.event-in-bytes (z .args .s .now) (z .args .d) (z .pre .1) (z .pre .0) (c .before .loop .i) (omega arith)
 
 cast-act : tie.Need-cast-act Inv-loop μ-loop
 cast-act c = let z = c .before .before .before .before .before .before .before .before .before .before in omega (arith, laws.count-is (z .args .s .now) (z .args .d) (z .pre .1), codec.schedule-taken (z .args .s .now) (z .pre .0) .count)
