@@ -153,8 +153,8 @@ pub refused-some : (n p : ℕ) → 0 < length (refusedText n p)
 unfolding refusedText
 refused-some n p = omega (arith, length-append (text "refused " ++ decimal n ++ text " at " ++ decimal p) newline)
 
--- the numbers are 0 to 18
-pub number-small : (a : Answer) → told a .number < 19
+-- the numbers are 0 to 20
+pub number-small : (a : Answer) → told a .number < 21
 number-small Taken = omega arith
 number-small Done = omega arith
 number-small Full = omega arith

@@ -18,9 +18,6 @@ largest-of-requires c κs = search needs
 items-of-requires : tie.Need-items-of-requires
 items-of-requires c κs = search needs
 
-cast-put-line : tie.Need-cast-put-line
-cast-put-line c = search needs
-
 put-line-requires : tie.Need-put-line-requires
 put-line-requires c κs =
     let b = c .before .before .before in
@@ -50,4 +47,4 @@ returns c =
 
 pub write-ending-spec : {M : Type 1} → statement M
 write-ending-spec =
-    tie.close (tie.spec largest-of-requires items-of-requires cast-put-line put-line-requires same-length returns)
+    tie.close (tie.spec largest-of-requires items-of-requires put-line-requires same-length returns)
