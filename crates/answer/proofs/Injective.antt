@@ -8,7 +8,7 @@ use lib.Dec.{eqb}
 use Rattle.answer.specs.Answers.{told}
 use Rattle.answer.specs.declared.Told.{Told}
 use Rattle.answer.specs.declared.Answer.{Answer}
-use Rattle.answer.specs.declared.Answer.the-variants.{Taken, Done, Full, WornOut, Item, Empty, Length, Mark, Nodes, Threads, Events, Linked, Twin, NoDummy, Kind, Number, Busy, Idle, NotZero, Contents, Endings, NoEnding, Room, Record}
+use Rattle.answer.specs.declared.Answer.the-variants.{Taken, Done, Full, WornOut, Item, Empty, Length, Mark, Nodes, Threads, Events, Linked, Twin, NoDummy, Kind, Number, Busy, Idle, NotZero, Contents, Endings, NoEnding, Room, Record, Clean, Narrow}
 
 abbrev replies : ℕ → List Answer
 replies v = Taken ∷ Done ∷ Full ∷ WornOut ∷ Item v ∷ Empty ∷ []
@@ -16,7 +16,7 @@ replies v = Taken ∷ Done ∷ Full ∷ WornOut ∷ Item v ∷ Empty ∷ []
 abbrev refusals : ℕ → List Answer
 refusals p =
     Taken ∷ Length ∷ Mark ∷ Nodes ∷ Threads ∷ Events ∷ Linked p ∷ Twin p ∷ NoDummy ∷ Kind p ∷ Number p ∷ Busy p ∷ Idle p ∷ NotZero p ∷ Contents p
-    ∷ Endings ∷ NoEnding ∷ Room ∷ Record ∷ []
+    ∷ Endings ∷ NoEnding ∷ Room ∷ Record ∷ Clean p ∷ Narrow p ∷ []
 
 -- the answer of a number, a place and values
 back : Told → Answer
@@ -48,6 +48,8 @@ back-told Endings = refl
 back-told NoEnding = refl
 back-told Room = refl
 back-told Record = refl
+back-told (Clean p) = refl
+back-told (Narrow p) = refl
 
 pub told-injective : (a b : Answer) → told a ≡ told b → a ≡ b
 told-injective a b e = sym (back-told a) ∙ ap back e ∙ back-told b

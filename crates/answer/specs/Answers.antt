@@ -4,7 +4,7 @@ use mathlib.Core.Bool.{Bool, true, false}
 use lib.Dec.{eqb}
 use Rattle.answer.specs.declared.Told.{Told}
 use Rattle.answer.specs.declared.Answer.{Answer}
-use Rattle.answer.specs.declared.Answer.the-variants.{Taken, Done, Full, WornOut, Item, Empty, Length, Mark, Nodes, Threads, Events, Linked, Twin, NoDummy, Kind, Number, Busy, Idle, NotZero, Contents, Endings, NoEnding, Room, Record}
+use Rattle.answer.specs.declared.Answer.the-variants.{Taken, Done, Full, WornOut, Item, Empty, Length, Mark, Nodes, Threads, Events, Linked, Twin, NoDummy, Kind, Number, Busy, Idle, NotZero, Contents, Endings, NoEnding, Room, Record, Clean, Narrow}
 
 abbrev pub refusal : ℕ → ℕ → Told
 refusal n p = record { number = n; place = p; reply = 0; item = 0 }
@@ -38,6 +38,8 @@ told Endings = refusal 15 0
 told NoEnding = refusal 16 0
 told Room = refusal 17 0
 told Record = refusal 18 0
+told (Clean p) = refusal 19 p
+told (Narrow i) = refusal 20 i
 
 -- one check in a fixed order of checks: where something is wrong, that is the answer, whatever follows
 abbrev pub check : Bool → Answer → Answer → Answer

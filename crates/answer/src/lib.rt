@@ -32,6 +32,8 @@ pub enum Answer {
     NoEnding,
     Room,
     Record,
+    Clean(u32),
+    Narrow(u32),
 }
 
 // Number and place as document 01's table has them; the operation's answer, and the item where it has one.

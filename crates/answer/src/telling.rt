@@ -55,5 +55,7 @@ pub fn told_of(a: Answer) -> Told
         Answer::NoEnding => refused(16, 0),
         Answer::Room => refused(17, 0),
         Answer::Record => refused(18, 0),
+        Answer::Clean(p) => refused(19, p),
+        Answer::Narrow(i) => refused(20, i),
     }
 }

@@ -1,4 +1,4 @@
--- What is longer than the longest schedule, 25,170 bytes, is refused, and by its first 14 bytes alone: as its first part is.
+-- What is longer than the longest schedule, 25,430 bytes, is refused, and by its first 14 bytes alone: as its first part is.
 use Prim.Native.Nat.{ℕ, _+_, _*_, _≤_, _<_}
 use mathlib.Core.Path.{_≡_, refl, sym, ap, _∙_}
 use mathlib.Core.Bool.{Bool, true, false, not}
@@ -14,7 +14,8 @@ use Rattle.answer.specs.declared.Answer.{Answer}
 use Rattle.answer.specs.declared.Answer.the-variants.{Taken, Length, Mark, Nodes, Threads, Events}
 use Rattle.image.specs.Bytes.{at1}
 use Rattle.image.proofs.ByteLaws.{at-same}
-use Rattle.image.specs.Layout.{marked, isImage, nodePlace, imageIn}
+use Rattle.image.proofs.FormLaws.{place-most}
+use Rattle.image.specs.Layout.{marked, formIn, isImage, nodePlace, imageIn}
 use Rattle.image.specs.Refusals.{nodesFit, sound, imageAnswer}
 use Rattle.machine.specs.Start.{threadsFit}
 use Rattle.schedule.specs.Layout.{isSchedule, threadsIn, countIn, imagePart, scheduleAnswer}
@@ -38,7 +39,7 @@ never true x h = absurd (h refl)
 never false x h = refl
 
 -- longer than every schedule
-module _ (s : List ℕ) (h : 25170 < length s) where
+module _ (s : List ℕ) (h : 25430 < length s) where
   image-front : countIn s ≤ 4096
       → imageAnswer (countIn s * 6) (imagePart s)
       ≡ check (not (isImage (imagePart s))) Mark (check (not (nodesFit (at1 (imagePart s) 5))) Nodes Length)
@@ -48,9 +49,9 @@ module _ (s : List ℕ) (h : 25170 < length s) where
       rw (e, check) refl
       ∙ under (not (isImage (imagePart s))) Mark _ _ (λ m.
       under (not (nodesFit (at1 (imagePart s) 5))) Nodes _ _ (λ n.
-      never (eqb (length (imagePart s)) (nodePlace (at1 (imagePart s) 5) + countIn s * 6)) (sound (imageIn (imagePart s)) Taken)
-      (λ q. let z = eqb-true (length (imagePart s)) (nodePlace (at1 (imagePart s) 5) + countIn s * 6) q in
-      omega (arith, z, length-drop 8 s, nodes-most (at1 (imagePart s) 5) (not-false (nodesFit (at1 (imagePart s) 5)) n)))))
+      never (eqb (length (imagePart s)) (nodePlace (formIn (imagePart s)) (at1 (imagePart s) 5) + countIn s * 6)) (sound (imageIn (imagePart s)) Taken)
+      (λ q. let z = eqb-true (length (imagePart s)) (nodePlace (formIn (imagePart s)) (at1 (imagePart s) 5) + countIn s * 6) q in
+      omega (arith, z, length-drop 8 s, place-most (formIn (imagePart s)) (at1 (imagePart s) 5) (not-false (isImage (imagePart s)) m) (nodes-most (at1 (imagePart s) 5) (not-false (nodesFit (at1 (imagePart s) 5)) n)) .1))))
 
   front-is : scheduleAnswer s ≡ frontAnswer s
   unfolding scheduleAnswer frontAnswer
@@ -71,7 +72,7 @@ front-refused false false false false true = refl
 front-refused false false false false false = refl
 
 -- refused
-pub long-refused : (s : List ℕ) → 25170 < length s → accepted (scheduleAnswer s) ≡ false
+pub long-refused : (s : List ℕ) → 25430 < length s → accepted (scheduleAnswer s) ≡ false
 unfolding frontAnswer
 long-refused s h =
     ap accepted (front-is s h)
@@ -87,7 +88,7 @@ module _ (s p : List ℕ) (long : 14 ≤ length s) (long′ : 14 ≤ length p) (
   count = at-same 2 p s 0 6 14 (λ k l. ap (at1 p) (zero-add k) ∙ h k l) (omega arith) (omega arith) (omega arith)
 
   front-same : frontAnswer p ≡ frontAnswer s
-  unfolding marked frontAnswer
+  unfolding marked formIn frontAnswer
   front-same =
       rw (
         h 0 (omega arith),
@@ -106,7 +107,7 @@ module _ (s p : List ℕ) (long : 14 ≤ length s) (long′ : 14 ≤ length p) (
       ) refl
 
 -- refused as its first part is
-pub long-same : (s : List ℕ) (room : ℕ) → 25170 < room → room ≤ length s → scheduleAnswer (take room s) ≡ scheduleAnswer s
+pub long-same : (s : List ℕ) (room : ℕ) → 25430 < room → room ≤ length s → scheduleAnswer (take room s) ≡ scheduleAnswer s
 long-same s room h l =
     front-is (take room s) (omega (arith, length-take-le room s l))
     ∙ front-same s (take room s) (omega arith) (omega (arith, length-take-le room s l)) (λ i q. getD-take room s i 0 (omega arith))

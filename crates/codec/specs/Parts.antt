@@ -1,5 +1,7 @@
 -- What the calls of this crate hand out, where images and schedules do not say it already.
 use Prim.Native.Nat.{ℕ, _≤_}
+use mathlib.Core.Path.{_≡_}
+use mathlib.Core.Bool.{true}
 use mathlib.Core.List.{List}
 use lib.ListN.{length}
 use mathlib.Core.Bool.{Bool, true, false}
@@ -9,7 +11,7 @@ use Rattle.answer.specs.Answers.{check, accepted}
 use Rattle.answer.specs.declared.Answer.{Answer}
 use Rattle.image.specs.Bytes.{at1}
 use Rattle.answer.specs.declared.Answer.the-variants.{Taken, NoEnding}
-use Rattle.image.specs.Layout.{nodePlace, imageIn}
+use Rattle.image.specs.Layout.{formIn, isImage, nodePlace, imageIn}
 use Rattle.image.specs.Refusals.{imageAnswer, blankImage}
 use Rattle.image.specs.declared.Read.{Read}
 use Rattle.machine.specs.declared.Event.{Event}
@@ -18,7 +20,7 @@ use Rattle.schedule.specs.declared.Opened.{Opened}
 
 -- an image's head and nodes lie in the bytes
 abbrev pub Lies : List ℕ → Type 0
-Lies s = (at1 s 5 ≤ 64) × (nodePlace (at1 s 5) ≤ length s)
+Lies s = (isImage s ≡ true) × ((at1 s 5 ≤ 64) × (nodePlace (formIn s) (at1 s 5) ≤ length s))
 
 -- an image with `more` bytes behind it, as `readImage` reads one alone
 unfoldable pub readPart : ℕ → List ℕ → Read

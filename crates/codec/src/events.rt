@@ -2,16 +2,19 @@
 ghost use mathlib.Core.Path.{_≡_};
 ghost use Prim.Native.Nat.{_+_, _≤_};
 ghost use lib.ListN.{length};
+ghost use mathlib.Core.Bool.{true};
+ghost use Rattle.image.specs.Form.{known};
 ghost use Rattle.schedule.specs.Layout.{eventFrom, eventPlace};
 use crate::bytes::word_at;
+use image::place_of;
 use machine::Event;
 
-// Event i of a schedule with n nodes that is long enough.
-pub fn event_at(s: &[u8], n: usize, i: usize) -> Event
-    requires { ⌜ eventPlace n i + 6 ≤ length (now s) ⌝ }
-    ensures { λ r. ⌜ r ≡ eventFrom (now (s .entry)) (eventPlace n i) ⌝ }
+// Event i of a schedule that is long enough, whose image is in this form, with n nodes.
+pub fn event_at(s: &[u8], form: u8, n: usize, i: usize) -> Event
+    requires { ⌜ (known form ≡ true) × ((n ≤ 64) × (eventPlace form n i + 6 ≤ length (now s))) ⌝ }
+    ensures { λ r. ⌜ r ≡ eventFrom (now (s .entry)) (eventPlace form n i) ⌝ }
 {
-    let at = 8 + (10 + n * 9) + i * 6;
+    let at = 8 + place_of(form, n) + i * 6;
     let item = word_at(s, at + 2);
     Event {
         kind: s[at],

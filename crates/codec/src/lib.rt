@@ -78,7 +78,7 @@ pub fn event_of(s: &[u8], i: usize) -> Found
     }
     let g = d.image;
     let n = g.n as usize;
-    let event = event_at(s, n, i);
+    let event = event_at(s, g.form, n, i);
     Found {
         answer: Answer::Taken,
         event,

@@ -1,58 +1,68 @@
-// The nodes of an image, nine bytes each, read and written.
+// The nodes of an image, read and written.
 ghost use mathlib.Core.Path.{_≡_};
+ghost use mathlib.Core.Bool.{true};
 ghost use Prim.Native.Nat.{_+_, _*_, _≤_};
 ghost use lib.ListN.{length};
 ghost use Rattle.lists.specs.Tab.{over};
+ghost use Rattle.image.specs.Form.{known, nodeSize, headerSize};
 ghost use Rattle.image.specs.Layout.{nodePlace, nodeBytes, bodyBytes, readContent, readNodes};
+use crate::bytes::index_in;
+use crate::bytes::put_index;
 use crate::bytes::put_word;
 use crate::bytes::word_at;
 use image::Content;
+use image::place_of;
+use image::width_of;
 
-fn content_at(s: &[u8], at: usize) -> Content
-    requires { ⌜ at + 9 ≤ length (now s) ⌝ }
-    ensures { λ r. ⌜ r ≡ readContent (now (s .entry)) at ⌝ }
+fn content_at(s: &[u8], form: u8, at: usize) -> Content
+    requires { ⌜ (known form ≡ true) × (at + nodeSize form ≤ length (now s)) ⌝ }
+    ensures { λ r. ⌜ r ≡ readContent form (now (s .entry)) at ⌝ }
 {
-    let index = word_at(s, at + 1);
-    let item = word_at(s, at + 5);
+    let w = width_of(form);
+    let index = index_in(s, form, at + 1);
+    let item = word_at(s, at + 1 + w);
     Content {
-        linked: s[at],
         index,
         item,
+        linked: s[at],
     }
 }
 
 // The contents of the first n nodes; those beyond are blank.
-pub fn nodes_in(s: &[u8], n: usize) -> [Content; 64]
-    requires { ⌜ (n ≤ 64) × (nodePlace n ≤ length (now s)) ⌝ }
-    ensures { λ r. ⌜ r ≡ readNodes (now (s .entry)) n ⌝ }
+pub fn nodes_in(s: &[u8], form: u8, n: usize) -> [Content; 64]
+    requires { ⌜ (known form ≡ true) × ((n ≤ 64) × (nodePlace form n ≤ length (now s))) ⌝ }
+    ensures { λ r. ⌜ r ≡ readNodes form (now (s .entry)) n ⌝ }
 {
     let mut nodes = image::no_contents();
     let mut i = 0;
     while i < n {
-        let v = content_at(s, 10 + i * 9);
+        let at = place_of(form, i);
+        let v = content_at(s, form, at);
         nodes[i] = v;
         i += 1;
     }
     nodes
 }
 
-fn put_content(b: &mut [u8], at: usize, v: Content)
-    requires { ⌜ at + 9 ≤ length (now b) ⌝ }
-    ensures { λ _. ⌜ now (b .exit) ≡ over (now (b .entry)) at (nodeBytes v) ⌝ }
+fn put_content(b: &mut [u8], form: u8, at: usize, v: Content)
+    requires { ⌜ (known form ≡ true) × (at + nodeSize form ≤ length (now b)) ⌝ }
+    ensures { λ _. ⌜ now (b .exit) ≡ over (now (b .entry)) at (nodeBytes form v) ⌝ }
 {
+    let w = width_of(form);
     b[at] = v.linked;
-    put_word(b, at + 1, v.index);
-    put_word(b, at + 5, v.item);
+    put_index(b, form, at + 1, v.index);
+    put_word(b, at + 1 + w, v.item as u64);
 }
 
-pub fn put_nodes(b: &mut [u8], nodes: [Content; 64], n: usize)
-    requires { ⌜ (n ≤ 64) × (nodePlace n ≤ length (now b)) ⌝ }
-    ensures { λ _. ⌜ now (b .exit) ≡ over (now (b .entry)) 10 (bodyBytes nodes n) ⌝ }
+pub fn put_nodes(b: &mut [u8], form: u8, nodes: [Content; 64], n: usize)
+    requires { ⌜ (known form ≡ true) × ((n ≤ 64) × (nodePlace form n ≤ length (now b))) ⌝ }
+    ensures { λ _. ⌜ now (b .exit) ≡ over (now (b .entry)) (headerSize form) (bodyBytes form nodes n) ⌝ }
 {
     let mut i = 0;
     while i < n {
         let v = nodes[i];
-        put_content(b, 10 + i * 9, v);
+        let at = place_of(form, i);
+        put_content(b, form, at, v);
         i += 1;
     }
 }

@@ -35,7 +35,7 @@ pub fn check_schedule(s: &[u8]) -> Answer
     if s.len() < 8 {
         return Answer::Length;
     }
-    if !is_marked(s, 85, 81, 83) {
+    if !is_marked(s, 85, 81, 83, 1) {
         return Answer::Mark;
     }
     let t = s[5];

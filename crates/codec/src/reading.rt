@@ -3,12 +3,14 @@ ghost use mathlib.Core.Path.{_≡_};
 ghost use Prim.Native.Nat.{_≤_};
 ghost use Rattle.image.specs.Refusals.{imageAnswer};
 ghost use Rattle.codec.specs.Parts.{refusedRead, readPart};
-use crate::bytes::is_marked;
+use crate::bytes::form_in;
 use crate::images::image_in;
 use crate::sound::sound_at;
 use answer::Answer;
 use answer::is_taken;
 use image::Read;
+use image::is_known;
+use image::place_of;
 
 // A refusal, with the blank image beside it.
 fn refused(a: Answer) -> Read
@@ -27,7 +29,8 @@ pub fn check_part(s: &[u8], more: usize) -> Answer
     if len < 10 {
         return Answer::Length;
     }
-    if !is_marked(s, 85, 81, 73) {
+    let form = form_in(s);
+    if !is_known(form) {
         return Answer::Mark;
     }
     let n = s[5];
@@ -38,7 +41,7 @@ pub fn check_part(s: &[u8], more: usize) -> Answer
         return Answer::Nodes;
     }
     let k = n as usize;
-    if len != 10 + k * 9 + more {
+    if len != place_of(form, k) + more {
         return Answer::Length;
     }
     sound_at(s, k)

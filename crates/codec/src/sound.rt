@@ -1,5 +1,5 @@
 // The tests of an image where its bytes lie: unclear linked bytes (6), twins (7), the dummy (8). Nothing is copied.
-// Where a node's bytes are is known to `linked_at` and `index_at` alone.
+// Where a node's bytes are is known to `linked_at` and `index_at` alone; the version's byte is the form.
 ghost use mathlib.Core.Path.{_≡_};
 ghost use Prim.Native.Nat.{_<_};
 ghost use Rattle.answer.specs.declared.Answer.the-variants.{Taken};
@@ -8,35 +8,41 @@ ghost use Rattle.image.specs.Layout.{contentAt, imageIn};
 ghost use Rattle.image.specs.Recovered.{headOf, recoveredAt, twins, firstUnclear, firstTwin, dummyOf};
 ghost use Rattle.image.specs.Refusals.{sound};
 ghost use Rattle.codec.specs.Parts.{Lies};
-use crate::bytes::word_at;
+use crate::bytes::index_in;
 use answer::Answer;
+use image::place_of;
 
 // Node i's linked byte.
 fn linked_at(s: &[u8], i: usize) -> u8
     requires { ⌜ (i < at1 (now s) 5) × Lies (now s) ⌝ }
     ensures { λ r. ⌜ r ≡ contentAt (imageIn (now (s .entry)) .nodes) i .linked ⌝ }
 {
-    s[10 + i * 9]
+    let form = s[3];
+    let at = place_of(form, i);
+    s[at]
 }
 
 // Node i's index.
-fn index_at(s: &[u8], i: usize) -> u32
+fn index_at(s: &[u8], i: usize) -> u64
     requires { ⌜ (i < at1 (now s) 5) × Lies (now s) ⌝ }
     ensures { λ r. ⌜ r ≡ contentAt (imageIn (now (s .entry)) .nodes) i .index ⌝ }
 {
-    word_at(s, 10 + i * 9 + 1)
+    let form = s[3];
+    let at = place_of(form, i);
+    index_in(s, form, at + 1)
 }
 
 // The head index that a start takes.
-fn head_at(s: &[u8]) -> u32
+fn head_at(s: &[u8]) -> u64
     requires { ⌜ Lies (now s) ⌝ }
     ensures { λ r. ⌜ r ≡ headOf (imageIn (now (s .entry))) ⌝ }
 {
-    word_at(s, 6)
+    let form = s[3];
+    index_in(s, form, 6)
 }
 
 // Node i is recovered: h is the head index.
-fn recovered_at(s: &[u8], i: usize, h: u32) -> bool
+fn recovered_at(s: &[u8], i: usize, h: u64) -> bool
     requires { ⌜ (i < at1 (now s) 5) × (Lies (now s) × (h ≡ headOf (imageIn (now s)))) ⌝ }
     ensures { λ r. ⌜ r ≡ recoveredAt (imageIn (now (s .entry))) i ⌝ }
 {
@@ -48,7 +54,7 @@ fn recovered_at(s: &[u8], i: usize, h: u32) -> bool
 }
 
 // Nodes i and j are recovered, with one index.
-fn twins_at(s: &[u8], i: usize, j: usize, h: u32) -> bool
+fn twins_at(s: &[u8], i: usize, j: usize, h: u64) -> bool
     requires { ⌜ (i < at1 (now s) 5) × ((j < at1 (now s) 5) × (Lies (now s) × (h ≡ headOf (imageIn (now s))))) ⌝ }
     ensures { λ r. ⌜ r ≡ twins (imageIn (now (s .entry))) i j ⌝ }
 {
@@ -79,7 +85,7 @@ fn first_unclear_at(s: &[u8], n: usize) -> usize
 }
 
 // The smallest node number that has a lower-numbered twin, and N where none has.
-fn first_twin_at(s: &[u8], n: usize, h: u32) -> usize
+fn first_twin_at(s: &[u8], n: usize, h: u64) -> usize
     requires { ⌜ (n ≡ at1 (now s) 5) × (Lies (now s) × (h ≡ headOf (imageIn (now s)))) ⌝ }
     ensures { λ r. ⌜ r ≡ firstTwin (imageIn (now (s .entry))) ⌝ }
 {
@@ -98,7 +104,7 @@ fn first_twin_at(s: &[u8], n: usize, h: u32) -> usize
 }
 
 // The lowest-numbered node that is not recovered, and N where every node is.
-fn dummy_at(s: &[u8], n: usize, h: u32) -> usize
+fn dummy_at(s: &[u8], n: usize, h: u64) -> usize
     requires { ⌜ (n ≡ at1 (now s) 5) × (Lies (now s) × (h ≡ headOf (imageIn (now s)))) ⌝ }
     ensures { λ r. ⌜ r ≡ dummyOf (imageIn (now (s .entry))) ⌝ }
 {

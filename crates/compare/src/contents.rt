@@ -12,17 +12,17 @@ fn content_of(s: &[u8], at: usize) -> Content
     let index = word(s, at + 1);
     let item = word(s, at + 5);
     Content {
-        linked,
-        index,
+        index: index as u64,
         item,
+        linked,
     }
 }
 
 pub fn contents_of(s: &[u8]) -> Image {
     let none = Content {
-        linked: 0,
         index: 0,
         item: 0,
+        linked: 0,
     };
     let mut nodes = [none; 64];
     let mut i = 0;
@@ -33,6 +33,11 @@ pub fn contents_of(s: &[u8]) -> Image {
     }
     let n = byte(s, 0);
     let mut heads = [0; 8];
-    heads[0] = word(s, 1);
-    Image { n, heads, nodes }
+    heads[0] = word(s, 1) as u64;
+    Image {
+        heads,
+        nodes,
+        form: 1,
+        n,
+    }
 }

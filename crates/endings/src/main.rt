@@ -2,7 +2,7 @@
 use libc::STDERR_FILENO;
 
 fn main() {
-    // The longest schedule has 25,170 bytes: what is longer than this is refused as its first part is.
+    // The longest schedule has 25,430 bytes: what is longer than this is refused as its first part is.
     let mut s = [0u8; 32768];
     let got = stream::fill(&mut s);
     if got.failed {

@@ -83,7 +83,7 @@ pub record Fits (lists : List (List Content)) : Type 0 where
   pub few : (l : ℕ) → l < length lists → length (getD lists l []) ≤ 16
 
 abbrev made : ℕ → List ℕ → List Content → Image
-made n x y = record { n = n; heads = x; nodes = y }
+made n x y = record { form = 1; n = n; heads = x; nodes = y }
 
 module _ (t : List (List Content)) (cs : List ℕ) (lists : List (List Content)) (h : Tables t cs lists) where
   -- then the counts are the lengths, and the endings can be picked

@@ -71,9 +71,10 @@ pickedAt t ps l = contentAt (getD t l []) (getD ps l 0)
 abbrev pub pickedNode : List (List Content) → List ℕ → ℕ → ℕ → Content
 pickedNode t ps n i = pickedAt t ps (numberOf n (ofNode i))
 
--- one entry a line, as an image of n nodes
+-- one entry a line, as an image of n nodes in the first form
 unfoldable pub pickedImage : List (List Content) → List ℕ → ℕ → Image
 pickedImage t ps n = record {
+  form = 1;
   n = n;
   heads = headsOf n (λ k. pickedAt t ps (numberOf n (ofHead k)) .index);
   nodes = front (pickedNode t ps n) n noContents;

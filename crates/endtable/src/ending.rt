@@ -84,7 +84,7 @@ pub fn ending_picks(counts: [u8; 65], n: u8, k: u32) -> [u8; 65]
     split(counts, n as usize + 1, k, [0; 65])
 }
 
-// One entry a line, as an image of n nodes: with the picks of ending k, that ending.
+// One entry a line, as an image of n nodes in the first form: with the picks of ending k, that ending.
 pub fn ending_image(t: [[Content; 16]; 65], picks: [u8; 65], n: u8) -> Image
     requires { ⌜ (n ≤ 64) × Filled picks (lineCount n) ⌝ }
     ensures { λ r. ⌜ r ≡ pickedImage t picks n ⌝ }
@@ -101,5 +101,10 @@ pub fn ending_image(t: [[Content; 16]; 65], picks: [u8; 65], n: u8) -> Image
     let head = t[0][j];
     let mut heads = no_heads();
     heads[0] = head.index;
-    Image { n, heads, nodes }
+    Image {
+        heads,
+        nodes,
+        form: 1,
+        n,
+    }
 }

@@ -21,7 +21,7 @@ pub fn content_of(v: Node) -> Content
 }
 
 // Of Head's line the index alone is a content.
-pub fn head_content(index: u32) -> Content
+pub fn head_content(index: u64) -> Content
     ensures { λ r. ⌜ r ≡ headContent index ⌝ }
 {
     Content {

@@ -135,7 +135,7 @@ pub fn a6(m: Machine, k: usize) -> Acted
     }
 }
 
-// A7 index set to t's index + 1; at the largest index the node becomes free again, and the answer is Worn out.
+// A7 index set to t's index + 1; at the form's largest index the node becomes free again, and the answer is Worn out.
 pub fn a7(m: Machine, k: usize) -> Acted
     requires { ⌜ (k < 8) × (m .n ≤ 64) × (thread m k .node < 64) × (thread m k .tail < 64) ⌝ }
     ensures { λ r. ⌜ r ≡ stepA7 m k ⌝ }
@@ -145,7 +145,8 @@ pub fn a7(m: Machine, k: usize) -> Acted
     let i = th.node as usize;
     let t = th.tail as usize;
     let v = r.nodes[t];
-    if v.index == 4294967295 {
+    let top = image::top_of(r.form);
+    if top <= v.index {
         let f = bits::with_bit(r.free, i as u32);
         r.free = f;
         let rest = leave(r, k, th.held);

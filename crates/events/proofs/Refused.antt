@@ -3,13 +3,14 @@ use Prim.Native.Nat.{ℕ, _+_}
 use mathlib.Core.Path.{_≡_, refl, sym, _∙_}
 use mathlib.Core.Bool.{Bool, true, false}
 use native.Mathlib.Omega.{arith}
-use lib.Dec.{eqb}
+use lib.Dec.{eqb, leb}
 use Rattle.lists.specs.Find.{pick, both}
 use Rattle.lists.specs.Word.{without}
 use Rattle.answer.specs.Answers.{accepted}
 use Rattle.answer.specs.declared.Answer.{Answer}
 use Rattle.answer.specs.declared.Answer.the-variants.{Full, WornOut, Record}
-use Rattle.machine.specs.Record.{none, top, node, thread, ownNode, withNext, withIndex, putNode, putFree, putHead, headAt}
+use Rattle.image.specs.Form.{topOf}
+use Rattle.machine.specs.Record.{none, node, thread, ownNode, withNext, withIndex, putNode, putFree, putHead, headAt}
 use Rattle.machine.specs.Stage.{Stage, noStep, A1, A2, A3, A4, A5, A6, A7, A8, A9, A10, A11, A12, D1, D2, D3, D4, D5, D6, D7, stage}
 use Rattle.machine.specs.Retire.{out, quiet, moving, going, answering, storing, nextFree, freed}
 use Rattle.machine.specs.Event.{Deed, unknown, enqueues, dequeues, steps, writesBack, crashes, deedOf, eventAnswer, done, stepped, eventAt, handed, eventOn}
@@ -41,7 +42,7 @@ step-taken m k A6 = refl
 step-taken m k A7 =
     let i = thread m k .node in
     let t = thread m k .tail in
-    pick-fine (eqb (node m t .index) top) (answering WornOut (freed m i) k)
+    pick-fine (leb (topOf (m .form)) (node m t .index)) (answering WornOut (freed m i) k)
     (storing (ofNode i) (going (putNode m i (withIndex (node m i) (node m t .index + 1))) k 8)) refl refl
 step-taken m k A8 =
     let i = thread m k .node in

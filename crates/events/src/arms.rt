@@ -21,9 +21,10 @@ pub fn kept_image(m: Machine) -> Image
     let heads = m.kept_heads;
     let nodes = m.kept;
     Image {
-        n: m.n,
         heads,
         nodes,
+        form: m.form,
+        n: m.n,
     }
 }
 

@@ -45,7 +45,7 @@ pub fn apply(m: &mut Machine, e: Event) -> Answer
     r.answer
 }
 
-// Writes the persisted copies as an image into the first 10 + 9N bytes of the buffer, or nothing.
+// Writes the persisted copies as an image, in the record's form, into the buffer's first bytes, or nothing.
 pub fn save(m: Machine, b: &mut [u8]) -> Answer
     ensures answers { λ r. ⌜ told r ≡ told (saveAnswer m (length (now (b .entry)))) ⌝ }
     ensures bytes { λ r. ⌜ now (b .exit) ≡ saved m (now (b .entry)) ⌝ }

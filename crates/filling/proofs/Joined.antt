@@ -20,6 +20,7 @@ use Rattle.lawful.specs.Demand3.{Bytes}
 use Rattle.printing.specs.Bounds.{lineRoom}
 use Rattle.printing.specs.Lines.{refusedText}
 use Rattle.printing.proofs.Fittings as fits
+use Rattle.printing.proofs.ItemLaws as lines
 use Rattle.printing.proofs.PageLaws as pages
 use Rattle.pageproof.proofs.Holds as holds
 use Rattle.filling.specs.Pieces.{piecesFrom, pieces}
@@ -34,11 +35,11 @@ module _ (s : List ℕ) (a : accepted (pageAnswer s) ≡ true) where
   abbrev lineOf : ℕ → List ℕ
   lineOf k = endingLine k (endingIn s k)
 
-  ending-is : (k : ℕ) → endingIn s k ≡ getD all k (imageOf (nodesIn s) [])
+  line-is : (j k : ℕ) → endingLine j (endingIn s k) ≡ endingLine j (getD all k (imageOf (nodesIn s) []))
   unfolding endingIn
-  ending-is k =
-      ap (λ (n : ℕ). ending n (tableIn s) k) (numbers.ran-nodes s (holds.page-ran s a))
-      ∙ sym (pages.ending-at (nodesIn s) (tableIn s) k)
+  line-is j k =
+      lines.line-form j (ran s .bench .machine .form) (ending (ran s .bench .machine .n) (tableIn s) k)
+      ∙ ap (endingLine j) (ap (λ (n : ℕ). ending n (tableIn s) k) (numbers.ran-nodes s (holds.page-ran s a)) ∙ sym (pages.ending-at (nodesIn s) (tableIn s) k))
 
   behind : (i : ℕ) → pageLine s (1 + i) ≡ lineOf (0 + i)
   unfolding pageLine
@@ -53,7 +54,7 @@ module _ (s : List ℕ) (a : accepted (pageAnswer s) ≡ true) where
       fits.on-same (pageLine s) lineOf (endingCount s) 1 0 (λ i q. behind i)
       ∙ ap (linesOn lineOf 0) (sym (pages.endings-length (nodesIn s) (tableIn s)))
       ∙ pages.lines-are lineOf (imageOf (nodesIn s) []) all 0
-      (λ i q. let z : 0 + i ≡ i = omega arith in ap (λ k. endingLine (0 + i) (endingIn s k)) z ∙ ap (endingLine (0 + i)) (ending-is i))
+      (λ i q. let z : 0 + i ≡ i = omega arith in ap (λ k. endingLine (0 + i) (endingIn s k)) z ∙ line-is (0 + i) i)
 
   -- all lines
   pub page-lines : linesOn (pageLine s) 0 (suc (endingCount s)) ≡ printed s

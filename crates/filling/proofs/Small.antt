@@ -7,8 +7,8 @@ use native.Mathlib.Omega.{arith}
 use native.Mathlib.Decide.{decLt}
 use lib.ListN.{length, getD, set, drop, replicate}
 use lib.Seq.{getD-append-add, getD-drop}
-use lib.Dec.{eqb}
-use borrow.Author.Tests.{eqb-false}
+use lib.Dec.{eqb, leb}
+use borrow.Author.Tests.{leb-false}
 use Rattle.lists.specs.Find.{pick, both}
 use Rattle.lists.specs.Tab.{tab, front}
 use Rattle.lists.proofs.TabLaws as tabs
@@ -17,7 +17,9 @@ use Rattle.image.specs.Recovered.{headOf}
 use Rattle.image.proofs.HeadLaws.{head-one}
 use Rattle.image.specs.declared.Content.{Content}
 use Rattle.image.specs.declared.Image.{Image}
-use Rattle.machine.specs.Record.{none, top, node, thread, kept, headAt, keptHead, contentOf, zeroNode, zeroThread, blankNodes, idleThread, idleThreads, withIndex, atStep, putNode, putThread, putFree, putTail, putHead}
+use Rattle.image.specs.Form.{topOf}
+use Rattle.image.proofs.FormLaws.{top-small}
+use Rattle.machine.specs.Record.{none, node, thread, kept, headAt, keptHead, contentOf, zeroNode, zeroThread, blankNodes, idleThread, idleThreads, withIndex, atStep, putNode, putThread, putFree, putTail, putHead}
 use Rattle.machine.specs.Stage.{Stage, noStep, A1, A2, A3, A4, A5, A6, A7, A8, A9, A10, A11, A12, D1, D2, D3, D4, D5, D6, D7, stage}
 use Rattle.machine.specs.Line.{lineAt, persist, persisted}
 use Rattle.machine.specs.declared.Line.{Line}
@@ -33,13 +35,13 @@ use Rattle.machine.specs.declared.Event.{Event}
 use Rattle.machine.specs.declared.Acted.{Acted}
 
 abbrev pub Little : Content → Type 0
-Little c = (c .index < 4294967296) × (c .item < 4294967296)
+Little c = (c .index < 18446744073709551616) × (c .item < 4294967296)
 
 pub record Small (m : Machine) : Type 0 where
   pub cached : (i : ℕ) → Little (contentOf (node m i))
   pub saved : (i : ℕ) → Little (kept m i)
-  pub mark : (k : ℕ) → headAt m k < 4294967296
-  pub savedMark : (k : ℕ) → keptHead m k < 4294967296
+  pub mark : (k : ℕ) → headAt m k < 18446744073709551616
+  pub savedMark : (k : ℕ) → keptHead m k < 18446744073709551616
   pub items : (k : ℕ) → thread m k .item < 4294967296
 
 -- ---- lists all of whose elements are so
@@ -93,15 +95,15 @@ small-free m x s = record { cached = s .cached; saved = s .saved; mark = s .mark
 small-tail : (m : Machine) (x : ℕ) → Small m → Small (putTail m x)
 small-tail m x s = record { cached = s .cached; saved = s .saved; mark = s .mark; savedMark = s .savedMark; items = s .items }
 
-small-head : (m : Machine) (h x : ℕ) → Small m → x < 4294967296 → Small (putHead m h x)
-small-head m h x s l = record { cached = s .cached; saved = s .saved; mark = set-all (λ y. y < 4294967296) (m .heads) 0 x (s .mark) l 0; savedMark = s .savedMark; items = s .items }
+small-head : (m : Machine) (h x : ℕ) → Small m → x < 18446744073709551616 → Small (putHead m h x)
+small-head m h x s l = record { cached = s .cached; saved = s .saved; mark = set-all (λ y. y < 18446744073709551616) (m .heads) 0 x (s .mark) l 0; savedMark = s .savedMark; items = s .items }
 
 small-persist : (m : Machine) (l : Line) → Small m → Small (persist m l)
 small-persist m (ofHead k) s = record {
   cached = s .cached;
   saved = s .saved;
   mark = s .mark;
-  savedMark = set-all (λ y. y < 4294967296) (m .«kept_heads») 0 (headAt m k) (s .savedMark) (s .mark k) k;
+  savedMark = set-all (λ y. y < 18446744073709551616) (m .«kept_heads») 0 (headAt m k) (s .savedMark) (s .mark k) k;
   items = s .items;
 }
 small-persist m (ofNode i) s = record {
@@ -149,11 +151,11 @@ small-going m k p s = small-thread m s k (atStep (thread m k) p) (s .items k)
 -- ---- the steps
 
 -- the largest index is not passed
-small-worn : (m : Machine) (k i t : ℕ) → Small m → (x : Bool) → eqb (node m t .index) top ≡ x
+small-worn : (m : Machine) (k i t : ℕ) → Small m → (x : Bool) → leb (topOf (m .form)) (node m t .index) ≡ x
     → Small (pick x (answering WornOut (freed m i) k) (storing (ofNode i) (going (putNode m i (withIndex (node m i) (node m t .index + 1))) k 8)) .machine)
 small-worn m k i t s true e = small-left (freed m i) k (thread m k .held) (small-free m _ s)
 small-worn m k i t s false e =
-    small-going _ k 8 (small-node m s i _ (omega (arith, s .cached t .0, eqb-false (node m t .index) top e), s .cached i .1))
+    small-going _ k 8 (small-node m s i _ (omega (arith, leb-false (topOf (m .form)) (node m t .index) e, top-small (m .form)), s .cached i .1))
 
 module _ (m : Machine) (k : ℕ) (s : Small m) where
   small-step : (g : Stage) → Small (stepped m k g .machine)
@@ -164,7 +166,7 @@ module _ (m : Machine) (k : ℕ) (s : Small m) where
   small-step A4 = small-going _ k 5 (small-node m s (thread m k .node) _ (s .cached (thread m k .node)))
   small-step A5 = small-thread m s k _ (s .items k)
   small-step A6 = small-thread m s k _ (s .items k)
-  small-step A7 = small-worn m k (thread m k .node) (thread m k .tail) s (eqb (node m (thread m k .tail) .index) top) refl
+  small-step A7 = small-worn m k (thread m k .node) (thread m k .tail) s (leb (topOf (m .form)) (node m (thread m k .tail) .index)) refl
   small-step A8 =
       small-pick (eqb (node m (thread m k .tail) .next) none) _ _
       (small-going _ k 9 (small-node m s (thread m k .tail) _ (s .cached (thread m k .tail)))) (small-going m k 12 s)
@@ -188,11 +190,11 @@ module _ (m : Machine) (k : ℕ) (s : Small m) where
 
 -- ---- starts and events
 
-start-content : (g : Image) (d : ℕ) (q : List ℕ) → ((i : ℕ) → Little (contentAt (g .nodes) i)) → headOf g < 4294967296
+start-content : (g : Image) (d : ℕ) (q : List ℕ) → ((i : ℕ) → Little (contentAt (g .nodes) i)) → headOf g < 18446744073709551616
     → (i : ℕ) → Little (contentOf (startNode g d q i))
 start-content g d q h l i = (by (eqb i d), h i .1)
   where
-    by : (t : Bool) → pick t (headOf g) (contentAt (g .nodes) i .index) < 4294967296
+    by : (t : Bool) → pick t (headOf g) (contentAt (g .nodes) i .index) < 18446744073709551616
     by true = l
     by false = h i .0
 
@@ -200,14 +202,14 @@ pub no-content : (i : ℕ) → Little (contentAt noContents i)
 unfolding noContents
 no-content i = same-all Little 64 noContent noContent (omega arith, omega arith) (omega arith, omega arith) i
 
-pub heads-small : (n : ℕ) (x : ℕ → ℕ) → ((k : ℕ) → x k < 4294967296) → (k : ℕ) → getD (headsOf n x) k 0 < 4294967296
+pub heads-small : (n : ℕ) (x : ℕ → ℕ) → ((k : ℕ) → x k < 18446744073709551616) → (k : ℕ) → getD (headsOf n x) k 0 < 18446744073709551616
 unfolding headsOf noHeads
-heads-small n x h = front-all (λ y. y < 4294967296) x (headLines n) noHeads 0 (λ j p. h j) (same-all (λ y. y < 4294967296) 8 0 0 (omega arith) (omega arith))
+heads-small n x h = front-all (λ y. y < 18446744073709551616) x (headLines n) noHeads 0 (λ j p. h j) (same-all (λ y. y < 18446744073709551616) 8 0 0 (omega arith) (omega arith))
 
-pub small-start : (g : Image) (t : ℕ) → ((i : ℕ) → Little (contentAt (g .nodes) i)) → ((k : ℕ) → headIn g k < 4294967296) → Small (startOf g t)
+pub small-start : (g : Image) (t : ℕ) → ((i : ℕ) → Little (contentAt (g .nodes) i)) → ((k : ℕ) → headIn g k < 18446744073709551616) → Small (startOf g t)
 unfolding startWith blankNodes idleThreads
 small-start g t h l = record {
-  cached = λ i. front-all (λ n. Little (contentOf n)) (startNode g _ (queueOf g)) (g .n) blankNodes zeroNode (λ j p. start-content g _ (queueOf g) h (subst (λ x. x < 4294967296) (sym (head-one g)) (l 0)) j)
+  cached = λ i. front-all (λ n. Little (contentOf n)) (startNode g _ (queueOf g)) (g .n) blankNodes zeroNode (λ j p. start-content g _ (queueOf g) h (subst (λ x. x < 18446744073709551616) (sym (head-one g)) (l 0)) j)
       (λ j. same-all (λ n. Little (contentOf n)) 64 _ zeroNode (omega arith, omega arith) (omega arith, omega arith) j) i;
   saved = λ i. front-all Little (contentAt (g .nodes)) (g .n) noContents noContent (λ j p. h j) no-content i;
   mark = heads-small (g .n) (headIn g) l;

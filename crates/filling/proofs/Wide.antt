@@ -1,4 +1,4 @@
--- Every line of a page of bytes goes into 721 bytes.
+-- Every line of a page of bytes goes into 731 bytes.
 use Prim.Native.Nat.{ℕ, zero, suc, _+_, _*_, _≤_, _<_}
 use mathlib.Core.Path.{_≡_, refl, sym, ap, subst, _∙_}
 use mathlib.Core.Bool.{Bool, true, false}
@@ -10,8 +10,11 @@ use lib.Seq.{getD-drop}
 use Rattle.lists.specs.Tab.{tab, front}
 use Rattle.answer.specs.Answers.{accepted}
 use Rattle.answer.specs.declared.Answer.{Answer}
-use Rattle.image.specs.Bytes.{at4}
-use Rattle.image.specs.Layout.{noContent, noContents, contentAt, readContent, readNodes, nodePlace, imageIn, sameContent, headLines, headIn, readHeads}
+use Rattle.image.specs.Bytes.{at4, atW}
+use Rattle.image.specs.Form.{widthOf, topOf, headsAt}
+use Rattle.image.proofs.FormLaws.{top-small}
+use Rattle.printing.proofs.ItemLaws as lines
+use Rattle.image.specs.Layout.{noContent, noContents, contentAt, formIn, readContent, readNodes, nodePlace, imageIn, sameContent, headLines, headIn, readHeads}
 use Rattle.image.specs.declared.Content.{Content}
 use Rattle.image.specs.declared.Image.{Image}
 use Rattle.machine.specs.Line.{lineCount, lineAt, cachedAt, persistedAt}
@@ -87,6 +90,11 @@ small-run (e ∷ l) p b i g h =
 word-small : (s : List ℕ) → Bytes s → (i : ℕ) → at4 s i < 4294967296
 word-small s y i = omega (arith, at-small 4 s i y)
 
+-- an index is below what its width holds, and so one of 64 bits
+index-small : (f : ℕ) (s : List ℕ) → Bytes s → (i : ℕ) → atW (widthOf f) s i < 18446744073709551616
+unfolding topOf
+index-small f s y i = omega (arith, at-small (widthOf f) s i y, top-small f)
+
 items-append : (l : List Event) (e : Event) → SmallItems l → e .item < 4294967296 → SmallItems (l ++ (e ∷ []))
 items-append [] e h p = (p, tt)
 items-append (x ∷ l) e h p = (h .0, items-append l e (h .1) p)
@@ -102,12 +110,15 @@ bytes-drop s n y i = subst (λ x. x < 256) (sym (getD-drop n s i 0)) (y (n + i))
 contents-small : (s : List ℕ) → Bytes s → (i : ℕ) → Little (contentAt (imageIn s .nodes) i)
 unfolding imageIn readNodes
 contents-small s y i =
-    front-all Little (λ i. readContent s (nodePlace i)) (getD s 5 0) noContents noContent
-    (λ j p. (word-small s y (nodePlace j + 1), word-small s y (nodePlace j + 5))) no-content i
+    let f = formIn s in
+    front-all Little (λ i. readContent f s (nodePlace f i)) (getD s 5 0) noContents noContent
+    (λ j p. (index-small f s y (nodePlace f j + 1), word-small s y (nodePlace f j + 1 + widthOf f))) no-content i
 
-head-small : (s : List ℕ) → Bytes s → (k : ℕ) → headIn (imageIn s) k < 4294967296
+head-small : (s : List ℕ) → Bytes s → (k : ℕ) → headIn (imageIn s) k < 18446744073709551616
 unfolding imageIn readHeads
-head-small s y = heads-small (getD s 5 0) (λ k. at4 s (6 + k * 4)) (λ k. word-small s y (6 + k * 4))
+head-small s y =
+    let f = formIn s in
+    heads-small (getD s 5 0) (λ k. atW (widthOf f) s (headsAt f + k * widthOf f)) (λ k. index-small f s y (headsAt f + k * widthOf f))
 
 ran-small : (s : List ℕ) → Bytes s → accepted (ran s .answer) ≡ true → SmallBench (ran s .bench)
 unfolding ran eventsIn scheduleIn
@@ -175,7 +186,7 @@ module _ (b : Bench) (h : SmallBench b) (k : ℕ) (lt : k < product (tableOf b))
   unfolding imageOf
   ending-short q n =
       let first : 0 < headLines (b .machine .n) = omega (arith, one-head (b .machine .n)) in
-      short.image-short 64 k _ (omega arith) q (subst (λ x. x < 4294967296) (sym (head-one (imageOf (b .machine .n) chosen) ∙ heads-at (b .machine .n) (λ j. contentAt chosen j .index) 0 first))
+      short.image-short 64 k _ (omega arith) q (subst (λ x. x < 18446744073709551616) (sym (head-one (imageOf (b .machine .n) chosen) ∙ heads-at (b .machine .n) (λ j. contentAt chosen j .index) 0 first))
       (chosen-little 0 (omega arith) .0))
       (short.items-small _ (λ i. front-all Little (λ i. contentAt chosen (headLines (b .machine .n) + i)) (b .machine .n) noContents noContent
       (λ j p. chosen-little (headLines (b .machine .n) + j) (omega arith)) no-content i .1))
@@ -204,7 +215,8 @@ module _ (s : List ℕ) (y : Bytes s) (a : accepted (pageAnswer s) ≡ true) whe
   line-fits : (k : ℕ) → k < endingCount s → length (endingLine k (endingIn s k)) ≤ lineRoom 64
   unfolding endingIn ending tableIn endingCount
   line-fits k h =
-      ending-short (ran s .bench) (ran-small s y (holds.page-ran s a)) k h (omega (arith, numbers.count-few s a)) nodes-few
+      subst (λ (l : List ℕ). length l ≤ lineRoom 64) (sym (lines.line-form k (ran s .bench .machine .form) (ending (ran s .bench .machine .n) (tableIn s) k)))
+      (ending-short (ran s .bench) (ran-small s y (holds.page-ran s a)) k h (omega (arith, numbers.count-few s a)) nodes-few)
 
   pub lines-short : (k : ℕ) → k ≤ endingCount s → length (pageLine s k) ≤ lineRoom 64
   unfolding pageLine

@@ -28,7 +28,7 @@ fn no_lines(a: Answer) -> Lines
 }
 
 // As many lines of the page as fit into the lent buffer, from line k on: line 0 is the first line, line k + 1 that of ending k. The bytes
-// behind them stay. 16 where there is no line k, 17 where not even that one fits, which a buffer of 721 bytes never meets. On a refusal
+// behind them stay. 16 where there is no line k, 17 where not even that one fits, which a buffer of 731 bytes never meets. On a refusal
 // nothing is written.
 pub fn page_lines(s: &[u8], k: u64, b: &mut [u8]) -> Lines
     ensures answers { λ r. ⌜ told (r .answer) ≡ told (linesAnswer (now (s .entry)) k (length (now (b .entry)))) ⌝ }

@@ -92,6 +92,10 @@ at-split v w s i h =
     ∙ ap (λ k. numOf l + numOf (take w (drop (i + v) s)) * 256 ^ k) e
 
 -- the bytes themselves, at the code's numbers
+pub one-at : (s : List ℕ) (i : ℕ) → i + 1 ≤ length s → take 1 (drop i s) ≡ getD s i 0 ∷ []
+unfolding tab
+one-at s i h = tabs.take-drop-tab s 0 i 1 h ∙ simp add-zero
+
 pub two-at : (s : List ℕ) (i : ℕ) → i + 2 ≤ length s → take 2 (drop i s) ≡ getD s i 0 ∷ getD s (i + 1) 0 ∷ []
 unfolding tab
 two-at s i h = tabs.take-drop-tab s 0 i 2 h ∙ simp add-zero
@@ -99,3 +103,7 @@ two-at s i h = tabs.take-drop-tab s 0 i 2 h ∙ simp add-zero
 pub four-at : (s : List ℕ) (i : ℕ) → i + 4 ≤ length s → take 4 (drop i s) ≡ getD s i 0 ∷ getD s (i + 1) 0 ∷ getD s (i + 2) 0 ∷ getD s (i + 3) 0 ∷ []
 unfolding tab
 four-at s i h = tabs.take-drop-tab s 0 i 4 h ∙ simp add-zero
+
+pub pow-positive : (w : ℕ) → 0 < 256 ^ w
+pow-positive zero = omega arith
+pow-positive (suc w) = omega (arith, pow-positive w, pow-suc 256 w)

@@ -1,12 +1,13 @@
--- The image's layout: mark "UQI", version 1, N, head index, then for each node linked, index, item.
+-- The image's layout: mark "UQI", version, N, head index, then for each node linked, index, item.
 use Prim.Native.Nat.{ℕ, _+_, _*_}
 use mathlib.Core.Bool.{Bool, true, false}
 use mathlib.Core.List.{List, [], _∷_, _++_}
 use lib.ListN.{getD, replicate}
 use lib.Dec.{eqb}
-use Rattle.lists.specs.Find.{both}
+use Rattle.lists.specs.Find.{pick, both}
 use Rattle.lists.specs.Tab.{joined, front}
-use Rattle.image.specs.Bytes.{at1, at4, le4}
+use Rattle.image.specs.Bytes.{le, at1, atW, at4, le4}
+use Rattle.image.specs.Form.{known, widthOf, headsAt, nodeSize, headerSize}
 use Rattle.image.specs.declared.Content.{Content}
 use Rattle.image.specs.declared.Image.{Image}
 
@@ -30,6 +31,10 @@ headLines n = 1
 unfoldable pub noHeads : List ℕ
 noHeads = replicate 8 0
 
+-- an image's contents in form f
+abbrev pub inForm : ℕ → Image → Image
+inForm f g = record { form = f; n = g .n; heads = g .heads; nodes = g .nodes }
+
 -- the index in head line k
 abbrev pub headIn : Image → ℕ → ℕ
 headIn g k = getD (g .heads) k 0
@@ -38,42 +43,52 @@ headIn g k = getD (g .heads) k 0
 unfoldable pub headsOf : ℕ → (ℕ → ℕ) → List ℕ
 headsOf n x = front x (headLines n) noHeads
 
--- bytes 0 to 4 are these: a mark of three letters, and version 1
-unfoldable pub marked : ℕ → ℕ → ℕ → List ℕ → Bool
-marked a b c s =
-    both (eqb (at1 s 0) a) (both (eqb (at1 s 1) b) (both (eqb (at1 s 2) c) (both (eqb (at1 s 3) 1) (eqb (at1 s 4) 0))))
+-- bytes 0 to 4 are these: a mark of three letters, and a version
+unfoldable pub marked : ℕ → ℕ → ℕ → ℕ → List ℕ → Bool
+marked a b c v s =
+    both (eqb (at1 s 0) a) (both (eqb (at1 s 1) b) (both (eqb (at1 s 2) c) (both (eqb (at1 s 3) v) (eqb (at1 s 4) 0))))
 
--- the mark "UQI"
+-- the form that bytes have by their mark and version: "UQI" version 1; 0 where they have none
+unfoldable pub formIn : List ℕ → ℕ
+formIn s = pick (marked 85 81 73 1 s) 1 0
+
+-- "UQI" in a version that is read
 abbrev pub isImage : List ℕ → Bool
-isImage = marked 85 81 73
+isImage s = known (formIn s)
 
--- where node i begins; where the image of N nodes ends
-abbrev pub nodePlace : ℕ → ℕ
-nodePlace i = 10 + i * 9
+-- where node i of an image in form f begins; where the image of N nodes ends
+unfoldable pub nodePlace : ℕ → ℕ → ℕ
+nodePlace f i = headerSize f + i * nodeSize f
 
--- a node's nine bytes
-abbrev pub nodeBytes : Content → List ℕ
-nodeBytes v = v .linked ∷ (le4 (v .index) ++ le4 (v .item))
+-- a node's bytes: linked, index, item
+abbrev pub nodeBytes : ℕ → Content → List ℕ
+nodeBytes f v = v .linked ∷ (le (widthOf f) (v .index) ++ le4 (v .item))
 
-unfoldable pub headBytes : ℕ → (ℕ → ℕ) → List ℕ
-headBytes n x = 85 ∷ 81 ∷ 73 ∷ 1 ∷ 0 ∷ n ∷ joined (λ k. le4 (x k)) (headLines n)
+-- the version of "UQI" is its form's number
+unfoldable pub headBytes : ℕ → ℕ → (ℕ → ℕ) → List ℕ
+headBytes f n x = 85 ∷ 81 ∷ 73 ∷ f ∷ 0 ∷ n ∷ joined (λ k. le (widthOf f) (x k)) (headLines n)
 
-unfoldable pub bodyBytes : List Content → ℕ → List ℕ
-bodyBytes l n = joined (λ i. nodeBytes (contentAt l i)) n
+unfoldable pub bodyBytes : ℕ → List Content → ℕ → List ℕ
+bodyBytes f l n = joined (λ i. nodeBytes f (contentAt l i)) n
 
 -- an image as bytes
 unfoldable pub imageBytes : Image → List ℕ
-imageBytes g = headBytes (g .n) (headIn g) ++ bodyBytes (g .nodes) (g .n)
+imageBytes g = headBytes (g .form) (g .n) (headIn g) ++ bodyBytes (g .form) (g .nodes) (g .n)
 
 -- and back: what the bytes hold
-abbrev pub readContent : List ℕ → ℕ → Content
-readContent s at = record { linked = at1 s at; index = at4 s (at + 1); item = at4 s (at + 5) }
+abbrev pub readContent : ℕ → List ℕ → ℕ → Content
+readContent f s at = record { linked = at1 s at; index = atW (widthOf f) s (at + 1); item = at4 s (at + 1 + widthOf f) }
 
-unfoldable pub readNodes : List ℕ → ℕ → List Content
-readNodes s n = front (λ i. readContent s (nodePlace i)) n noContents
+unfoldable pub readNodes : ℕ → List ℕ → ℕ → List Content
+readNodes f s n = front (λ i. readContent f s (nodePlace f i)) n noContents
 
-unfoldable pub readHeads : List ℕ → ℕ → List ℕ
-readHeads s n = headsOf n (λ k. at4 s (6 + k * 4))
+unfoldable pub readHeads : ℕ → List ℕ → ℕ → List ℕ
+readHeads f s n = headsOf n (λ k. atW (widthOf f) s (headsAt f + k * widthOf f))
 
 unfoldable pub imageIn : List ℕ → Image
-imageIn s = record { n = at1 s 5; heads = readHeads s (at1 s 5); nodes = readNodes s (at1 s 5) }
+imageIn s = record {
+  form = formIn s;
+  n = at1 s 5;
+  heads = readHeads (formIn s) s (at1 s 5);
+  nodes = readNodes (formIn s) s (at1 s 5);
+}

@@ -1,4 +1,5 @@
 pub mod Bytes
+pub mod Form
 pub mod Layout
 pub mod Recovered
 pub mod Refusals

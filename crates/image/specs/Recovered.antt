@@ -5,7 +5,8 @@ use mathlib.Core.List.{List}
 use lib.ListN.{getD}
 use lib.Dec.{eqb, ltb}
 use Rattle.lists.specs.Find.{pick, both, least, any}
-use Rattle.image.specs.Layout.{contentAt, headLines}
+use Rattle.image.specs.Form.{topOf}
+use Rattle.image.specs.Layout.{contentAt, headLines, headIn}
 use Rattle.image.specs.declared.Content.{Content}
 use Rattle.image.specs.declared.Image.{Image}
 
@@ -44,3 +45,15 @@ dummyOf g = least (λ i. not (recoveredAt g i)) (g .n) 0
 -- the first node whose linked byte is above 1; N where none is
 unfoldable pub firstUnclear : Image → ℕ
 firstUnclear g = least (λ i. ltb 1 (contentAt (g .nodes) i .linked)) (g .n) 0
+
+-- an index is above the largest of its image's form
+abbrev pub tooWide : Image → ℕ → Bool
+tooWide g x = ltb (topOf (g .form)) x
+
+-- a head line's is
+unfoldable pub headTooWide : Image → Bool
+headTooWide g = any (λ k. tooWide g (headIn g k)) (headLines (g .n))
+
+-- the first node, recovered or not, whose index is; N where none is
+unfoldable pub firstTooWide : Image → ℕ
+firstTooWide g = least (λ i. tooWide g (contentAt (g .nodes) i .index)) (g .n) 0

@@ -10,15 +10,15 @@ pub fn no_contents() -> [Content; 64]
     ensures { λ r. ⌜ r ≡ noContents ⌝ }
 {
     let none = Content {
-        linked: 0,
         index: 0,
         item: 0,
+        linked: 0,
     };
     [none; 64]
 }
 
 // Indices of head lines that are all zero.
-pub fn no_heads() -> [u32; 8]
+pub fn no_heads() -> [u64; 8]
     ensures { λ r. ⌜ r ≡ noHeads ⌝ }
 {
     [0; 8]
@@ -30,5 +30,10 @@ pub fn blank_image() -> Image
 {
     let heads = no_heads();
     let nodes = no_contents();
-    Image { n: 0, heads, nodes }
+    Image {
+        heads,
+        nodes,
+        form: 0,
+        n: 0,
+    }
 }

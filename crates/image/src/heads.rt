@@ -4,7 +4,7 @@ ghost use Prim.Native.Nat.{_≤_};
 ghost use Rattle.image.specs.Recovered.{largest};
 
 // The largest of the first `count` indices; zero of none.
-pub fn largest_of(heads: [u32; 8], count: usize) -> u32
+pub fn largest_of(heads: [u64; 8], count: usize) -> u64
     requires { ⌜ count ≤ 8 ⌝ }
     ensures { λ r. ⌜ r ≡ largest heads count ⌝ }
 {

@@ -2,6 +2,7 @@
 use answer::Answer;
 
 pub mod blank;
+pub mod form;
 pub mod heads;
 pub mod recovered;
 pub mod same;
@@ -10,6 +11,11 @@ pub mod sound;
 pub use blank::blank_image;
 pub use blank::no_contents;
 pub use blank::no_heads;
+pub use form::is_known;
+pub use form::place_of;
+pub use form::top_of;
+pub use form::whole_of;
+pub use form::width_of;
 pub use heads::largest_of;
 pub use recovered::dummy_of;
 pub use recovered::is_recovered;
@@ -20,17 +26,18 @@ pub use sound::sound_of;
 
 // The content of a node's line.
 pub struct Content {
-    pub linked: u8,
-    pub index: u32,
+    pub index: u64,
     pub item: u32,
+    pub linked: u8,
 }
 
-// N, the indices of the head lines, and the contents of the N nodes. There is one head line: indices behind the first are not part of
-// it, nor are nodes at n and beyond.
+// The form (docs/DECISIONS.md), N, the indices of the head lines, and the contents of the N nodes. There is one head line: indices
+// behind the first are not part of it, nor are nodes at n and beyond.
 pub struct Image {
-    pub n: u8,
-    pub heads: [u32; 8],
+    pub heads: [u64; 8],
     pub nodes: [Content; 64],
+    pub form: u8,
+    pub n: u8,
 }
 
 // What reading an image gives: on a refusal the image is the blank one.

@@ -12,7 +12,7 @@ ghost use Rattle.image.specs.Recovered.{largest, recovered, dummyOf};
 ghost use Rattle.image.specs.Refusals.{startable};
 
 // A node is recovered when its linked flag is 1 and its index is above the head index.
-pub fn is_recovered(c: Content, h: u32) -> bool
+pub fn is_recovered(c: Content, h: u64) -> bool
     ensures { λ r. ⌜ r ≡ recovered h c ⌝ }
 {
     if c.linked == 1 {
@@ -22,7 +22,7 @@ pub fn is_recovered(c: Content, h: u32) -> bool
 }
 
 // By the indices of the head lines.
-pub fn recovered_in(c: Content, heads: [u32; 8]) -> bool
+pub fn recovered_in(c: Content, heads: [u64; 8]) -> bool
     ensures { λ r. ⌜ r ≡ recovered (largest heads 1) c ⌝ }
 {
     let h = largest_of(heads, 1);
@@ -30,7 +30,7 @@ pub fn recovered_in(c: Content, heads: [u32; 8]) -> bool
 }
 
 // Both are recovered, with one index.
-pub fn are_twins(a: Content, b: Content, h: u32) -> bool
+pub fn are_twins(a: Content, b: Content, h: u64) -> bool
     ensures { λ r. ⌜ r ≡ both (recovered h a) (both (recovered h b) (eqb (a .index) (b .index))) ⌝ }
 {
     if is_recovered(a, h) {

@@ -33,6 +33,7 @@ runOf s l = run 0 (opened (scheduleIn s)) l
 -- the image that the machine's persisted copies are
 abbrev pub imageLeft : Machine → Image
 imageLeft m = record {
+  form = m .form;
   n = m .n;
   heads = headsOf (m .n) (headIn (persisted m));
   nodes = front (contentAt (persisted m .nodes)) (m .n) noContents;

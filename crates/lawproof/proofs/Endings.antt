@@ -11,7 +11,7 @@ use Rattle.image.specs.declared.Content.{Content}
 use Rattle.image.specs.declared.Image.{Image}
 use Rattle.image.specs.Layout as layout
 use Rattle.image.specs.Layout.{noContent, noContents, contentAt}
-use Rattle.machine.specs.Record.{top}
+use Rattle.image.specs.Form.{topOf}
 use Rattle.machine.specs.declared.Line as memory
 use Rattle.machine.specs.declared.Line.the-variants as line
 use Rattle.machine.specs.Line.{numberOf}
@@ -43,7 +43,7 @@ use Rattle.tied.specs.Shown.{shownContent, lineShown, confOf, imageShown, Narro
 use Rattle.tied.specs.Always.{Among}
 use Rattle.tied.proofs.Images.{ImageT}
 use Rattle.tied.proofs.Contents.{Small}
-use Rattle.tied.proofs.Bench.{BenchT}
+use Rattle.tied.proofs.Bench.{BenchT, top-is}
 use Rattle.tied.proofs.Statements.{fits, tidies, run-threads, run-takes, run-ends}
 use Rattle.lawproof.proofs.Queues.{starts-accepted, queue-shown}
 use Rattle.lawproof.proofs.Transfer.{lawful-same}
@@ -61,7 +61,7 @@ module _ (b : schedule.Bench) (B : Bench) (r : BenchT b B) (c : List Content) (p
 
   -- as an image, here and there
   abbrev e : Image
-  e = imageOf (m .n) c
+  e = layout.inForm (m .form) (imageOf (m .n) c)
 
   abbrev E : recovery.Image
   E = imageShown e (m .t)
@@ -82,7 +82,7 @@ module _ (b : schedule.Bench) (B : Bench) (r : BenchT b B) (c : List Content) (p
   abbrev at : memory.Line → Content
   at k = contentAt c (numberOf (m .n) k)
 
-  small : (k : memory.Line) → LineIn (m .n) k → Small (at k)
+  small : (k : memory.Line) → LineIn (m .n) k → Small (B .mach .core .conf .top) (at k)
   small k h = r .lists .lists k h (at k) (pick k h) .0
 
   there : (k : memory.Line) → LineIn (m .n) k → Has (B .mach) (lineShown k) (shownContent (at k))
@@ -92,7 +92,7 @@ module _ (b : schedule.Bench) (B : Bench) (r : BenchT b B) (c : List Content) (p
   unfolding imageShown imageOf
   E-at i h = ap (λ x. sel x (shownContent (contentAt (e .nodes) i)) core.zeroNode) (lt-true i (m .n) h)
 
-  E-conf : E .conf ≡ confOf (m .n) (m .t)
+  E-conf : E .conf ≡ confOf (m .form) (m .n) (m .t)
   unfolding imageShown imageOf
   E-conf = refl
 
@@ -100,18 +100,21 @@ module _ (b : schedule.Bench) (B : Bench) (r : BenchT b B) (c : List Content) (p
   unfolding imageShown
   E-head = refl
 
-  small-at : (i : ℕ) → i < m .n → Small (contentAt (e .nodes) i)
-  small-at i h = subst Small (sym (e-at i h)) (small (line.OfNode i) h)
+  small-at : (i : ℕ) → i < m .n → Small (B .mach .core .conf .top) (contentAt (e .nodes) i)
+  small-at i h = subst (Small (B .mach .core .conf .top)) (sym (e-at i h)) (small (line.OfNode i) h)
+
+  e-top : B .mach .core .conf .top ≡ topOf (e .form)
+  e-top = top-is _ m (B .mach .core) (r .tied)
 
   pub chosenT : ImageT e (m .t) E
   chosenT = record {
-    conf = E-conf ∙ ap (λ n. confOf n (m .t)) (sym e-size);
+    conf = E-conf ∙ ap (λ n. confOf (m .form) n (m .t)) (sym e-size);
     sizes = rw e-size (r .tied .sizes);
     head = E-head;
     at = λ i h. E-at i (omega (arith, e-size));
     flag = λ i h. small-at i (omega (arith, e-size)) .0;
-    narrow-head = subst (λ x. x ≤ top) (sym e-head) (small (line.OfHead 0) (omega (arith, one-head (m .n))) .1);
-    narrow = λ i h. small-at i (omega (arith, e-size)) .1;
+    narrow-head = subst (λ x. x ≤ topOf (e .form)) (sym e-head) (omega (arith, small (line.OfHead 0) (omega (arith, one-head (m .n))) .1, e-top));
+    narrow = λ i h. omega (arith, small-at i (omega (arith, e-size)) .1, e-top);
   }
 
   -- an ending of the abstract machine
@@ -147,7 +150,7 @@ module _ (g : Image) (t : ℕ) (a : accepted (startAnswer g t) ≡ true) (w : Na
   module _ (c : List Content) (pick : Chosen (R .bench) c) where
     -- the ending that c is
     abbrev pub left : Image
-    left = imageOf (R .bench .machine .n) c
+    left = layout.inForm (R .bench .machine .form) (imageOf (R .bench .machine .n) c)
 
     both-halves : Fit (imageShown left (R .bench .machine .t)) × law.Lawful (M .book .op) (M .book .count) (M .first) (recovery.itemsOf (imageShown left (R .bench .machine .t)))
     both-halves = demand3b G (fits g t a w 0 l) (tidies g t a w 0 l) (map (eventShown (g .n)) l) (run-takes g t a w 0 l all) (imageShown left (R .bench .machine .t)) (is-ending (R .bench) M ends c pick)

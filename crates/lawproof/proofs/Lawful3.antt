@@ -10,7 +10,7 @@ use Rattle.lists.proofs.TabLaws.{length-tab, getD-tab}
 use Rattle.answer.specs.Answers.{accepted}
 use Rattle.answer.specs.declared.Answer.{Answer}
 use Rattle.image.specs.declared.Content.{Content}
-use Rattle.image.specs.Layout.{contentAt}
+use Rattle.image.specs.Layout.{contentAt, inForm}
 use Rattle.machine.specs.Line.{lineCount, lineAt, numberOf}
 use Rattle.machine.proofs.LineLaws.{number-in, line-number}
 use Rattle.schedule.specs.Layout.{scheduleIn, scheduleAnswer, eventsIn, threadsIn}
@@ -52,11 +52,11 @@ table-chosen b k h line hl =
 
 -- of the schedule alone: its bytes and its events are accepted, and the choice may be any
 module _ (s : List ℕ) (bytes : Bytes s) (a : accepted (scheduleAnswer s) ≡ true) (all : accepted (ran s .answer) ≡ true) where
-  pub chosen-recovers : (c : List Content) → Chosen (ran s .bench) c → Recovers s (imageOf (ran s .bench .machine .n) c)
+  pub chosen-recovers : (c : List Content) → Chosen (ran s .bench) c → Recovers s (inForm (ran s .bench .machine .form) (imageOf (ran s .bench .machine .n) c))
   unfolding ran scheduleIn
   chosen-recovers c pick = record {
-    starts = ending-starts (scheduleIn s .image) (scheduleIn s .t) (schedule-starts s a) (schedule-narrow s bytes) (eventsIn s) all c pick;
-    lawful = ending-lawful (scheduleIn s .image) (scheduleIn s .t) (schedule-starts s a) (schedule-narrow s bytes) (eventsIn s) all c pick;
+    starts = ending-starts (scheduleIn s .image) (scheduleIn s .t) (schedule-starts s bytes a) (schedule-narrow s bytes) (eventsIn s) all c pick;
+    lawful = ending-lawful (scheduleIn s .image) (scheduleIn s .t) (schedule-starts s bytes a) (schedule-narrow s bytes) (eventsIn s) all c pick;
   }
 
   pub endings-recover : PageLawful s

@@ -9,8 +9,9 @@ use Rattle.lists.specs.Find.{both}
 use Rattle.lists.proofs.FindLaws.{least-none}
 use Rattle.answer.specs.Answers.{check, accepted}
 use Rattle.answer.specs.declared.Answer.{Answer}
-use Rattle.answer.specs.declared.Answer.the-variants.{Taken, Nodes, Threads, Linked}
+use Rattle.answer.specs.declared.Answer.the-variants.{Taken, Mark, Nodes, Threads, Linked}
 use Rattle.image.specs.declared.Image.{Image}
+use Rattle.image.specs.Form.{known}
 use Rattle.image.specs.Layout.{contentAt}
 use Rattle.image.specs.Recovered.{firstUnclear}
 use Rattle.image.specs.Refusals.{nodesFit, sound}
@@ -23,6 +24,7 @@ use Rattle.model.specs.Demand3.{Fit}
 use Rattle.model.proofs.Basics.{le-true, lt-no}
 use Rattle.tied.proofs.Images.{ImageT, queue-is}
 use Rattle.tied.proofs.Accepted.{startable-yes}
+use Rattle.tied.proofs.Schedules.{whole-of}
 use Rattle.lawproof.proofs.Walk.{map-among, queue-start}
 
 check-no : (b : Bool) (w rest : Answer) → b ≡ false → accepted rest ≡ true → accepted (check b w rest) ≡ true
@@ -35,13 +37,19 @@ module _ (g : Image) (t : ℕ) (G : recovery.Image) (r : ImageT g t G) where
       let z = least-none (λ i. ltb 1 (contentAt (g .nodes) i .linked)) (g .n) 0 (λ i a b. lt-no 1 (contentAt (g .nodes) i .linked) (r .flag i (omega arith))) in
       lt-no _ (g .n) (omega (arith, z))
 
-  -- none of 4, 3, 6, 7, 8
+  -- 6, 7, 8 pass it
+  is-sound : Fit G → accepted (sound g Taken) ≡ true
+  unfolding sound
+  is-sound f = check-no (ltb (firstUnclear g) (g .n)) (Linked (firstUnclear g)) _ all-clear (ap accepted (startable-yes g t G r f Taken))
+
+  -- none of 4, 2, 3, 6, 7, 8, 20
   pub starts-accepted : Fit G → accepted (startAnswer g t) ≡ true
-  unfolding startAnswer sound
+  unfolding startAnswer
   starts-accepted f =
       check-no (not (threadsFit t)) Threads _ (ap not (ap₂ both (le-true 1 t (r .sizes .threads-lo)) (le-true t 8 (r .sizes .threads-hi))))
+      (check-no (not (known (g .form))) Mark _ (ap not (r .sizes .form))
       (check-no (not (nodesFit (g .n))) Nodes _ (ap not (ap₂ both (le-true 2 (g .n) (r .sizes .nodes-lo)) (le-true (g .n) 64 (r .sizes .nodes-hi))))
-      (check-no (ltb (firstUnclear g) (g .n)) (Linked (firstUnclear g)) _ all-clear (ap accepted (startable-yes g t G r f Taken))))
+      (whole-of g (is-sound f) (record { head = r .narrow-head; at = r .narrow }))))
 
   items-is : recovery.itemsOf G ≡ map (λ i. contentAt (g .nodes) i .item) (queueOf g)
   unfolding recovery.itemsOf

@@ -13,7 +13,7 @@ use Rattle.lists.proofs.BoolLaws as bools
 use Rattle.lists.proofs.TabLaws.{over-append}
 use Rattle.answer.specs.Answers.{told, check, accepted}
 use Rattle.answer.specs.declared.Answer.{Answer}
-use Rattle.answer.specs.declared.Answer.the-variants.{Taken, Length, Threads, Room}
+use Rattle.answer.specs.declared.Answer.the-variants.{Taken, Threads, Room}
 use Rattle.answer.proofs.Injective.{told-injective}
 use Rattle.image.specs.Layout.{imageIn}
 use Rattle.image.specs.Refusals.{imageAnswer, readImage, sound}
@@ -27,7 +27,9 @@ use Rattle.machine.specs.declared.Event.{Event}
 use Rattle.machine.specs.declared.Out.{Out}
 use Rattle.page.specs.Refusals.{andThen}
 use Rattle.record.specs.Layout.{readRecord, recordIn, recordAnswer, recordWritten}
+use Rattle.image.proofs.ByteLaws as num
 use Rattle.codec.proofs.Accepted as codec
+use Rattle.codec.proofs.ReadWrite as there
 use Rattle.judging.specs.History.{countIn, historyAnswer}
 use Rattle.judging.specs.Place.{padded}
 use Rattle.judging.specs.Judged.{judgedIn}
@@ -65,13 +67,9 @@ refused-is a w r p e h = p ∙ (packed-refused a (replyOf (told a)) h ∙ ap (λ
 
 -- ---- a record read from bytes
 
-read-by : (s : List ℕ) (x : Bool) → accepted (check (not x) Length Taken) ≡ true → pick x (recordIn s) blankMachine ≡ recordIn s
-read-by s true h = refl
-read-by s false h = bools.false-true h
-
 pub record-read : (s : List ℕ) → accepted (readRecord s .answer) ≡ true → readRecord s .machine ≡ recordIn s
 unfolding readRecord
-record-read s h = read-by s (eqb (length s) 1412) h
+record-read s h = rw h
 
 -- ---- a start
 
@@ -101,13 +99,13 @@ module _ (s : List ℕ) (t : ℕ) where
     unfolding startWritten
     start-written b h = rw (fit, h)
 
-    starts : accepted (imageAnswer 0 s) ≡ true → accepted (startAnswer (imageIn s) t) ≡ true
+    starts : num.Bytes s → accepted (imageAnswer 0 s) ≡ true → accepted (startAnswer (imageIn s) t) ≡ true
     unfolding startAnswer imageIn
-    starts h = let p = codec.part-taken 0 s h in rw (fit, p .nodes) (p .clear)
+    starts y h = let p = codec.part-taken 0 s h in rw (fit, p .mark, p .nodes, there.read-whole s y (p .mark) (p .clear))
 
-    pub start-machine : accepted (imageAnswer 0 s) ≡ true → startFrom (imageIn s) t .machine ≡ startOf (imageIn s) t
+    pub start-machine : num.Bytes s → accepted (imageAnswer 0 s) ≡ true → startFrom (imageIn s) t .machine ≡ startOf (imageIn s) t
     unfolding startFrom
-    start-machine h = rw (starts h, startFrom)
+    start-machine y h = rw (starts y h, startFrom)
 
 pub image-answer : (s : List ℕ) → readImage s .answer ≡ imageAnswer 0 s
 unfolding readImage

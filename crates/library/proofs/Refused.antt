@@ -25,7 +25,7 @@ use Rattle.page.specs.Refusals.{endingAnswer, endingWritten}
 use Rattle.page.specs.Filled.{linesOn, linesAnswer, linesTaken, linesBytes, linesWritten}
 use Rattle.printing.specs.Lines.{refusedText, ifFits}
 use Rattle.filling.specs.Lines.{refusalAnswer, refusalBytes, refusalWritten}
-use Rattle.record.specs.Layout.{readRecord, recordIn, recordAnswer, recordWritten, recordBytes}
+use Rattle.record.specs.Layout.{recordSize, readRecord, recordIn, recordAnswer, recordWritten, recordBytes}
 use Rattle.library.specs.Packed.{packed, replyOf}
 use Rattle.library.specs.Calls.{eventGiven, startAnswered, startWritten, eventAnswered, saveAnswered, saveWritten, placesAnswered}
 use Rattle.library.specs.Judging.{judgeAnswered}
@@ -82,7 +82,7 @@ record-by m b false h = bools.false-true (sym h)
 
 record-stays : (m : Machine) (b : List ℕ) → accepted (recordAnswer (length b)) ≡ false → recordWritten m b ≡ b
 unfolding recordAnswer recordWritten
-record-stays m b h = record-by m b (ltb (length b) 1412) h
+record-stays m b h = record-by m b (ltb (length b) recordSize) h
 
 start-stays : (s : List ℕ) (t : ℕ) (b : List ℕ) → accepted (startAnswered s t (length b)) ≡ false → startWritten s t b ≡ b
 start-stays s t b h = threads (threadsFit t) refl

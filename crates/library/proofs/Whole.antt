@@ -47,7 +47,7 @@ bytes-whole a lines bytes h l =
 -- ---- lines of a page
 
 -- c lines from line k on, none of them longer than the longest
-lines-long : (f : ℕ → List ℕ) (c k : ℕ) → ((j : ℕ) → k ≤ j → j < k + c → length (f j) ≤ lineRoom 64) → length (linesOn f k c) ≤ c * 721
+lines-long : (f : ℕ → List ℕ) (c k : ℕ) → ((j : ℕ) → k ≤ j → j < k + c → length (f j) ≤ lineRoom 64) → length (linesOn f k c) ≤ c * 731
 lines-long f zero k h = omega (arith, ap length (fits.on-none f k))
 lines-long f (suc c) k h =
     omega (
@@ -74,7 +74,7 @@ module _ (s : List ℕ) (k room : ℕ) (h : accepted (linesAnswer s k room) ≡ 
   taken-few : linesTaken s k room ≤ 65537
   taken-few = omega (arith, taken-left, numbers.count-few s page-taken)
 
-  taken-long : Bytes s → length (linesBytes s k room) ≤ 65537 * 721
+  taken-long : Bytes s → length (linesBytes s k room) ≤ 65537 * 731
   unfolding linesBytes
   taken-long y =
       let i = lines-long (pageLine s) (linesTaken s k room) k
@@ -89,7 +89,7 @@ lines-few s k room = by (accepted (linesAnswer s k room)) refl
     by true e = taken-few s k room e
     by false e = omega (arith, answers.taken-none s k room e)
 
--- of at most 721 bytes each
+-- of at most 731 bytes each
 pub bytes-few : (s : List ℕ) → Bytes s → (k room : ℕ) → length (linesBytes s k room) < 4294967296
 bytes-few s y k room = by (accepted (linesAnswer s k room)) refl
   where

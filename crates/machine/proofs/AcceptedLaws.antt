@@ -11,13 +11,16 @@ use Rattle.lists.specs.Find.{pick, least}
 use Rattle.lists.proofs.BoolLaws.{no-way}
 use Rattle.lists.proofs.FindLaws as find
 use Rattle.answer.specs.Answers.{check, accepted}
-use Rattle.answer.specs.declared.Answer.the-variants.{Taken, Nodes, Threads, Linked, Twin, NoDummy}
+use Rattle.answer.specs.declared.Answer.{Answer}
+use Rattle.answer.specs.declared.Answer.the-variants.{Taken, Mark, Nodes, Threads, Linked, Twin, NoDummy}
 use Rattle.image.specs.declared.Image.{Image}
 use Rattle.image.specs.Layout.{contentAt}
 use Rattle.image.specs.Recovered.{recoveredAt, twins, hasTwin, firstUnclear, firstTwin, dummyOf}
-use Rattle.image.specs.Refusals.{nodesFit, startable, sound}
+use Rattle.image.specs.Form.{known}
+use Rattle.image.specs.Refusals.{nodesFit, startable, sound, whole}
+use Rattle.image.proofs.SoundLaws.{Fitting, whole-then, whole-is}
 use Rattle.machine.specs.Start.{threadsFit, startAnswer}
-use Rattle.machine.proofs.AnswerLaws.{nodes-range, threads-range}
+use Rattle.machine.proofs.AnswerLaws.{answer-whole, nodes-range, threads-range}
 use Rattle.machine.proofs.TableLaws.{dummy-le}
 
 -- ---- searches
@@ -35,28 +38,36 @@ least-before f (suc k) s i a b = by (f s) refl (least-before f k (suc s) i) b (e
 
 -- ---- the answer is Taken
 
-tests :
-    (a b u w z : Bool) (i j : ℕ) →
-    accepted (check (not a) Threads (check (not b) Nodes (check u (Linked i) (check w (Twin j) (check z NoDummy Taken))))) ≡ true →
-    (a ≡ true) × (b ≡ true) × (u ≡ false) × (w ≡ false) × (z ≡ false)
-tests false b u w z i j e = no-way (sym e)
-tests true false u w z i j e = no-way (sym e)
-tests true true true w z i j e = no-way (sym e)
-tests true true false true z i j e = no-way (sym e)
-tests true true false false true i j e = no-way (sym e)
-tests true true false false false i j e = (refl, refl, refl, refl, refl)
+fronts : (a f b : Bool) (w : Answer) → accepted (check (not a) Threads (check (not f) Mark (check (not b) Nodes w))) ≡ true
+    → (a ≡ true) × (f ≡ true) × (b ≡ true) × (accepted w ≡ true)
+fronts false f b w e = no-way (sym e)
+fronts true false b w e = no-way (sym e)
+fronts true true false w e = no-way (sym e)
+fronts true true true w e = (refl, refl, refl, e)
+
+tests : (u w z : Bool) (i j : ℕ) → accepted (check u (Linked i) (check w (Twin j) (check z NoDummy Taken))) ≡ true
+    → (u ≡ false) × (w ≡ false) × (z ≡ false)
+tests true w z i j e = no-way (sym e)
+tests false true z i j e = no-way (sym e)
+tests false false true i j e = no-way (sym e)
+tests false false false i j e = (refl, refl, refl)
+
+pub passed : (g : Image) (t : ℕ) → accepted (startAnswer g t) ≡ true
+    → (threadsFit t ≡ true) × (known (g .form) ≡ true) × (nodesFit (g .n) ≡ true) × (accepted (whole g Taken) ≡ true)
+unfolding startAnswer
+passed g t e = fronts (threadsFit t) (known (g .form)) (nodesFit (g .n)) (whole g Taken) e
 
 -- an accepted start is Taken
 pub taken-start : (g : Image) (t : ℕ) → accepted (startAnswer g t) ≡ true → startAnswer g t ≡ Taken
-unfolding startAnswer sound startable
-taken-start g t e =
-    let r = tests (threadsFit t) (nodesFit (g .n)) (ltb (firstUnclear g) (g .n)) (ltb (firstTwin g) (g .n)) (eqb (dummyOf g) (g .n)) (firstUnclear g) (firstTwin g) e in
-    rw (r .0, r .1, r .2, r .3, r .4)
+taken-start g t e = let r = passed g t e in answer-whole g t (r .0) (r .1) (r .2) ∙ whole-then g Taken (r .3)
 
--- in the words of the refusals: T and N in range, no unclear linked byte, no twins, a node for the dummy
+-- in the words of the refusals: T and N in range, a form that is read, no unclear linked byte, no twins, a node for the dummy, every index
+-- within the form's width
 pub record Accepted (g : Image) (t : ℕ) : Type 0 where
   pub threads : (1 ≤ t) × (t ≤ 8)
+  pub form : known (g .form) ≡ true
   pub nodes : (2 ≤ g .n) × (g .n ≤ 64)
+  pub fits : Fitting g
   pub clear : (i : ℕ) → i < g .n → contentAt (g .nodes) i .linked ≤ 1
   pub single : (i j : ℕ) → i < g .n → j < i → recoveredAt g i ≡ true → recoveredAt g j ≡ true → contentAt (g .nodes) i .index ≢ contentAt (g .nodes) j .index
   pub dummy : dummyOf g < g .n
@@ -78,15 +89,19 @@ clear-at g h i a =
     (find.least-clear (λ i. ltb 1 (contentAt (g .nodes) i .linked)) (g .n) 0 (omega arith) i (omega arith) (omega arith))
 
 pub accepted-start : (g : Image) (t : ℕ) → accepted (startAnswer g t) ≡ true → Accepted g t
-unfolding startAnswer sound startable
+unfolding sound startable
 accepted-start g t e =
-    let r = tests (threadsFit t) (nodesFit (g .n)) (ltb (firstUnclear g) (g .n)) (ltb (firstTwin g) (g .n)) (eqb (dummyOf g) (g .n)) (firstUnclear g) (firstTwin g) e in
-    let ne = eqb-false (dummyOf g) (g .n) (r .4) in
+    let p = passed g t e in
+    let w = whole-is g (p .3) in
+    let r = tests (ltb (firstUnclear g) (g .n)) (ltb (firstTwin g) (g .n)) (eqb (dummyOf g) (g .n)) (firstUnclear g) (firstTwin g) (w .sound) in
+    let ne = eqb-false (dummyOf g) (g .n) (r .2) in
     record {
-      threads = threads-range t (r .0);
-      nodes = nodes-range (g .n) (r .1);
-      clear = clear-at g (ltb-false (firstUnclear g) (g .n) (r .2));
-      single = λ i j a b. twin-free g i j (no-twins g (ltb-false (firstTwin g) (g .n) (r .3)) i j a b);
+      threads = threads-range t (p .0);
+      form = p .1;
+      nodes = nodes-range (g .n) (p .2);
+      fits = w .fits;
+      clear = clear-at g (ltb-false (firstUnclear g) (g .n) (r .0));
+      single = λ i j a b. twin-free g i j (no-twins g (ltb-false (firstTwin g) (g .n) (r .1)) i j a b);
       dummy = omega (arith, dummy-le g, ne);
     }
 

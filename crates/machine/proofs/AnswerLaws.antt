@@ -7,14 +7,15 @@ use denote.Enum.Declared.{tagOf}
 use Rattle.answer.proofs.Answer.{the-type}
 use mathlib.Core.Bool.{Bool, true, false}
 use borrow.Author.Tests.{leb-true}
-use lib.Dec.{eqb, ltb, leb}
+use lib.Dec.{leb}
 use Rattle.lists.proofs.BoolLaws.{both-true}
-use Rattle.answer.specs.Answers.{check, accepted}
+use Rattle.answer.specs.Answers.{accepted}
 use Rattle.answer.specs.declared.Answer.{Answer}
-use Rattle.answer.specs.declared.Answer.the-variants.{Taken, Nodes, Threads, Linked, Twin, NoDummy}
+use Rattle.answer.specs.declared.Answer.the-variants.{Taken, Mark, Nodes, Threads}
 use Rattle.image.specs.declared.Image.{Image}
-use Rattle.image.specs.Recovered.{firstUnclear, firstTwin, dummyOf}
-use Rattle.image.specs.Refusals.{nodesFit, startable, sound}
+use Rattle.image.specs.Form.{known}
+use Rattle.image.specs.Refusals.{nodesFit, whole}
+use Rattle.image.proofs.SoundLaws.{whole-then}
 use Rattle.machine.specs.Start.{startOf, blankMachine, threadsFit, startAnswer, startFrom}
 use Rattle.machine.specs.Laid.{refusedStart}
 use Rattle.machine.specs.declared.Out.{Out}
@@ -35,30 +36,29 @@ module _ (g : Image) (t : ℕ) where
   unfolding startAnswer
   answer-threads e = rw e
 
-  pub answer-nodes : threadsFit t ≡ true → nodesFit (g .n) ≡ false → startAnswer g t ≡ Nodes
+  pub answer-form : threadsFit t ≡ true → known (g .form) ≡ false → startAnswer g t ≡ Mark
   unfolding startAnswer
-  answer-nodes e f = rw (e, f)
+  answer-form e k = rw (e, k)
 
-  pub answer-sound : threadsFit t ≡ true → nodesFit (g .n) ≡ true → startAnswer g t ≡ sound g Taken
+  pub answer-nodes : threadsFit t ≡ true → known (g .form) ≡ true → nodesFit (g .n) ≡ false → startAnswer g t ≡ Nodes
   unfolding startAnswer
-  answer-sound e f = rw (e, f)
+  answer-nodes e k f = rw (e, k, f)
 
-refused-by :
-    (x y z : Bool) (i j : ℕ) → (check x (Linked i) (check y (Twin j) (check z NoDummy Taken)) ≡ Taken → ⊥) →
-    accepted (check x (Linked i) (check y (Twin j) (check z NoDummy Taken))) ≡ false
-refused-by true y z i j h = refl
-refused-by false true z i j h = refl
-refused-by false false true i j h = refl
-refused-by false false false i j h = absurd (h refl)
+  pub answer-whole : threadsFit t ≡ true → known (g .form) ≡ true → nodesFit (g .n) ≡ true → startAnswer g t ≡ whole g Taken
+  unfolding startAnswer
+  answer-whole e k f = rw (e, k, f)
 
--- an image that is not taken is refused
-pub sound-refused : (g : Image) → (sound g Taken ≡ Taken → ⊥) → accepted (sound g Taken) ≡ false
-unfolding sound startable
-sound-refused g h = refused-by (ltb (firstUnclear g) (g .n)) (ltb (firstTwin g) (g .n)) (eqb (dummyOf g) (g .n)) (firstUnclear g) (firstTwin g) h
+-- contents that are not taken are refused
+pub whole-refused : (g : Image) → (whole g Taken ≡ Taken → ⊥) → accepted (whole g Taken) ≡ false
+whole-refused g h = by (accepted (whole g Taken)) refl
+  where
+    by : (b : Bool) → accepted (whole g Taken) ≡ b → b ≡ false
+    by true e = absurd (h (whole-then g Taken e))
+    by false e = refl
 
 -- the numbers of all variants but the first
 abbrev pub keys : List ℕ
-keys = 1 ∷ 2 ∷ 3 ∷ 4 ∷ 5 ∷ 6 ∷ 7 ∷ 8 ∷ 9 ∷ 10 ∷ 11 ∷ 12 ∷ 13 ∷ 14 ∷ 15 ∷ 16 ∷ 17 ∷ 18 ∷ 19 ∷ 20 ∷ 21 ∷ 22 ∷ 23 ∷ []
+keys = 1 ∷ 2 ∷ 3 ∷ 4 ∷ 5 ∷ 6 ∷ 7 ∷ 8 ∷ 9 ∷ 10 ∷ 11 ∷ 12 ∷ 13 ∷ 14 ∷ 15 ∷ 16 ∷ 17 ∷ 18 ∷ 19 ∷ 20 ∷ 21 ∷ 22 ∷ 23 ∷ 24 ∷ 25 ∷ []
 
 pub not-taken : (a : Answer) → OneOf keys (tagOf the-type a) → a ≡ Taken → ⊥
 not-taken a h e = miss keys 0 tt (subst (λ (x : Answer). OneOf keys (tagOf the-type x)) e h)

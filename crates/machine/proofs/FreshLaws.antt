@@ -11,9 +11,12 @@ use Rattle.lists.specs.Find.{least}
 use Rattle.lists.proofs.FindLaws as find
 use Rattle.answer.specs.Answers.{accepted}
 use Rattle.answer.specs.declared.Answer.the-variants.{Taken}
-use Rattle.image.specs.Layout.{noContent, noContents, contentAt}
+use Rattle.image.specs.declared.Content.{Content}
+use Rattle.image.specs.Layout.{noContent, noContents, noHeads, contentAt}
 use Rattle.image.specs.Recovered.{recovered, recoveredAt, twins, hasTwin, firstUnclear, firstTwin, dummyOf}
-use Rattle.image.specs.Refusals.{startable, sound}
+use Rattle.image.specs.Form.{known, topOf}
+use Rattle.image.specs.Refusals.{startable, sound, fitting, whole}
+use Rattle.image.proofs.SoundLaws.{Fitting, is-fitting}
 use Rattle.machine.specs.Start.{zeroImage, freshOf, startAnswer, freshFrom}
 use Rattle.machine.specs.Range.{inRange}
 use Rattle.machine.proofs.AnswerLaws.{start-taken}
@@ -50,9 +53,16 @@ unfolding dummyOf least
 zero-dummy zero h = absurd (omega arith)
 zero-dummy (suc n) h = rw (zero-unrecovered (suc n) 0)
 
+zero-fits : (n : ℕ) → Fitting (zeroImage n)
+unfolding noHeads
+zero-fits n = record {
+  head = omega arith;
+  at = λ i h. let e = ap (λ (c : Content). c .index) (zero-at i) in omega (arith, e);
+}
+
 -- the all-zero image of 2 to 64 nodes is taken, with 1 to 8 threads
 pub zero-taken : (n t : ℕ) → 2 ≤ n → n ≤ 64 → 1 ≤ t → t ≤ 8 → startAnswer (zeroImage n) t ≡ Taken
-unfolding startAnswer sound startable
+unfolding startAnswer whole sound startable known
 zero-taken n t a b c d =
     let m = zero-dummy n (omega arith) in
     rw (
@@ -64,6 +74,7 @@ zero-taken n t a b c d =
       le-ltb (firstTwin (zeroImage n)) n (omega (arith, zero-single n)),
       ne-eqb (dummyOf (zeroImage n)) n (λ e. omega (arith, m, e)),
     )
+    (is-fitting (zeroImage n) Taken (zero-fits n))
 
 -- so the fresh machine is its start, with node 0 as the dummy
 pub fresh-taken : (n t : ℕ) → 2 ≤ n → n ≤ 64 → 1 ≤ t → t ≤ 8 → freshFrom n t ≡ record { answer = Taken; machine = freshOf n t }

@@ -49,7 +49,7 @@ module _ (g : Image) (t : ℕ) where
   unfolding startWith front
   persisted-is h e i =
       let same : tab (contentAt (g .nodes)) (g .n) ≡ take (g .n) (g .nodes) = sym (tabs.take-drop-tab (g .nodes) noContent 0 (g .n) (omega arith) ∙ tabs.tab-same _ (contentAt (g .nodes)) (g .n) (λ i p. ap (contentAt (g .nodes)) (omega arith))) in
-      ap₂ (λ (x : List ℕ) (l : List Content). record { n = g .n; heads = x; nodes = l }) i (ap₂ (λ (a b : List Content). a ++ b) same (sym e) ∙ take-append-drop (g .n) (g .nodes))
+      ap₂ (λ (x : List ℕ) (l : List Content). record { form = g .form; n = g .n; heads = x; nodes = l }) i (ap₂ (λ (a b : List Content). a ++ b) same (sym e) ∙ take-append-drop (g .n) (g .nodes))
 
   pub kept-head-is : (k : ℕ) → k < headLines (g .n) → keptHead (startOf g t) k ≡ headIn g k
   unfolding startWith

@@ -1,10 +1,11 @@
 -- Enqueue, step by step: A1 to A12 of thread k. i is the thread's own node, t the tail it read.
 use Prim.Native.Nat.{ℕ, _+_}
-use lib.Dec.{eqb}
+use lib.Dec.{eqb, leb}
 use Rattle.lists.specs.Find.{pick}
 use Rattle.lists.specs.Word.{without}
 use Rattle.answer.specs.declared.Answer.the-variants.{Done, Full, WornOut}
-use Rattle.machine.specs.Record.{none, top, node, thread, ownNode, readTail, withItem, withNext, withLinked, withIndex, putNode, putTail, putFree}
+use Rattle.image.specs.Form.{topOf}
+use Rattle.machine.specs.Record.{none, node, thread, ownNode, readTail, withItem, withNext, withLinked, withIndex, putNode, putTail, putFree}
 use Rattle.machine.specs.Stage.{A2, A3, A4, A5, A6, A7, A8, A9, A10, A11, A12, number}
 use Rattle.machine.specs.Line.{ofNode, persist}
 use Rattle.machine.specs.Retire.{moving, going, answering, storing, persisting, nextFree, freed}
@@ -41,12 +42,12 @@ stepA5 m k = moving m k (readTail (thread m k) (m .tail)) (number A6)
 abbrev pub stepA6 : Machine → ℕ → Acted
 stepA6 m k = let t = thread m k .tail in going m k (pick (eqb (node m t .next) none) (number A7) (number A12))
 
--- A7 index set to t's index + 1. If t's index is the largest the node becomes free again, its index unchanged, and the answer is Worn out
+-- A7 index set to t's index + 1. If t's index is the largest of the form the node becomes free again, its index unchanged, and the answer is Worn out
 abbrev pub stepA7 : Machine → ℕ → Acted
 stepA7 m k =
     let i = thread m k .node in
     let t = thread m k .tail in
-    pick (eqb (node m t .index) top) (answering WornOut (freed m i) k)
+    pick (leb (topOf (m .form)) (node m t .index)) (answering WornOut (freed m i) k)
     (storing (ofNode i) (going (putNode m i (withIndex (node m i) (node m t .index + 1))) k (number A8)))
 
 -- A8 if t's next is none it becomes the new node, go to A9; else to A12

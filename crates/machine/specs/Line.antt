@@ -64,4 +64,4 @@ persist m (ofNode i) = putKept m i (contentOf (node m i))
 
 -- the persisted copies, as an image
 abbrev pub persisted : Machine → Image
-persisted m = record { n = m .n; heads = m .«kept_heads»; nodes = m .kept }
+persisted m = record { form = m .form; n = m .n; heads = m .«kept_heads»; nodes = m .kept }

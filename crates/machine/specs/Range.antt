@@ -3,8 +3,10 @@ use Prim.Native.Nat.{ℕ, _^_}
 use mathlib.Core.Bool.{Bool, true, false, not}
 use lib.Dec.{eqb, ltb, leb}
 use Rattle.lists.specs.Find.{pick, both, any}
+use Rattle.image.specs.Form.{known, topOf}
+use Rattle.image.specs.Layout.{headLines}
 use Rattle.image.specs.Refusals.{nodesFit}
-use Rattle.machine.specs.Record.{none, node, kept, thread}
+use Rattle.machine.specs.Record.{none, node, kept, headAt, keptHead, thread}
 use Rattle.machine.specs.Stage.{A12, number, lastStep, own, t, theHead, theNext, uses, stage}
 use Rattle.machine.specs.Start.{threadsFit}
 use Rattle.machine.specs.declared.Machine.{Machine}
@@ -60,10 +62,33 @@ threadFits m k =
     (both (readFits m (uses s theNext) (v .next))
     (both (isLink m (v .held)) (nextFits m (eqb (v .step) (number A12)) (v .tail)))))))
 
--- the whole record
-unfoldable pub inRange : Machine → Bool
-inRange m =
+-- N, T, and every node, line, thread and step number and count
+unfoldable pub rangesFit : Machine → Bool
+rangesFit m =
     both (sizesFit m)
     (both (endsFit m)
     (both (freeFits m)
     (both (not (any (λ i. not (nodeFits m i)) (m .n))) (not (any (λ k. not (threadFits m k)) (m .t))))))
+
+-- ---- "A record's index above its width is 18"
+
+abbrev pub isIndex : Machine → ℕ → Bool
+isIndex m x = leb x (topOf (m .form))
+
+-- of a head line and of a node both copies
+unfoldable pub headFits : Machine → ℕ → Bool
+headFits m k = both (isIndex m (headAt m k)) (isIndex m (keptHead m k))
+
+unfoldable pub indexFits : Machine → ℕ → Bool
+indexFits m i = both (isIndex m (node m i .index)) (isIndex m (kept m i .index))
+
+-- the form is one that is read, and every index is within its width
+unfoldable pub formFits : Machine → Bool
+formFits m =
+    both (known (m .form))
+    (both (not (any (λ k. not (headFits m k)) (headLines (m .n))))
+    (both (not (any (λ i. not (indexFits m i)) (m .n))) (not (any (λ k. not (isIndex m (thread m k .index))) (m .t)))))
+
+-- the whole record
+unfoldable pub inRange : Machine → Bool
+inRange m = both (rangesFit m) (formFits m)

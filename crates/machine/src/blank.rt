@@ -48,6 +48,7 @@ pub fn blank_machine() -> Machine
     let kept = no_contents();
     let threads = idle_threads();
     Machine {
+        form: 0,
         n: 0,
         t: 0,
         head: 0,

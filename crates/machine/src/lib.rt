@@ -17,40 +17,41 @@ ghost use Rattle.machine.specs.Start.{freshFrom};
 
 // A node's cached copy, its link (255: none), and the threads it waits for, as a set.
 pub struct Node {
+    pub index: u64,
     pub item: u32,
     pub next: u8,
     pub linked: u8,
-    pub index: u32,
     pub waits: u8,
 }
 
 // A thread: its next step (0: no operation, 1 to 12: A1 to A12, 13 to 19: D1 to D7) and what it has read.
 // A node number of 255 is none.
 pub struct Thread {
+    pub index: u64,
+    pub item: u32,
     pub step: u8,
     pub node: u8,
     pub tail: u8,
     pub head: u8,
-    pub index: u32,
     pub next: u8,
-    pub item: u32,
     pub held: u8,
 }
 
-// N and T; Head, a node number with an index, which is that of head line 0; Tail; the free set as a word; cached and persisted copies,
+// The form of its image; N and T; Head, a node number with an index, which is that of head line 0; Tail; the free set as a word; cached and persisted copies,
 // those of the head lines apart; the threads. Indices of head lines behind the first, nodes at n and beyond and threads at t and beyond
 // are not part of it.
 pub struct Machine {
+    pub free: u64,
+    pub heads: [u64; 8],
+    pub kept_heads: [u64; 8],
+    pub nodes: [Node; 64],
+    pub kept: [Content; 64],
+    pub threads: [Thread; 8],
+    pub form: u8,
     pub n: u8,
     pub t: u8,
     pub head: u8,
-    pub heads: [u32; 8],
     pub tail: u8,
-    pub free: u64,
-    pub nodes: [Node; 64],
-    pub kept_heads: [u32; 8],
-    pub kept: [Content; 64],
-    pub threads: [Thread; 8],
 }
 
 impl Machine {
@@ -116,7 +117,12 @@ impl Machine {
     {
         let heads = no_heads();
         let nodes = no_contents();
-        let g = Image { n, heads, nodes };
+        let g = Image {
+            heads,
+            nodes,
+            form: 1,
+            n,
+        };
         start_from(g, t)
     }
 }

@@ -13,11 +13,12 @@ use answer::Answer;
 use image::Content;
 use image::Image;
 use image::dummy_of;
+use image::is_known;
 use image::largest_of;
 use image::no_contents;
 use image::no_heads;
 use image::recovered_in;
-use image::sound_of;
+use image::whole_of;
 ghost use mathlib.Core.Path.{_≡_};
 ghost use Prim.Native.Nat.{suc, _≤_, _<_};
 ghost use Rattle.answer.specs.Answers.{told};
@@ -67,7 +68,7 @@ fn nodes_of(g: Image, d: u8, q: Queue) -> [Node; 64]
 }
 
 // The indices of the head lines as read: the persisted ones stay, the cached ones are the same.
-fn heads_of(g: Image) -> [u32; 8]
+fn heads_of(g: Image) -> [u64; 8]
     ensures { λ r. ⌜ r ≡ startHeads g ⌝ }
 {
     let mut heads = no_heads();
@@ -138,6 +139,7 @@ pub fn start(g: Image, t: u8) -> Machine
     let kept = kept_of(g);
     let threads = idle_threads();
     Machine {
+        form: g.form,
         n: g.n,
         t,
         head: d,
@@ -179,7 +181,7 @@ fn refused(a: Answer) -> Out
     Out { answer: a, machine }
 }
 
-// A start from contents and T, tested for 4, 3, 6, 7, 8. Public: every input is answered.
+// A start from contents and T, tested for 4, 2, 3, 6, 7, 8, 20. Public: every input is answered.
 pub fn start_from(g: Image, t: u8) -> Out
     ensures answered { λ r. ⌜ told (r .answer) ≡ told (startFrom g t .answer) ⌝ }
     ensures started { λ r. ⌜ r .machine ≡ startFrom g t .machine ⌝ }
@@ -187,10 +189,13 @@ pub fn start_from(g: Image, t: u8) -> Out
     if !threads_fit(t) {
         return refused(Answer::Threads);
     }
+    if !is_known(g.form) {
+        return refused(Answer::Mark);
+    }
     if !nodes_fit(g.n) {
         return refused(Answer::Nodes);
     }
-    let a = sound_of(g);
+    let a = whole_of(g);
     if let Answer::Taken = a {
         let machine = start(g, t);
         return Out {

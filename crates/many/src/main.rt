@@ -28,7 +28,7 @@ fn one_more(refused: u64, more: bool) -> u64 {
 
 // The page of the next schedule.
 fn print_next(s: &mut [u8], b: &mut [u8], refused: u64) -> Turn
-    requires { ⌜ (721 ≤ length (now b)) × (length (now b) ≤ 65536) ⌝ }
+    requires { ⌜ (731 ≤ length (now b)) × (length (now b) ≤ 65536) ⌝ }
 {
     let next = next_item(s);
     if !next.there {
@@ -59,7 +59,7 @@ struct Totals {
 
 // Nothing says that the input ends, so the pages are counted up to a number that no run reaches.
 fn print_all(s: &mut [u8], b: &mut [u8]) -> Totals
-    requires { ⌜ (721 ≤ length (now b)) × (length (now b) ≤ 65536) ⌝ }
+    requires { ⌜ (731 ≤ length (now b)) × (length (now b) ≤ 65536) ⌝ }
 {
     let mut done: u64 = 0;
     let mut refused: u64 = 0;
@@ -76,7 +76,7 @@ fn print_all(s: &mut [u8], b: &mut [u8]) -> Totals
 }
 
 fn main() {
-    // The longest schedule has 25,170 bytes: what is longer than this is refused as its first part is.
+    // The longest schedule has 25,430 bytes: what is longer than this is refused as its first part is.
     let mut s = [0u8; 32768];
     let mut b = io::large_buffer();
     let totals = print_all(&mut s, &mut b);

@@ -152,7 +152,7 @@ image-injective n c d p q g h e = ext-getD noContent c d (p ∙ sym q) (λ i r. 
 
 -- what an image beyond the last ending reads as
 abbrev pub noImage : Image
-noImage = record { n = 0; heads = noHeads; nodes = noContents }
+noImage = record { form = 0; n = 0; heads = noHeads; nodes = noContents }
 
 module _ (n : ℕ) (line : List Content) (rest : List (List Content)) (size : length (line ∷ rest) ≡ lineCount n) (head : (j : ℕ) → j < length line → OfHead (contentAt line j)) where
   choice-head : (k : ℕ) → k < product (line ∷ rest) → OfHead (contentAt (getD (choices (line ∷ rest)) k []) 0)

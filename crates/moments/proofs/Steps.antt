@@ -4,11 +4,12 @@ use mathlib.Core.Path.{_≡_, refl, sym, ap, subst, _∙_}
 use mathlib.Core.Bool.{Bool, true, false}
 use native.Mathlib.Omega.{arith}
 use lib.ListN.{length}
-use lib.Dec.{eqb}
+use lib.Dec.{eqb, leb}
 use Rattle.lists.specs.Find.{pick, both}
 use Rattle.answer.specs.Answers.{accepted}
 use Rattle.answer.specs.declared.Answer.{Answer}
-use Rattle.machine.specs.Record.{none, top, node, thread, headAt, withItem, withNext, withLinked, withIndex, putNode, putTail}
+use Rattle.image.specs.Form.{topOf}
+use Rattle.machine.specs.Record.{none, node, thread, headAt, withItem, withNext, withLinked, withIndex, putNode, putTail}
 use Rattle.machine.specs.Stage.{Stage, noStep, A1, A2, A3, A4, A5, A6, A7, A8, A9, A10, A11, A12, D1, D2, D3, D4, D5, D6, D7, stage}
 use Rattle.machine.specs.Line.{lineAt, persist}
 use Rattle.machine.specs.declared.Line.the-variants.{OfHead as ofHead, OfNode as ofNode}
@@ -73,7 +74,7 @@ module _ (m : Machine) (k : ℕ) where
   frame-step h A7 =
       let i = thread m k .node in
       let t = thread m k .tail in
-      picked (eqb (node m t .index) top) _ _
+      picked (leb (topOf (m .form)) (node m t .index)) _ _
       (still m _ (answers m (freed m i) k _ (here _ refl refl refl refl refl)))
       (on _ _ _ (frame.frame-node m i (withIndex (node m i) (node m t .index + 1))) refl refl refl refl refl)
   frame-step h A8 =

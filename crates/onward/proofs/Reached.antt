@@ -11,7 +11,7 @@ use Rattle.lists.proofs.BoolLaws.{yes-of}
 use Rattle.lists.proofs.TabLaws as tabs
 use Rattle.answer.specs.Answers.{accepted}
 use Rattle.answer.specs.declared.Answer.the-variants.{Taken}
-use Rattle.image.specs.Layout.{imageIn}
+use Rattle.image.specs.Layout.{formIn, imageIn}
 use Rattle.machine.specs.Start.{startOf}
 use Rattle.machine.specs.Event.{Deed, unknown, enqueues, dequeues, steps, writesBack, crashes, deedOf, done, eventAt}
 use Rattle.machine.specs.Range.{inRange}
@@ -19,7 +19,7 @@ use Rattle.machine.specs.declared.Machine.{Machine}
 use Rattle.machine.specs.declared.Event.{Event}
 use Rattle.machine.specs.declared.Acted.{Acted}
 use Rattle.machine.specs.declared.Touch.the-variants.{Nothing as nothing}
-use Rattle.schedule.specs.Layout.{scheduleIn, scheduleAnswer, eventFrom, eventPlace, eventIn, countIn, nodesIn}
+use Rattle.schedule.specs.Layout.{scheduleIn, scheduleAnswer, eventFrom, eventPlace, eventIn, countIn, imagePart, nodesIn}
 use Rattle.schedule.specs.Run.{Bench, Ran, turned, forward, benchAt, andBefore, run, opened}
 use Rattle.schedule.specs.Running.{Reached, noEvent, openedRun, forwardRun, benchTo, ranTo}
 use Rattle.schedule.specs.declared.Schedule.{Schedule}
@@ -33,11 +33,11 @@ use Rattle.tied.proofs.Schedules as schedules
 -- ---- at the code's terms
 
 pub opened-is : (s : List ℕ) (d : Schedule) (m : Machine) → d ≡ scheduleIn s → m ≡ startOf (d .image) (getD s 5 0)
-    → record { t = getD s 5 0; n = d .image .n; count = d .count; place = 0; answer = Taken; machine = m; event = noEvent; touch = nothing } ≡ openedRun s
+    → record { t = getD s 5 0; n = d .image .n; form = d .image .form; count = d .count; place = 0; answer = Taken; machine = m; event = noEvent; touch = nothing } ≡ openedRun s
 unfolding scheduleIn imageIn
 opened-is s d m e b =
-    ap (λ (x : Machine). record { t = getD s 5 0; n = d .image .n; count = d .count; place = 0; answer = Taken; machine = x; event = noEvent; touch = nothing }) b
-    ∙ ap (λ (d : Schedule). record { t = getD s 5 0; n = d .image .n; count = d .count; place = 0; answer = Taken; machine = startOf (d .image) (getD s 5 0); event = noEvent; touch = nothing }) e
+    ap (λ (x : Machine). record { t = getD s 5 0; n = d .image .n; form = d .image .form; count = d .count; place = 0; answer = Taken; machine = x; event = noEvent; touch = nothing }) b
+    ∙ ap (λ (d : Schedule). record { t = getD s 5 0; n = d .image .n; form = d .image .form; count = d .count; place = 0; answer = Taken; machine = startOf (d .image) (getD s 5 0); event = noEvent; touch = nothing }) e
 
 nodes-is : (s : List ℕ) (d : Schedule) → d ≡ scheduleIn s → d .image .n ≡ nodesIn s
 unfolding scheduleIn imageIn
@@ -46,12 +46,12 @@ nodes-is s d is = ap (λ (x : Schedule). x .image .n) is
 pub nodes-small : (s : List ℕ) (d : Schedule) → d ≡ scheduleIn s → accepted (scheduleAnswer s) ≡ true → d .image .n ≤ 64
 nodes-small s d is a = omega (arith, nodes-is s d is, machines.nodes-range (nodesIn s) (codec.schedule-taken s a .part .nodes) .1)
 
-pub forward-is : (s : List ℕ) (g : Running) → g .n ≡ nodesIn s → (e : Event) (o : Acted) → e ≡ eventFrom s (eventPlace (g .n) (g .place)) → o ≡ eventAt (g .place) (g .machine) e
-    → record { t = g .t; n = g .n; count = g .count; place = g .place + 1; answer = o .answer; machine = o .machine; event = e; touch = o .touch } ≡ forwardRun s g
-forward-is s g n e o q a =
-    ap (λ (o : Acted). record { t = g .t; n = g .n; count = g .count; place = g .place + 1; answer = o .answer; machine = o .machine; event = e; touch = o .touch }) a
-    ∙ ap (λ (e : Event). let o = eventAt (g .place) (g .machine) e in record { t = g .t; n = g .n; count = g .count; place = g .place + 1; answer = o .answer; machine = o .machine; event = e; touch = o .touch })
-    (q ∙ ap (λ (x : ℕ). eventFrom s (eventPlace x (g .place))) n)
+pub forward-is : (s : List ℕ) (g : Running) → g .n ≡ nodesIn s → g .form ≡ formIn (imagePart s) → (e : Event) (o : Acted) → e ≡ eventFrom s (eventPlace (g .form) (g .n) (g .place)) → o ≡ eventAt (g .place) (g .machine) e
+    → record { t = g .t; n = g .n; form = g .form; count = g .count; place = g .place + 1; answer = o .answer; machine = o .machine; event = e; touch = o .touch } ≡ forwardRun s g
+forward-is s g n f e o q a =
+    ap (λ (o : Acted). record { t = g .t; n = g .n; form = g .form; count = g .count; place = g .place + 1; answer = o .answer; machine = o .machine; event = e; touch = o .touch }) a
+    ∙ ap (λ (e : Event). let o = eventAt (g .place) (g .machine) e in record { t = g .t; n = g .n; form = g .form; count = g .count; place = g .place + 1; answer = o .answer; machine = o .machine; event = e; touch = o .touch })
+    (q ∙ ap₂ (λ (y x : ℕ). eventFrom s (eventPlace y x (g .place))) f n)
 
 -- ---- how far a run has come
 
@@ -74,7 +74,7 @@ forward-machine p b e h = by (deedOf (e .kind)) refl
 
 pub reached-opened : (s : List ℕ) → accepted (scheduleAnswer s) ≡ true → Reached s (openedRun s)
 unfolding benchAt tab run
-reached-opened s a = record { schedule = a; nodes = refl; count = refl; machine = refl; taken = refl; come = refl }
+reached-opened s a = record { schedule = a; nodes = refl; form = refl; count = refl; machine = refl; taken = refl; come = refl }
 
 module _ (s : List ℕ) (g : Running) (r : Reached s g) where
   -- 18 does not refuse the record
@@ -105,6 +105,7 @@ module _ (s : List ℕ) (g : Running) (r : Reached s g) where
     reached-next = record {
       schedule = r .schedule;
       nodes = r .nodes;
+      form = r .form;
       count = r .count;
       machine = ap (λ (x : Machine). eventAt i x (eventIn s i) .machine) (r .machine) ∙ sym (one-machine) ∙ ap (λ (k : ℕ). benchTo s k .machine) (sym (add-one i));
       taken = ap (λ (k : ℕ). accepted (ranTo s k .answer)) (add-one i) ∙ ap (λ (x : Ran). accepted (x .answer)) more;

@@ -22,6 +22,7 @@ pub fn opened(s: &[u8], d: Schedule) -> Running
     Running {
         t,
         n: g.n,
+        form: g.form,
         count: d.count as usize,
         place: 0,
         answer: Answer::Taken,
@@ -41,7 +42,7 @@ pub fn forward(s: &[u8], g: Running) -> Running
     ensures { λ r. ⌜ r ≡ forwardRun (now (s .entry)) g ⌝ }
 {
     let i = g.place;
-    let event = codec::event_at(s, g.n as usize, i);
+    let event = codec::event_at(s, g.form, g.n as usize, i);
     let m = g.machine;
     let out = events::act(i as u32, m, event);
     let answer = out.answer;
@@ -50,6 +51,7 @@ pub fn forward(s: &[u8], g: Running) -> Running
     Running {
         t: g.t,
         n: g.n,
+        form: g.form,
         count: g.count,
         place: i + 1,
         answer,

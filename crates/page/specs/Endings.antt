@@ -23,9 +23,10 @@ unfoldable pub product : List (List Content) → ℕ
 product [] = 1
 product (line ∷ rest) = length line * product rest
 
--- a choice as an image of n nodes: each content where its line is
+-- a choice as an image of n nodes, in the first form: each content where its line is
 unfoldable pub imageOf : ℕ → List Content → Image
 imageOf n c = record {
+  form = 1;
   n = n;
   heads = headsOf n (λ k. contentAt c (numberOf n (ofHead k)) .index);
   nodes = front (λ i. contentAt c (numberOf n (ofNode i))) n noContents;

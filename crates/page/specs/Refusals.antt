@@ -9,7 +9,7 @@ use Rattle.lists.specs.Tab.{over}
 use Rattle.answer.specs.Answers.{check, accepted}
 use Rattle.answer.specs.declared.Answer.{Answer}
 use Rattle.answer.specs.declared.Answer.the-variants.{Taken, Contents, Endings, NoEnding, Room}
-use Rattle.image.specs.Layout.{nodePlace, imageBytes}
+use Rattle.image.specs.Layout.{inForm, nodePlace, imageBytes}
 use Rattle.image.specs.declared.Content.{Content}
 use Rattle.image.specs.declared.Image.{Image}
 use Rattle.schedule.specs.Layout.{scheduleAnswer}
@@ -46,13 +46,14 @@ pageAnswer s = elim (accepted (scheduleAnswer s)) [
 unfoldable pub endingCount : List ℕ → ℕ
 endingCount s = product (tableIn s)
 
+-- "endings keep the start image's form"
 unfoldable pub endingIn : List ℕ → ℕ → Image
-endingIn s k = ending (ran s .bench .machine .n) (tableIn s) k
+endingIn s k = inForm (ran s .bench .machine .form) (ending (ran s .bench .machine .n) (tableIn s) k)
 
 -- one ending, into a lent buffer of `room` bytes: then 16, 17
 unfoldable pub endingAnswer : List ℕ → ℕ → ℕ → Answer
 endingAnswer s k room = elim (accepted (pageAnswer s)) [
-  | true ↦ check (leb (endingCount s) k) NoEnding (check (ltb room (nodePlace (ran s .bench .machine .n))) Room Taken)
+  | true ↦ check (leb (endingCount s) k) NoEnding (check (ltb room (nodePlace (ran s .bench .machine .form) (ran s .bench .machine .n))) Room Taken)
   | false ↦ pageAnswer s
 ]
 

@@ -4,12 +4,13 @@ use mathlib.Core.Path.{_≡_, refl, sym, ap, subst, _∙_}
 use mathlib.Core.Bool.{Bool, true, false}
 use mathlib.Core.List.{List}
 use lib.ListN.{set}
-use lib.Dec.{eqb}
+use lib.Dec.{eqb, leb}
 use Rattle.lists.specs.Find.{pick, both}
 use Rattle.answer.specs.declared.Answer.{Answer}
 use Rattle.answer.specs.declared.Answer.the-variants.{Done}
 use Rattle.image.specs.declared.Content.{Content}
-use Rattle.machine.specs.Record.{none, top, node, headAt, thread, contentOf, putTail, putThread, idleThread}
+use Rattle.image.specs.Form.{topOf}
+use Rattle.machine.specs.Record.{none, node, headAt, thread, contentOf, putTail, putThread, idleThread}
 use Rattle.machine.specs.Stage.{Stage, noStep, A1, A2, A3, A4, A5, A6, A7, A8, A9, A10, A11, A12, D1, D2, D3, D4, D5, D6, D7, stage}
 use Rattle.machine.specs.Line.{lineAt, persist, cachedAt}
 use Rattle.machine.specs.declared.Line.{Line}
@@ -23,7 +24,7 @@ use Rattle.machine.specs.declared.Touch.{Touch}
 
 -- m with other persisted copies
 abbrev pub keeping : Machine → List ℕ → List Content → Machine
-keeping m h k = record { n = m .n; t = m .t; head = m .head; heads = m .heads; tail = m .tail; free = m .free; nodes = m .nodes; «kept_heads» = h; kept = k; threads = m .threads }
+keeping m h k = record { form = m .form; n = m .n; t = m .t; head = m .head; heads = m .heads; tail = m .tail; free = m .free; nodes = m .nodes; «kept_heads» = h; kept = k; threads = m .threads }
 
 pub record Alike (m m′ : Machine) : Type 0 where
   pub heads : List ℕ
@@ -105,7 +106,7 @@ module _ (m : Machine) (h : List ℕ) (c : List Content) (k : ℕ) where
   alike-step A5 = quiet _ _ _ _ refl
   alike-step A6 = quiet _ _ _ _ refl
   alike-step A7 =
-      pick-out (eqb (node m (thread m k .tail) .index) top) _ _ _ _
+      pick-out (leb (topOf (m .form)) (node m (thread m k .tail) .index)) _ _ _ _
       (quiet _ _ _ _ (keep-left (freed m (thread m k .node)) h c k (thread m k .held)))
       (quiet _ _ _ _ refl)
   alike-step A8 = pick-out (eqb (node m (thread m k .tail) .next) none) _ _ _ _ (quiet _ _ _ _ refl) (quiet _ _ _ _ refl)

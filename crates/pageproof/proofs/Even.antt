@@ -4,12 +4,13 @@ use mathlib.Core.Path.{_≡_, refl, sym, ap, _∙_}
 use mathlib.Core.Bool.{Bool, true, false}
 use mathlib.Core.List.{List}
 use lib.ListN.{length, set, length-map, length-set, length-replicate}
-use lib.Dec.{eqb}
+use lib.Dec.{eqb, leb}
 use Rattle.lists.specs.Find.{pick, both}
 use Rattle.lists.proofs.TabLaws as tabs
 use Rattle.image.specs.declared.Image.{Image}
 use Rattle.image.specs.Layout.{noContent, noContents}
-use Rattle.machine.specs.Record.{none, top, node, thread, headAt, contentOf, blankNode, blankNodes, putTail, putHead, putNode}
+use Rattle.image.specs.Form.{topOf}
+use Rattle.machine.specs.Record.{none, node, thread, headAt, contentOf, blankNode, blankNodes, putTail, putHead, putNode}
 use Rattle.machine.specs.Stage.{Stage, noStep, A1, A2, A3, A4, A5, A6, A7, A8, A9, A10, A11, A12, D1, D2, D3, D4, D5, D6, D7, stage}
 use Rattle.machine.specs.Line.{lineAt, persist}
 use Rattle.machine.specs.declared.Line.{Line}
@@ -73,7 +74,7 @@ module _ (m : Machine) (k : ℕ) (e : Even m) where
   even-step A5 = e
   even-step A6 = e
   even-step A7 =
-      even-pick (eqb (node m (thread m k .tail) .index) top) _ _ (even-left (freed m (thread m k .node)) k (thread m k .held) e)
+      even-pick (leb (topOf (m .form)) (node m (thread m k .tail) .index)) _ _ (even-left (freed m (thread m k .node)) k (thread m k .held) e)
       (even-set m (thread m k .node) _ e)
   even-step A8 = even-pick (eqb (node m (thread m k .tail) .next) none) _ _ (even-set m (thread m k .tail) _ e) e
   even-step A9 = even-set m (thread m k .node) _ e

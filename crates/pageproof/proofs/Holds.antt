@@ -2,7 +2,7 @@
 -- It is proved on the record's own run and not through the abstract machine: between two starts no event looks at a persisted copy, so this
 -- half asks nothing of the queue, and events, answers and images need no translation.
 use Prim.Native.Nat.{ℕ, _<_}
-use mathlib.Core.Path.{_≡_, refl, sym, _∙_}
+use mathlib.Core.Path.{_≡_, refl, sym, ap, _∙_}
 use mathlib.Core.Bool.{Bool, true, false}
 use mathlib.Core.List.{List, []}
 use native.Mathlib.Omega.{arith}
@@ -10,7 +10,7 @@ use lib.ListN.{length-map}
 use Rattle.lists.proofs.BoolLaws.{no-way}
 use Rattle.answer.specs.Answers.{accepted}
 use Rattle.answer.specs.declared.Answer.{Answer}
-use Rattle.image.specs.Layout.{imageIn}
+use Rattle.image.specs.Layout.{inForm, imageIn}
 use Rattle.image.specs.declared.Image.{Image}
 use Rattle.machine.specs.Start.{startOf, startWith}
 use Rattle.machine.specs.declared.Machine.{Machine}
@@ -78,8 +78,8 @@ module _ (s : List ℕ) (h : accepted (ran s .answer) ≡ true) where
       (record { events = r .events; taken = r .taken; added = r .added; left = r .left })
 
   once : (j k : ℕ) → j < endingCount s → k < endingCount s → endingIn s j ≡ endingIn s k → j ≡ k
-  unfolding tableIn endingCount endingIn
-  once j k p q e = ending-once (ran s .bench) j k p q e
+  unfolding tableIn endingCount endingIn ending imageOf
+  once j k p q e = ending-once (ran s .bench) j k p q (ap (inForm 1) e)
 
 -- the theorem
 pub page-holds : (s : List ℕ) → Bytes s → accepted (pageAnswer s) ≡ true → PageHolds s

@@ -3,6 +3,7 @@ pub mod Even
 pub mod Among
 pub mod Events
 pub mod Runs
+pub mod Form
 pub mod Fewer
 pub mod Left
 pub mod Sow

@@ -8,7 +8,7 @@ use lib.ListN.{length, getD, drop}
 use Rattle.lists.specs.Tab.{front}
 use Rattle.lists.proofs.TabLaws as tabs
 use Rattle.answer.specs.Answers.{accepted}
-use Rattle.image.specs.Layout.{contentAt, noContents, headLines}
+use Rattle.image.specs.Layout.{contentAt, noContents, headLines, inForm}
 use Rattle.image.specs.declared.Content.{Content}
 use Rattle.image.specs.declared.Image.{Image}
 use Rattle.machine.specs.Line.{lineCount, lineAt, persistedAt}
@@ -29,16 +29,17 @@ use Rattle.pageproof.proofs.Alike.{alike-self}
 use Rattle.pageproof.proofs.Among.{Among, choice-in, choice-of}
 use Rattle.pageproof.proofs.Events.{Good}
 use Rattle.pageproof.proofs.Runs.{Accepts, Last, last-of, good-run, run-size, run-front, run-append, begins-at, andAfter}
+use Rattle.pageproof.proofs.Form.{run-form}
 use Rattle.pageproof.proofs.Fewer.{Inside, kept-inside, fewer}
 use Rattle.pageproof.proofs.Left.{leftAt, chosen}
 use Rattle.pageproof.proofs.Sow.{sow, Sown, sown}
 
 -- the persisted copies as an image, where line j's is the content c has there
-image-is : (m : Machine) (n : ℕ) (c : List Content) → m .n ≡ n → ((j : ℕ) → j < lineCount n → persistedAt m (lineAt n j) ≡ contentAt c j) → imageLeft m ≡ imageOf n c
+image-is : (m : Machine) (n : ℕ) (c : List Content) → m .n ≡ n → ((j : ℕ) → j < lineCount n → persistedAt m (lineAt n j) ≡ contentAt c j) → imageLeft m ≡ inForm (m .form) (imageOf n c)
 unfolding imageOf front
 image-is m n c size h =
     rw size
-    (ap₂ (λ (y : List ℕ) (x : List Content). record { n = n; heads = y; nodes = x ++ drop n noContents })
+    (ap₂ (λ (y : List ℕ) (x : List Content). record { form = m .form; n = n; heads = y; nodes = x ++ drop n noContents })
     (heads-same n (keptHead m) (λ k. contentAt c k .index) head)
     (tabs.tab-same (contentAt (m .kept)) (λ i. contentAt c (headLines n + i)) n node))
   where
@@ -68,6 +69,9 @@ module _ (n : ℕ) (m : Machine) (ev : Even m) (size : m .n ≡ n) (l : List Eve
   final-size : final .machine .n ≡ n
   final-size = run-size l 0 (begins m) (good-begins m ev) h ∙ size
 
+  final-form : final .machine .form ≡ m .form
+  final-form = run-form l 0 (begins m) h
+
   -- ---- every ending is left
 
   module _ (k : ℕ) (lt : k < product (tableOf final)) where
@@ -80,7 +84,7 @@ module _ (n : ℕ) (m : Machine) (ev : Even m) (size : m .n ≡ n) (l : List Eve
         subst (λ (x : List Content). Among (wanted j) x) (moments.table-at final j r′ ∙ ap (λ x. contentsOf final (lineAt x j)) final-size)
         (choice-in (tableOf final) k lt j (omega (arith, moments.table-length final)))
 
-    from : (s : Last l) (m₀ : Machine) → run 0 (begins m) (s .before) .bench ≡ begins m₀ → Left (imageOf n (getD (choices (tableOf final)) k []))
+    from : (s : Last l) (m₀ : Machine) → run 0 (begins m) (s .before) .bench ≡ begins m₀ → Left (inForm (m .form) (imageOf n (getD (choices (tableOf final)) k [])))
     from s m₀ is = record {
       events = s .before ++ since′;
       taken = ap (λ (r : Ran). accepted (r .answer)) (split since′) ∙ o .taken;
@@ -101,7 +105,8 @@ module _ (n : ℕ) (m : Machine) (ev : Even m) (size : m .n ≡ n) (l : List Eve
       };
       left = image-is (run 0 (begins m) (s .before ++ since′) .bench .machine) n (getD (choices (tableOf final)) k [])
           (run-size (s .before ++ since′) 0 (begins m) (good-begins m ev) (ap (λ (r : Ran). accepted (r .answer)) (split since′) ∙ o .taken) ∙ size)
-          (λ j r. ap (λ (r : Ran). persistedAt (r .bench .machine) (lineAt n j)) (split since′) ∙ o .left j r ∙ due j .1 r);
+          (λ j r. ap (λ (r : Ran). persistedAt (r .bench .machine) (lineAt n j)) (split since′) ∙ o .left j r ∙ due j .1 r)
+          ∙ ap (λ f. inForm f (imageOf n (getD (choices (tableOf final)) k []))) (run-form (s .before ++ since′) 0 (begins m) (ap (λ (r : Ran). accepted (r .answer)) (split since′) ∙ o .taken));
     }
       where
         h₁ : Accepts 0 (begins m) (s .before ++ s .since)
@@ -144,21 +149,22 @@ module _ (n : ℕ) (m : Machine) (ev : Even m) (size : m .n ≡ n) (l : List Eve
             (λ j c. leftAt (lineAt n j) (due j .0) m₀ (s .since) c)
         o = sown n (λ j. due j .0) (s .since) (0 + length (s .before)) (begins m₀) good₀ (s .free) size₀ rest-taken (0 + length (s .before)) (begins m₀) good₀ (alike-self m₀)
 
-    pub leaves : Left (ending (final .machine .n) (tableOf final) k)
+    pub leaves : Left (inForm (final .machine .form) (ending (final .machine .n) (tableOf final) k))
     unfolding ending
     leaves =
         let s = last-of l in
         let b = begins-at (s .before) 0 m (s .start) (run-front (s .before) (s .since) 0 (begins m) (subst (Accepts 0 (begins m)) (s .is) h)) in
-        rw final-size (from s (b .0) (b .1))
+        rw (final-size, final-form) (from s (b .0) (b .1))
 
   -- ---- and what is left is an ending
 
-  pub only : (g : Image) → Left g → (k : ℕ) × (k < product (tableOf final)) × (ending (final .machine .n) (tableOf final) k ≡ g)
+  pub only : (g : Image) → Left g → (k : ℕ) × (k < product (tableOf final)) × (inForm (final .machine .form) (ending (final .machine .n) (tableOf final) k) ≡ g)
   unfolding ending
   only g o = (
     k .0,
     k .1,
-    sym (image-is (run 0 (begins m) (o .events) .bench .machine) (final .machine .n) (getD (choices (tableOf final)) (k .0) []) size′
+    ap (λ f. inForm f (imageOf (final .machine .n) (getD (choices (tableOf final)) (k .0) []))) (final-form ∙ sym (run-form (o .events) 0 (begins m) (o .taken)))
+        ∙ sym (image-is (run 0 (begins m) (o .events) .bench .machine) (final .machine .n) (getD (choices (tableOf final)) (k .0) []) size′
         (λ j r. sym (k .2 j (omega (arith, moments.table-length final))))) ∙ o .left,
   )
     where

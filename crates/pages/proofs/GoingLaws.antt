@@ -24,8 +24,9 @@ use Rattle.codec.proofs.Accepted as codec
 use Rattle.machine.specs.declared.Event.{Event}
 use Rattle.machine.specs.declared.Acted.{Acted}
 use Rattle.schedule.specs.declared.Schedule.{Schedule}
-use Rattle.image.specs.Layout.{imageIn}
-use Rattle.schedule.specs.Layout.{scheduleIn, scheduleAnswer, eventFrom, eventPlace, eventIn, eventsIn, countIn, nodesIn}
+use Rattle.image.specs.Form.{known}
+use Rattle.image.specs.Layout.{formIn, imageIn}
+use Rattle.schedule.specs.Layout.{scheduleIn, scheduleAnswer, eventFrom, eventPlace, eventIn, eventsIn, countIn, imagePart, nodesIn}
 use Rattle.schedule.specs.Run.{Ran, Bench, forward, benchAt, run, ran, opened, begins, andBefore}
 use Rattle.page.specs.Refusals.{tableIn}
 use Rattle.page.specs.Contents.{tableOf}

@@ -1,7 +1,7 @@
 -- From the code's run to the page's answers and bytes.
 use Prim.Native.Nat.{ℕ, _+_, _*_, _<_, _≤_}
 use mathlib.Core.Path.{_≡_, refl, sym, ap, ap₂, subst, _∙_}
-use mathlib.Core.Bool.{true, false}
+use mathlib.Core.Bool.{Bool, true, false}
 use mathlib.Core.List.{List}
 use native.Mathlib.Omega.{arith}
 use lib.ListN.{length}
@@ -14,14 +14,19 @@ use Rattle.answer.specs.Answers.{told, check, accepted}
 use Rattle.answer.specs.declared.Told.{Told}
 use Rattle.answer.specs.declared.Answer.{Answer}
 use Rattle.answer.specs.declared.Answer.the-variants.{Taken, NoEnding, Room}
-use Rattle.image.specs.Layout.{nodePlace, imageBytes}
+use Rattle.image.specs.Form.{known}
+use Rattle.image.specs.Layout.{inForm, nodePlace, imageIn, imageBytes}
 use Rattle.image.specs.declared.Content.{Content}
 use Rattle.image.specs.declared.Image.{Image}
 use Rattle.machine.specs.Line.{lineCount}
 use Rattle.machine.specs.declared.Machine.{Machine}
 use Rattle.image.proofs.HeadLaws.{one-head}
-use Rattle.schedule.specs.Layout.{scheduleAnswer}
-use Rattle.schedule.specs.Run.{Ran, Bench, ran}
+use Rattle.schedule.specs.Layout.{scheduleIn, eventsIn, scheduleAnswer}
+use Rattle.schedule.specs.Run.{Ran, Bench, opened, ran}
+use Rattle.machine.specs.Start.{startWith}
+use Rattle.codec.proofs.Accepted as codec
+use Rattle.pageproof.proofs.Form as runs
+use Rattle.pageproof.proofs.Holds as holds
 use Rattle.page.specs.Contents.{tableOf}
 use Rattle.page.specs.Endings.{product, ending}
 use Rattle.page.specs.Refusals.{tableIn, tableAnswer, pageAnswer, endingCount, endingIn, endingAnswer, endingWritten}
@@ -85,6 +90,14 @@ module _ (s : List ℕ) (r : Run) (g : RunIs s r) (a : accepted (r .answer) ≡ 
           e ∙ ap (countsAnswer (countsOf (r .rows))) size
           ∙ endings.bench-answer (ran s .bench) (atsOf (r .rows)) (countsOf (r .rows)) held
 
+-- a page that is not refused is a schedule that is taken
+page-schedule : (s : List ℕ) → accepted (pageAnswer s) ≡ true → accepted (scheduleAnswer s) ≡ true
+page-schedule s h = by (accepted (scheduleAnswer s)) refl
+  where
+    by : (b : Bool) → accepted (scheduleAnswer s) ≡ b → b ≡ true
+    by true e = refl
+    by false e = sym e ∙ ap accepted (page-bytes s e) ∙ h
+
 -- ---- the calls
 
 pub count-refused : (s : List ℕ) → accepted (pageAnswer s) ≡ false → 0 ≡ countOf s
@@ -112,6 +125,9 @@ module _ (s : List ℕ) (r : Run) (p : PageIs s r) (a : accepted (r .answer) ≡
   nodes-are : r .machine .n ≡ b .machine .n
   nodes-are = ap (λ (x : Machine). x .n) (t .machine)
 
+  forms-are : r .machine .form ≡ b .machine .form
+  forms-are = ap (λ (x : Machine). x .form) (t .machine)
+
   lines-are : r .machine .n + 1 ≡ lineCount (b .machine .n)
   lines-are = omega (arith, one-head (b .machine .n), nodes-are)
 
@@ -128,6 +144,13 @@ module _ (s : List ℕ) (r : Run) (p : PageIs s r) (a : accepted (r .answer) ≡
   page-yes : accepted (pageAnswer s) ≡ true
   page-yes = subst (λ (x : Answer). accepted x ≡ true) (p .answer) a
 
+  -- the form is that of the schedule's image, and so one that is read
+  pub page-form : known (r .machine .form) ≡ true
+  unfolding ran scheduleIn imageIn startWith
+  page-form =
+      let h = page-schedule s page-yes in
+      rw (forms-are, runs.run-form (eventsIn s) 0 (opened (scheduleIn s)) (holds.page-ran s page-yes)) (codec.schedule-taken s h .part .mark)
+
   pub count-taken : capped (prod cs (r .machine .n + 1)) ≡ countOf s
   unfolding countOf
   count-taken = page-count ∙ rw page-yes
@@ -139,26 +162,29 @@ module _ (s : List ℕ) (r : Run) (p : PageIs s r) (a : accepted (r .answer) ≡
   pub page-filled : (k : ℕ) → Filled (picksOf cs (r .machine .n) k) (lineCount (r .machine .n))
   page-filled k = subst (λ (n : ℕ). Filled (picksOf cs n k) (lineCount n)) (sym nodes-are) (endings.bench-filled b (atsOf (r .rows)) cs held′ fits′ k)
 
-  pub page-ending : (k : ℕ) → k < endingCount s → pickedImage (atsOf (r .rows)) (picksOf cs (r .machine .n) k) (r .machine .n) ≡ endingIn s k
+  pub page-ending : (k : ℕ) → k < endingCount s → inForm (r .machine .form) (pickedImage (atsOf (r .rows)) (picksOf cs (r .machine .n) k) (r .machine .n)) ≡ endingIn s k
   unfolding endingIn endingCount tableIn endingFrom
   page-ending k h =
-      ap (λ (n : ℕ). pickedImage (atsOf (r .rows)) (picksOf cs n k) n) nodes-are
-      ∙ endings.bench-ending b (atsOf (r .rows)) cs held′ fits′ k h
+      ap₂ (λ (f n : ℕ). inForm f (pickedImage (atsOf (r .rows)) (picksOf cs n k) n)) forms-are nodes-are
+      ∙ ap (inForm (b .machine .form)) (endings.bench-ending b (atsOf (r .rows)) cs held′ fits′ k h)
+
+  places-are : nodePlace (r .machine .form) (r .machine .n) ≡ nodePlace (b .machine .form) (b .machine .n)
+  places-are = ap₂ nodePlace forms-are nodes-are
 
   -- ---- the answers of an ending, in their order
 
-  ending-tests : (k room : ℕ) → endingAnswer s k room ≡ check (leb (endingCount s) k) NoEnding (check (ltb room (nodePlace (b .machine .n))) Room Taken)
+  ending-tests : (k room : ℕ) → endingAnswer s k room ≡ check (leb (endingCount s) k) NoEnding (check (ltb room (nodePlace (b .machine .form) (b .machine .n))) Room Taken)
   unfolding endingAnswer
   ending-tests k room = yes-of _ (pageAnswer s) (accepted (pageAnswer s)) page-yes
 
   pub ending-none : (k room : ℕ) → endingCount s ≤ k → NoEnding ≡ endingAnswer s k room
   ending-none k room h = sym (ending-tests k room ∙ rw (le-leb (endingCount s) k h))
 
-  pub ending-room : (k room : ℕ) → k < endingCount s → room < nodePlace (r .machine .n) → Room ≡ endingAnswer s k room
-  ending-room k room h l = sym (ending-tests k room ∙ rw (lt-leb (endingCount s) k h, lt-ltb room (nodePlace (b .machine .n)) (omega (arith, nodes-are))))
+  pub ending-room : (k room : ℕ) → k < endingCount s → room < nodePlace (r .machine .form) (r .machine .n) → Room ≡ endingAnswer s k room
+  ending-room k room h l = sym (ending-tests k room ∙ rw (lt-leb (endingCount s) k h, lt-ltb room (nodePlace (b .machine .form) (b .machine .n)) (omega (arith, places-are))))
 
-  pub ending-taken : (k room : ℕ) → k < endingCount s → nodePlace (r .machine .n) ≤ room → Taken ≡ endingAnswer s k room
-  ending-taken k room h l = sym (ending-tests k room ∙ rw (lt-leb (endingCount s) k h, le-ltb room (nodePlace (b .machine .n)) (omega (arith, nodes-are))))
+  pub ending-taken : (k room : ℕ) → k < endingCount s → nodePlace (r .machine .form) (r .machine .n) ≤ room → Taken ≡ endingAnswer s k room
+  ending-taken k room h l = sym (ending-tests k room ∙ rw (lt-leb (endingCount s) k h, le-ltb room (nodePlace (b .machine .form) (b .machine .n)) (omega (arith, places-are))))
 
 pub ending-refused : (s : List ℕ) (k room : ℕ) → accepted (pageAnswer s) ≡ false → pageAnswer s ≡ endingAnswer s k room
 unfolding endingAnswer

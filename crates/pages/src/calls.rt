@@ -2,12 +2,14 @@
 ghost use mathlib.Core.Path.{_≡_};
 ghost use lib.ListN.{length};
 ghost use Rattle.answer.specs.Answers.{told};
+ghost use Rattle.image.specs.Layout.{inForm};
 ghost use Rattle.page.specs.Refusals.{pageAnswer, endingAnswer, endingWritten};
 ghost use Rattle.pages.specs.Paged.{countOf};
 use crate::paging::page_of;
 use crate::tables::counts_of;
 use crate::tables::table_of;
 use answer::Answer;
+use image::Image;
 
 pub struct Count {
     pub answer: Answer,
@@ -34,7 +36,22 @@ pub fn count_endings(s: &[u8]) -> Count
     Count { answer: a, count }
 }
 
-// Ending k as an image in the first 10 + 9N bytes of the lent buffer; the bytes after them stay. On a refusal nothing is written.
+// The same contents in another form.
+fn in_form(g: Image, form: u8) -> Image
+    ensures { λ r. ⌜ r ≡ inForm form g ⌝ }
+{
+    let heads = g.heads;
+    let nodes = g.nodes;
+    Image {
+        heads,
+        nodes,
+        form,
+        n: g.n,
+    }
+}
+
+// Ending k as an image, in the form of the schedule's image, in the first bytes of the lent buffer; the bytes after them stay. On a
+// refusal nothing is written.
 pub fn ending_of(s: &[u8], k: u64, b: &mut [u8]) -> Answer
     ensures answers { λ r. ⌜ told r ≡ told (endingAnswer (now (s .entry)) k (length (now (b .entry)))) ⌝ }
     ensures bytes { λ r. ⌜ now (b .exit) ≡ endingWritten (now (s .entry)) k (now (b .entry)) ⌝ }
@@ -52,12 +69,13 @@ pub fn ending_of(s: &[u8], k: u64, b: &mut [u8]) -> Answer
     if count as u64 <= k {
         return Answer::NoEnding;
     }
-    if b.len() < 10 + (n as usize) * 9 {
+    if b.len() < image::place_of(m.form, n as usize) {
         return Answer::Room;
     }
     let picks = endtable::ending::ending_picks(counts, n, k as u32);
     let t = table_of(rows);
-    let g = endtable::ending::ending_image(t, picks, n);
+    let c = endtable::ending::ending_image(t, picks, n);
+    let g = in_form(c, m.form);
     codec::put_image(b, g);
     Answer::Taken
 }

@@ -58,7 +58,7 @@ fn print_lines(
     b: &mut [u8],
     done: &mut usize,
 ) -> bool
-    requires { ⌜ (n ≤ 64) × Ready counts (lineCount n) × (threads ≤ 8) × (events ≤ 4096) × (count ≤ 65536) × (721 ≤ length (now b)) × (length (now b) ≤ 65536) ⌝ }
+    requires { ⌜ (n ≤ 64) × Ready counts (lineCount n) × (threads ≤ 8) × (events ≤ 4096) × (count ≤ 65536) × (731 ≤ length (now b)) × (length (now b) ≤ 65536) ⌝ }
     requires { ⌜ (linesOn (tableLine t counts n threads events count) 0 (count + 1) ≡ printed (now s)) × (now done ≡ 0) ⌝ }
     ensures { λ r. ⌜ (r ≡ true → now (done .exit) ≡ length (printed (now (s .entry)))) ⌝ }
 {
@@ -75,7 +75,7 @@ fn print_lines(
 
 // The page of a run that is not refused.
 fn print_run(s: &[u8], r: Run, b: &mut [u8], done: &mut usize) -> bool
-    requires { ⌜ PageIs (now s) r × (accepted (r .answer) ≡ true) × (721 ≤ length (now b)) × (length (now b) ≤ 65536) × (now done ≡ 0) ⌝ }
+    requires { ⌜ PageIs (now s) r × (accepted (r .answer) ≡ true) × (731 ≤ length (now b)) × (length (now b) ≤ 65536) × (now done ≡ 0) ⌝ }
     ensures { λ r. ⌜ (r ≡ true → now (done .exit) ≡ length (printed (now (s .entry)))) ⌝ }
 {
     let m = r.machine;
@@ -91,7 +91,7 @@ fn print_run(s: &[u8], r: Run, b: &mut [u8], done: &mut usize) -> bool
 
 // The page, or the line of its refusal. The buffer has room for the longest line.
 pub fn print_page(s: &[u8], b: &mut [u8]) -> Printed
-    requires { ⌜ (721 ≤ length (now b)) × (length (now b) ≤ 65536) ⌝ }
+    requires { ⌜ (731 ≤ length (now b)) × (length (now b) ≤ 65536) ⌝ }
     ensures refuses { λ r. ⌜ r .refused ≡ not (accepted (pageAnswer (now (s .entry)))) ⌝ }
     ensures prints { λ r. ⌜ (r .whole ≡ true → r .bytes ≡ length (printed (now (s .entry)))) ⌝ }
 {

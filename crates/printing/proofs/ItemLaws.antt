@@ -1,6 +1,7 @@
 -- The items of a queue that stands in the first places of a table.
-use Prim.Native.Nat.{ℕ, _+_, _≤_, _<_}
+use Prim.Native.Nat.{ℕ, zero, suc, _+_, _≤_, _<_}
 use mathlib.Core.Path.{_≡_, refl, sym, ap, ap₂, subst, _∙_}
+use mathlib.Core.Bool.{Bool, true, false}
 use mathlib.Core.List.{List, _++_, map}
 use native.Mathlib.Omega.{arith}
 use lib.ListN.{length, getD, set, take, drop, length-map, List·getD-map, List·getD-append}
@@ -8,11 +9,11 @@ use lib.Seq.{ext-getD, take-append-seam}
 use Rattle.lists.specs.Tab.{tab, front}
 use Rattle.lists.proofs.TabLaws as tabs
 use Rattle.image.specs.declared.Image.{Image}
-use Rattle.image.specs.Layout.{contentAt}
-use Rattle.image.specs.Recovered.{largest, headOf}
+use Rattle.image.specs.Layout.{contentAt, inForm}
+use Rattle.image.specs.Recovered.{largest, headOf, recoveredAt}
 use Rattle.image.proofs.HeadLaws.{head-largest}
 use Rattle.machine.specs.declared.queue.Queue.{Queue}
-use Rattle.machine.specs.Start.{queueOf}
+use Rattle.machine.specs.Start.{insert, risen, queueOf}
 use Rattle.machine.specs.Laid.{zeros, laid}
 use Rattle.machine.proofs.QueueLaws as queues
 use Rattle.page.specs.Printed.{itemsOf, endingLine}
@@ -96,3 +97,21 @@ few-items g i h e = omega (arith, ap (λ i. i .count) e, listed-count g)
 
 pub items-few : (g : Image) → length (itemsOf g) ≤ g .n
 items-few g = omega (arith, length-items g, queues.length-risen g (g .n))
+
+-- ---- a line does not look at the form
+
+head-form : (f : ℕ) (g : Image) → headOf (inForm f g) ≡ headOf g
+unfolding headOf
+head-form f g = refl
+
+joined-if : (g : Image) (k : ℕ) → Bool → List ℕ → List ℕ
+joined-if g k b q = elim b [ true ↦ insert (g .nodes) k q | false ↦ q ]
+
+risen-form : (f : ℕ) (g : Image) (k : ℕ) → risen (inForm f g) k ≡ risen g k
+unfolding risen headOf joined-if
+risen-form f g zero = refl
+risen-form f g (suc k) = ap (joined-if g k (recoveredAt g k)) (risen-form f g k)
+
+pub line-form : (k f : ℕ) (g : Image) → endingLine k (inForm f g) ≡ endingLine k g
+unfolding endingLine itemsOf lineText
+line-form k f g = ap₂ (λ (h : ℕ) (q : List ℕ). lineText k h (map (λ i. contentAt (g .nodes) i .item) q)) (head-form f g) (risen-form f g (g .n))

@@ -34,12 +34,12 @@ picks-filled cs n k ps r e l h =
 pub picked-line : (t : List (List Content)) (cs : List ℕ) (n k : ℕ) (ps : List ℕ) (nodes : List Content) (i : ℕ)
     → i ≡ n → nodes ≡ front (pickedNode t ps n) i noContents → ps ≡ picksOf cs n k
     → (none : List ℕ) → none ≡ noHeads
-    → endingLine k (record { n = n; heads = set none 0 (contentAt (getD t 0 []) (getD ps 0 0) .index); nodes = nodes }) ≡ lineFrom t cs n k
+    → endingLine k (record { form = 1; n = n; heads = set none 0 (contentAt (getD t 0 []) (getD ps 0 0) .index); nodes = nodes }) ≡ lineFrom t cs n k
 unfolding lineFrom endingFrom pickedImage pickedAt
 picked-line t cs n k ps nodes i e f g none z =
     let x : List ℕ → ℕ → ℕ = λ ps l. contentAt (getD t l []) (getD ps l 0) .index in
-    ap₂ (λ x y. endingLine k (record { n = n; heads = x; nodes = y })) (ap (λ l. set l 0 (x ps 0)) z ∙ heads-one n (x ps)) (f ∙ ap (λ i. front (pickedNode t ps n) i noContents) e)
-    ∙ ap (λ ps. endingLine k (record { n = n; heads = headsOf n (x ps); nodes = front (pickedNode t ps n) n noContents })) g
+    ap₂ (λ x y. endingLine k (record { form = 1; n = n; heads = x; nodes = y })) (ap (λ l. set l 0 (x ps 0)) z ∙ heads-one n (x ps)) (f ∙ ap (λ i. front (pickedNode t ps n) i noContents) e)
+    ∙ ap (λ ps. endingLine k (record { form = 1; n = n; heads = headsOf n (x ps); nodes = front (pickedNode t ps n) n noContents })) g
 
 -- what is known of the first line once it was written stays known
 pub first-known : (P : ℕ → Type 0) (from k : ℕ) → (from < k → P from) → from ≤ k → P k → from < k + 1 → P from

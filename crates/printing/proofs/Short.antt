@@ -9,7 +9,7 @@ use lib.ListN.{length, getD, take, length-append}
 use Rattle.lists.specs.Text.{text, decimal}
 use Rattle.answer.specs.Answers.{told}
 use Rattle.answer.specs.declared.Answer.{Answer}
-use Rattle.answer.specs.declared.Answer.the-variants.{Taken, Done, Full, WornOut, Item, Empty, Length, Mark, Nodes, Threads, Events, Linked, Twin, NoDummy, Kind, Number, Busy, Idle, NotZero, Contents, Endings, NoEnding, Room, Record}
+use Rattle.answer.specs.declared.Answer.the-variants.{Taken, Done, Full, WornOut, Item, Empty, Length, Mark, Nodes, Threads, Events, Linked, Twin, NoDummy, Kind, Number, Busy, Idle, NotZero, Contents, Endings, NoEnding, Room, Record, Clean, Narrow}
 use Rattle.image.specs.declared.Image.{Image}
 use Rattle.image.specs.Layout.{contentAt}
 use Rattle.image.specs.Recovered.{headOf}
@@ -33,6 +33,10 @@ decimal-short (suc (suc k)) n h p = by (decLt n 10) (decimal-short (suc k) (n / 
 
 small : (n : ℕ) → n < 4294967296 → length (decimal n) ≤ 10
 small n h = decimal-short 10 n (omega arith) (omega arith)
+
+-- a number of 64 bits
+large : (n : ℕ) → n < 18446744073709551616 → length (decimal n) ≤ 20
+large n h = decimal-short 20 n (omega arith) (omega arith)
 
 -- ---- items
 
@@ -76,7 +80,7 @@ listed-small l i e h =
 
 -- ---- lines
 
-pub line-short : (c k h : ℕ) (l : List ℕ) → 0 < c → k < 65536 → h < 4294967296 → AllSmall l → length l ≤ c
+pub line-short : (c k h : ℕ) (l : List ℕ) → 0 < c → k < 65536 → h < 18446744073709551616 → AllSmall l → length l ≤ c
     → length (lineText k h l) ≤ lineRoom c
 unfolding lineText text
 line-short c k h l p q r s n =
@@ -87,17 +91,17 @@ line-short c k h l p q r s n =
       length-append (decimal k ++ text " ") (decimal h),
       length-append (decimal k) (text " "),
       decimal-short 5 k (omega arith) (omega arith),
-      small h r,
+      large h r,
       items-short c l p s n,
     )
 
-pub ending-short : (c k : ℕ) (g : Image) → 0 < c → k < 65536 → headOf g < 4294967296 → AllSmall (itemsOf g)
+pub ending-short : (c k : ℕ) (g : Image) → 0 < c → k < 65536 → headOf g < 18446744073709551616 → AllSmall (itemsOf g)
     → length (itemsOf g) ≤ c → length (endingLine k g) ≤ lineRoom c
 unfolding lineText endingLine
 ending-short c k g p q h s n = line-short c k (headOf g) (itemsOf g) p q h s n
 
 -- every image of at most c nodes
-pub image-short : (c k : ℕ) (g : Image) → 0 < c → k < 65536 → headOf g < 4294967296 → AllSmall (itemsOf g)
+pub image-short : (c k : ℕ) (g : Image) → 0 < c → k < 65536 → headOf g < 18446744073709551616 → AllSmall (itemsOf g)
     → g .n ≤ c → length (endingLine k g) ≤ lineRoom c
 image-short c k g p q h s n = ending-short c k g p q h s (omega (arith, items.items-few g))
 
@@ -149,8 +153,8 @@ pub refused-some : (n p : ℕ) → 0 < length (refusedText n p)
 unfolding refusedText
 refused-some n p = omega (arith, length-append (text "refused " ++ decimal n ++ text " at " ++ decimal p) newline)
 
--- the numbers are 0 to 18
-pub number-small : (a : Answer) → told a .number < 19
+-- the numbers are 0 to 20
+pub number-small : (a : Answer) → told a .number < 21
 number-small Taken = omega arith
 number-small Done = omega arith
 number-small Full = omega arith
@@ -175,6 +179,8 @@ number-small Endings = omega arith
 number-small NoEnding = omega arith
 number-small Room = omega arith
 number-small Record = omega arith
+number-small (Clean p) = omega arith
+number-small (Narrow p) = omega arith
 
 pub answer-short : (a : Answer) → told a .place < 4294967296 → length (refusedLine a) ≤ refusedRoom
 unfolding refusedLine refusedText

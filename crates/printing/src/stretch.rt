@@ -55,7 +55,12 @@ pub fn write_endings(
         let head = t[0][h];
         let mut heads = no_heads();
         heads[0] = head.index;
-        let g = Image { n, heads, nodes };
+        let g = Image {
+            heads,
+            nodes,
+            form: 1,
+            n,
+        };
         let q = fit_ending(b, p, k, g);
         if q == p {
             return Stretch { next: k, place: p };

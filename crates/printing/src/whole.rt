@@ -15,7 +15,7 @@ ghost use Rattle.page.specs.Printed.{endingLine, firstLine, refusedLine};
 ghost use Rattle.printing.specs.Bounds.{lineRoom, firstRoom, refusedRoom};
 
 // How many bytes the longest line of an ending and the longest first line have: lineRoom 64, firstRoom of specs/Bounds.
-pub const LINE: usize = 721;
+pub const LINE: usize = 731;
 
 pub const FIRST: usize = 51;
 
@@ -29,7 +29,7 @@ pub fn write_ending(b: &mut [u8], at: usize, k: u32, g: Image) -> usize
     let h = largest_of(heads, 1);
     let i = items_of(g);
     let items = i.items;
-    put_line(b, at, k as u64, h as u64, items, i.count)
+    put_line(b, at, k as u64, h, items, i.count)
 }
 
 // The page's first line.

@@ -1,5 +1,5 @@
 -- From the test for 18 to the ranges as facts. Assumes nothing.
-use Prim.Native.Nat.{ℕ, _<_, _^_}
+use Prim.Native.Nat.{ℕ, _≤_, _<_, _^_}
 use mathlib.Core.Path.{_≡_, refl, sym, ap, _∙_}
 use mathlib.Core.Bool.{Bool, true, false, not}
 use mathlib.Core.Logic.{inl, inr}
@@ -9,12 +9,15 @@ use lib.Dec.{eqb, leb}
 use Rattle.lists.specs.Find.{pick, both, any}
 use Rattle.lists.proofs.BoolLaws.{both-true}
 use Rattle.lists.proofs.FindLaws as find
-use Rattle.machine.specs.Record.{none, node, kept, thread}
+use Rattle.image.specs.Form.{known, topOf}
+use Rattle.image.specs.Layout.{headLines}
+use Rattle.image.proofs.HeadLaws.{one-head}
+use Rattle.machine.specs.Record.{none, node, kept, headAt, keptHead, thread}
 use Rattle.machine.specs.Stage as st
-use Rattle.machine.specs.Range.{inRange, isNode, isLink, readFits, nextFits, nodeFits, threadFits}
+use Rattle.machine.specs.Range.{rangesFit, isIndex, headFits, indexFits, formFits, inRange, isNode, isLink, readFits, nextFits, nodeFits, threadFits}
 use Rattle.machine.specs.declared.Machine.{Machine}
 use Rattle.range.specs.Parts.{sizesIn, badNode, badThread}
-use Rattle.range.specs.Facts.{Sizes, Link, NodeFacts, ThreadFacts, Facts}
+use Rattle.range.specs.Facts.{Sizes, Link, NodeFacts, ThreadFacts, Narrow, Facts}
 
 -- ---- each part
 
@@ -90,10 +93,39 @@ module _ (m : Machine) where
             (ap (λ (x : ℕ). nextFits m (eqb x 12) (v .tail)) (sym p) ∙ f .1);
       }
 
+  pub ranges-sizes : rangesFit m ≡ true → Sizes (m .n) (m .t)
+  unfolding rangesFit
+  ranges-sizes h = sizes-in (m .n) (m .t) (both-true _ _ h .0)
+
+  index-of : (x : ℕ) → isIndex m x ≡ true → x ≤ topOf (m .form)
+  index-of x h = leb-true x (topOf (m .form)) h
+
+  pub narrow-of : formFits m ≡ true → Narrow m
+  unfolding formFits headFits indexFits
+  narrow-of h =
+      let hs₀ = not (any (λ k. not (headFits m k)) (headLines (m .n))) in
+      let ns₀ = not (any (λ i. not (indexFits m i)) (m .n)) in
+      let ts₀ = not (any (λ k. not (isIndex m (thread m k .index))) (m .t)) in
+      let a = both-true (known (m .form)) (both hs₀ (both ns₀ ts₀)) h in
+      let b = both-true hs₀ (both ns₀ ts₀) (a .1) in
+      let c = both-true ns₀ ts₀ (b .1) in
+      let heads = not-false _ (find.any-clear (λ k. not (headFits m k)) (headLines (m .n)) 0 (not-true _ (b .0)) (omega (arith, one-head (m .n)))) in
+      let hs = both-true (isIndex m (headAt m 0)) (isIndex m (keptHead m 0)) heads in
+      let nodes : (i : ℕ) → i < m .n → indexFits m i ≡ true = λ i p. not-false _ (find.any-clear (λ i. not (indexFits m i)) (m .n) i (not-true _ (c .0)) p) in
+      record {
+        form = a .0;
+        head = index-of (headAt m 0) (hs .0);
+        kept-head = index-of (keptHead m 0) (hs .1);
+        index = λ i p. index-of (node m i .index) (both-true (isIndex m (node m i .index)) (isIndex m (kept m i .index)) (nodes i p) .0);
+        kept-index = λ i p. index-of (kept m i .index) (both-true (isIndex m (node m i .index)) (isIndex m (kept m i .index)) (nodes i p) .1);
+        read = λ k p. index-of (thread m k .index) (not-false _ (find.any-clear (λ k. not (isIndex m (thread m k .index))) (m .t) k (not-true _ (c .1)) p));
+      }
+
   -- every range of a record that 18 lets through
   pub in-range : inRange m ≡ true → Facts m
-  unfolding inRange badNode badThread
-  in-range h =
+  unfolding inRange rangesFit badNode badThread
+  in-range h₀ =
+      let h = both-true (rangesFit m) (formFits m) h₀ .0 in
       let a = both-true _ _ h in
       let b = both-true _ _ (a .1) in
       let c = both-true _ _ (b .1) in
@@ -107,4 +139,5 @@ module _ (m : Machine) where
         free = ltb-true (m .free) (2 ^ m .n) (c .0);
         node = nodes;
         thread = λ k p. thread-facts k nodes (not-false _ (find.any-clear (badThread m) (m .t) k (not-true _ (d .1)) p));
+        indices = narrow-of (both-true (rangesFit m) (formFits m) h₀ .1);
       }

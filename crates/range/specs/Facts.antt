@@ -3,7 +3,8 @@ use Prim.Native.Nat.{ℕ, _≤_, _<_, _^_}
 use mathlib.Core.Path.{_≡_}
 use mathlib.Core.Bool.{true}
 use mathlib.Core.Logic.{_⊎_}
-use Rattle.machine.specs.Record.{none, node, kept, thread}
+use Rattle.image.specs.Form.{known, topOf}
+use Rattle.machine.specs.Record.{none, node, kept, headAt, keptHead, thread}
 use Rattle.machine.specs.Stage.{own, t, theHead, theNext, uses, stage}
 use Rattle.machine.specs.declared.Machine.{Machine}
 
@@ -39,6 +40,15 @@ pub record ThreadFacts (m : Machine) (k : ℕ) : Type 0 where
   -- "t's next at A12"
   pub after : thread m k .step ≡ 12 → node m (thread m k .tail) .next < m .n
 
+-- every index is within the width of the form
+pub record Narrow (m : Machine) : Type 0 where
+  pub form : known (m .form) ≡ true
+  pub head : headAt m 0 ≤ topOf (m .form)
+  pub kept-head : keptHead m 0 ≤ topOf (m .form)
+  pub index : (i : ℕ) → i < m .n → node m i .index ≤ topOf (m .form)
+  pub kept-index : (i : ℕ) → i < m .n → kept m i .index ≤ topOf (m .form)
+  pub read : (k : ℕ) → k < m .t → thread m k .index ≤ topOf (m .form)
+
 pub record Facts (m : Machine) : Type 0 where
   pub sizes : Sizes (m .n) (m .t)
   pub head : m .head < m .n
@@ -46,3 +56,4 @@ pub record Facts (m : Machine) : Type 0 where
   pub free : m .free < 2 ^ m .n
   pub node : (i : ℕ) → i < m .n → NodeFacts m i
   pub thread : (k : ℕ) → k < m .t → ThreadFacts m k
+  pub indices : Narrow m

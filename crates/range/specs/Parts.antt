@@ -8,7 +8,7 @@ use Rattle.image.specs.Refusals.{nodesFit}
 use Rattle.machine.specs.Record.{none, thread}
 use Rattle.machine.specs.Stage.{own, t, theHead, theNext, uses, stage, stageOf, enqueueOwns, dequeueOwns}
 use Rattle.machine.specs.Start.{threadsFit}
-use Rattle.machine.specs.Range.{isFlag, nodeFits, threadFits}
+use Rattle.machine.specs.Range.{isFlag, nodeFits, threadFits, isIndex, headFits, indexFits}
 use Rattle.machine.specs.Place.{inQueue, isWaiting, isHeld, inEnqueue, inDequeue}
 use Rattle.machine.specs.declared.Machine.{Machine}
 use Rattle.machine.specs.declared.Node.{Node}
@@ -50,6 +50,16 @@ badNode m i = not (nodeFits m i)
 
 unfoldable pub badThread : Machine → ℕ → Bool
 badThread m k = not (threadFits m k)
+
+-- an index above the form's width: of a head line, of a node, of a thread
+unfoldable pub wideHead : Machine → ℕ → Bool
+wideHead m k = not (headFits m k)
+
+unfoldable pub wideNode : Machine → ℕ → Bool
+wideNode m i = not (indexFits m i)
+
+unfoldable pub wideThread : Machine → ℕ → Bool
+wideThread m k = not (isIndex m (thread m k .index))
 
 -- ---- the six places
 

@@ -5,14 +5,16 @@ ghost use mathlib.Core.Bool.{Bool, true, false, not};
 ghost use Prim.Native.Nat.{_≤_, _<_, _^_};
 ghost use lib.Dec.{ltb};
 ghost use Rattle.lists.specs.Find.{any};
-ghost use Rattle.machine.specs.Range.{inRange, threadFits};
+ghost use Rattle.machine.specs.Range.{rangesFit, inRange, threadFits};
 ghost use Rattle.range.specs.Parts.{badNode, badThread, sizesIn, linkIn, readIn, nodeIn, usedBy};
 use image::Content;
 use machine::Machine;
 use machine::Node;
 
+mod indices;
 pub mod place;
 
+use indices::form_fits;
 pub use place::places_of;
 
 // Which of the four numbers of a thread its step uses, and which node its operation owns.
@@ -199,9 +201,9 @@ fn threads_fit(m: Machine) -> bool
     true
 }
 
-// 18: N, T, every node, thread and step number and every set is in range, and each thread's next step has the nodes it uses.
-pub fn in_range(m: Machine) -> bool
-    ensures { λ r. ⌜ r ≡ inRange m ⌝ }
+// N, T, every node, thread and step number and every set is in range, and each thread's next step has the nodes it uses.
+fn ranges_fit(m: Machine) -> bool
+    ensures { λ r. ⌜ r ≡ rangesFit m ⌝ }
 {
     if !sizes_fit(m.n, m.t) {
         return false;
@@ -219,4 +221,14 @@ pub fn in_range(m: Machine) -> bool
         return false;
     }
     threads_fit(m)
+}
+
+// 18: all of that, a form that is read, and every index within its width.
+pub fn in_range(m: Machine) -> bool
+    ensures { λ r. ⌜ r ≡ inRange m ⌝ }
+{
+    if !ranges_fit(m) {
+        return false;
+    }
+    form_fits(m)
 }

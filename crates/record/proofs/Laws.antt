@@ -36,22 +36,22 @@ module _ {A : Type 0} where
 
 -- ---- the record's parts
 
-pub node-length : (m : Machine) (i : ℕ) → length (nodePart m i) ≡ 20
+pub node-length : (m : Machine) (i : ℕ) → length (nodePart m i) ≡ 28
 unfolding nodePart
 node-length m i = refl
 
-pub thread-length : (m : Machine) (k : ℕ) → length (threadPart m k) ≡ 14
+pub thread-length : (m : Machine) (k : ℕ) → length (threadPart m k) ≡ 18
 unfolding threadPart
 thread-length m k = refl
 
 pub record-over : (m : Machine) (b : List ℕ)
-    → over (over (over b 0 (headBytes m)) 20 (joined (nodePart m) 64)) 1300 (joined (threadPart m) 8) ≡ over b 0 (recordBytes m)
+    → over (over (over b 0 (headBytes m)) 34 (joined (nodePart m) 64)) 1826 (joined (threadPart m) 8) ≡ over b 0 (recordBytes m)
 unfolding recordBytes
 record-over m b =
     let n = joined (nodePart m) 64 in
     let t = joined (threadPart m) 8 in
-    let e : 0 + length (headBytes m ++ n) ≡ 1300 = omega (arith, length-append (headBytes m) n, laws.length-joined (nodePart m) 20 64 (node-length m)) in
-    ap (λ (l : List ℕ). over l 1300 t) (laws.over-append b 0 (headBytes m) n)
+    let e : 0 + length (headBytes m ++ n) ≡ 1826 = omega (arith, length-append (headBytes m) n, laws.length-joined (nodePart m) 28 64 (node-length m)) in
+    ap (λ (l : List ℕ). over l 1826 t) (laws.over-append b 0 (headBytes m) n)
     ∙ ap (λ (k : ℕ). over (over b 0 (headBytes m ++ n)) k t) (sym e)
     ∙ laws.over-append b 0 (headBytes m ++ n) t
     ∙ ap (over b 0) (append-assoc (headBytes m) n t)

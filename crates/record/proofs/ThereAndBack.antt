@@ -1,65 +1,84 @@
--- 1,412 bytes read as a record and written again are the bytes. Assumes nothing.
+-- 1,970 bytes with a record's mark and version, read as a record and written again are the bytes. Assumes nothing.
 use Prim.Native.Nat.{ℕ, _+_, _*_, _≤_, _<_}
 use mathlib.Core.Path.{_≡_, sym, ap, ap₂, _∙_}
+use mathlib.Core.Bool.{true}
 use mathlib.Core.List.{List, [], _∷_, _++_}
 use native.Mathlib.Omega.{arith}
 use native.Mathlib.Nat.{add-assoc, add-zero}
 use lib.ListN.{length, getD, take, drop}
+use lib.Dec.{eqb}
+use borrow.Author.Tests.{eqb-true}
+use Rattle.lists.proofs.BoolLaws.{both-true}
 use lib.Seq.{take-all, take-add, drop-drop}
 use Rattle.lists.specs.Tab.{tab, joined}
 use Rattle.lists.proofs.TabLaws as tabs
 use Rattle.image.specs.Bytes.{le4, at1, at4}
 use Rattle.image.proofs.ByteLaws as num
-use Rattle.image.specs.Layout.{noContent, noContents, noHeads}
+use Rattle.image.specs.Layout.{marked, noContent, noContents, noHeads}
 use Rattle.machine.specs.Record.{zeroNode, zeroThread, blankNodes, idleThreads}
-use Rattle.record.specs.Layout.{le8, at8, headBytes, nodeBytes, threadBytes, nodePart, threadPart, recordBytes, nodeIn, keptIn, threadIn, recordIn}
+use Rattle.record.specs.Layout.{recordSize, isRecord, le8, at8, headBytes, nodeBytes, threadBytes, nodePart, threadPart, recordBytes, nodeIn, keptIn, threadIn, recordIn}
 
-module _ (s : List ℕ) (bytes : num.Bytes s) (size : length s ≡ 1412) where
+module _ (s : List ℕ) (bytes : num.Bytes s) (size : length s ≡ recordSize) (mark : isRecord s ≡ true) where
   -- what stands from place p on
   abbrev from : ℕ → ℕ → ℕ
   from p j = getD s (p + j) 0
 
-  word-there : (i : ℕ) → i + 4 ≤ 1412 → le4 (at4 s i) ≡ getD s i 0 ∷ getD s (i + 1) 0 ∷ getD s (i + 2) 0 ∷ getD s (i + 3) 0 ∷ []
+  word-there : (i : ℕ) → i + 4 ≤ recordSize → le4 (at4 s i) ≡ getD s i 0 ∷ getD s (i + 1) 0 ∷ getD s (i + 2) 0 ∷ getD s (i + 3) 0 ∷ []
   word-there i h = num.le-at 4 s i bytes (omega arith) ∙ num.four-at s i (omega arith)
 
-  word-more : (p j : ℕ) → p + j + 4 ≤ 1412 → le4 (at4 s (p + j)) ≡ from p j ∷ from p (j + 1) ∷ from p (j + 2) ∷ from p (j + 3) ∷ []
+  word-more : (p j : ℕ) → p + j + 4 ≤ recordSize → le4 (at4 s (p + j)) ≡ from p j ∷ from p (j + 1) ∷ from p (j + 2) ∷ from p (j + 3) ∷ []
   word-more p j h = word-there (p + j) h ∙ rw (add-assoc p j 1, add-assoc p j 2, add-assoc p j 3)
 
   byte-first : (p : ℕ) → getD s p 0 ≡ from p 0
   byte-first p = ap (λ (k : ℕ). getD s k 0) (sym (add-zero p))
 
-  word-first : (p : ℕ) → p + 4 ≤ 1412 → le4 (at4 s p) ≡ from p 0 ∷ from p 1 ∷ from p 2 ∷ from p 3 ∷ []
+  word-first : (p : ℕ) → p + 4 ≤ recordSize → le4 (at4 s p) ≡ from p 0 ∷ from p 1 ∷ from p 2 ∷ from p 3 ∷ []
   word-first p h = ap (λ (k : ℕ). le4 (at4 s k)) (sym (add-zero p)) ∙ word-more p 0 (omega arith)
 
-  long-there : le8 (at8 s 8) ≡ tab (λ j. getD s (8 + j) 0) 8
-  long-there = num.le-at 8 s 8 bytes (omega arith) ∙ tabs.take-drop-tab s 0 8 8 (omega arith)
+  long-more : (p j : ℕ) → p + j + 8 ≤ recordSize → le8 (at8 s (p + j)) ≡ tab (λ k. from p (j + k)) 8
+  long-more p j h =
+      num.le-at 8 s (p + j) bytes (omega arith)
+      ∙ tabs.take-drop-tab s 0 (p + j) 8 (omega arith)
+      ∙ tabs.tab-same (λ k. getD s (p + j + k) 0) (λ k. from p (j + k)) 8 (λ k l. ap (λ (i : ℕ). getD s i 0) (add-assoc p j k))
 
-  head-there : headBytes (recordIn s) ≡ tab (λ j. getD s (0 + j) 0) 20
+  -- the mark and the version are these bytes
+  marks : (at1 s 0 ≡ 85) × (at1 s 1 ≡ 81) × (at1 s 2 ≡ 77) × (at1 s 3 ≡ 2) × (at1 s 4 ≡ 0)
+  unfolding marked
+  marks =
+      let a = both-true (eqb (at1 s 0) 85) _ mark in
+      let b = both-true (eqb (at1 s 1) 81) _ (a .1) in
+      let c = both-true (eqb (at1 s 2) 77) _ (b .1) in
+      let d = both-true (eqb (at1 s 3) 2) _ (c .1) in
+      (eqb-true _ _ (a .0), eqb-true _ _ (b .0), eqb-true _ _ (c .0), eqb-true _ _ (d .0), eqb-true _ _ (d .1))
+
+  head-there : headBytes (recordIn s) ≡ tab (λ j. getD s (0 + j) 0) 34
   unfolding recordIn noHeads tab
   head-there =
-      let index = word-there 3 (omega arith) in
-      let copy = word-there 16 (omega arith) in
-      λ t. at1 s 0 ∷ at1 s 1 ∷ at1 s 2 ∷ (index t ++ (at1 s 7 ∷ (long-there t ++ copy t)))
+      let free = long-more 0 10 (omega arith) in
+      let index = long-more 0 18 (omega arith) in
+      let copy = long-more 0 26 (omega arith) in
+      let m = marks in
+      λ t. sym (m .0) t ∷ sym (m .1) t ∷ sym (m .2) t ∷ sym (m .3) t ∷ sym (m .4) t ∷ at1 s 5 ∷ at1 s 6 ∷ at1 s 7 ∷ at1 s 8 ∷ at1 s 9 ∷ (free t ++ (index t ++ copy t))
 
-  node-there : (i : ℕ) → i < 64 → nodePart (recordIn s) i ≡ tab (λ j. getD s (20 + i * 20 + j) 0) 20
+  node-there : (i : ℕ) → i < 64 → nodePart (recordIn s) i ≡ tab (λ j. getD s (34 + i * 28 + j) 0) 28
   unfolding recordIn nodePart nodeIn keptIn tab
   node-there i h =
-      let at = 20 + i * 20 in
+      let at = 34 + i * 28 in
       ap₂ nodeBytes (tabs.front-at (nodeIn s) 64 blankNodes i zeroNode h) (tabs.front-at (keptIn s) 64 noContents i noContent h)
       ∙ (let a = word-first at (omega arith) in
-      let b = word-more at 6 (omega arith) in
-      let c = word-more at 12 (omega arith) in
-      let d = word-more at 16 (omega arith) in
-      λ t. a t ++ (from at 4 ∷ from at 5 ∷ (b t ++ (from at 10 ∷ from at 11 ∷ (c t ++ d t)))))
+      let b = long-more at 6 (omega arith) in
+      let c = long-more at 16 (omega arith) in
+      let d = word-more at 24 (omega arith) in
+      λ t. a t ++ (from at 4 ∷ from at 5 ∷ (b t ++ (from at 14 ∷ from at 15 ∷ (c t ++ d t)))))
 
-  thread-there : (i : ℕ) → i < 8 → threadPart (recordIn s) i ≡ tab (λ j. getD s (1300 + i * 14 + j) 0) 14
+  thread-there : (i : ℕ) → i < 8 → threadPart (recordIn s) i ≡ tab (λ j. getD s (1826 + i * 18 + j) 0) 18
   unfolding recordIn threadPart threadIn tab
   thread-there i h =
-      let at = 1300 + i * 14 in
+      let at = 1826 + i * 18 in
       ap threadBytes (tabs.front-at (threadIn s) 8 idleThreads i zeroThread h)
-      ∙ (let a = word-more at 4 (omega arith) in
-      let b = word-more at 9 (omega arith) in
-      λ t. byte-first at t ∷ from at 1 ∷ from at 2 ∷ from at 3 ∷ (a t ++ (from at 8 ∷ (b t ++ (from at 13 ∷ [])))))
+      ∙ (let a = long-more at 4 (omega arith) in
+      let b = word-more at 13 (omega arith) in
+      λ t. byte-first at t ∷ from at 1 ∷ from at 2 ∷ from at 3 ∷ (a t ++ (from at 12 ∷ (b t ++ (from at 17 ∷ [])))))
 
   -- n parts of c bytes each, from place p on
   row : (f : ℕ → List ℕ) (p c n : ℕ) → p + n * c ≤ length s → ((i : ℕ) → i < n → p + i * c + c ≤ length s)
@@ -72,11 +91,11 @@ module _ (s : List ℕ) (bytes : num.Bytes s) (size : length s ≡ 1412) where
   pub there-and-back : recordBytes (recordIn s) ≡ s
   unfolding recordBytes
   there-and-back =
-      let a : headBytes (recordIn s) ≡ take 20 s = head-there ∙ sym (tabs.take-drop-tab s 0 0 20 (omega arith)) in
-      let b = row (nodePart (recordIn s)) 20 20 64 (omega arith) (λ i q. omega arith) node-there in
-      let c = row (threadPart (recordIn s)) 1300 14 8 (omega arith) (λ i q. omega arith) thread-there in
-      let d : take 1280 (drop 20 s) ++ take 112 (drop 1300 s) ≡ take 1392 (drop 20 s) =
-      sym (take-add 1280 112 (drop 20 s) ∙ ap (λ (l : List ℕ). take 1280 (drop 20 s) ++ take 112 l) (drop-drop 1280 20 s)) in
+      let a : headBytes (recordIn s) ≡ take 34 s = head-there ∙ sym (tabs.take-drop-tab s 0 0 34 (omega arith)) in
+      let b = row (nodePart (recordIn s)) 34 28 64 (omega arith) (λ i q. omega arith) node-there in
+      let c = row (threadPart (recordIn s)) 1826 18 8 (omega arith) (λ i q. omega arith) thread-there in
+      let d : take 1792 (drop 34 s) ++ take 144 (drop 1826 s) ≡ take 1936 (drop 34 s) =
+      sym (take-add 1792 144 (drop 34 s) ∙ ap (λ (l : List ℕ). take 1792 (drop 34 s) ++ take 144 l) (drop-drop 1792 34 s)) in
       ap₂ (λ (x y : List ℕ). x ++ y) a (ap₂ (λ (x y : List ℕ). x ++ y) b c ∙ d)
-      ∙ sym (take-add 20 1392 s)
-      ∙ take-all 1412 s (omega arith)
+      ∙ sym (take-add 34 1936 s)
+      ∙ take-all recordSize s (omega arith)

@@ -1,5 +1,5 @@
--- A machine record as 1,412 bytes, little-endian, every field of it: 20 for what stands alone, Head's index among it and its persisted
--- copy, 20 for each of the 64 nodes with its persisted copy, 14 for each of the 8 threads.
+-- A machine record as 1,970 bytes, little-endian, every field of it: 34 for the mark "UQM", version 2 (16 bits) and what stands alone,
+-- Head's index among it and its persisted copy, 28 for each of the 64 nodes with its persisted copy, 18 for each of the 8 threads.
 use Prim.Native.Nat.{ℕ, _+_, _*_}
 use mathlib.Core.Bool.{Bool, true, false, not}
 use mathlib.Core.List.{List, [], _∷_, _++_}
@@ -7,11 +7,11 @@ use lib.ListN.{length, set}
 use lib.Dec.{eqb, ltb}
 use Rattle.lists.specs.Find.{pick}
 use Rattle.lists.specs.Tab.{joined, front, over}
-use Rattle.answer.specs.Answers.{check}
+use Rattle.answer.specs.Answers.{check, accepted}
 use Rattle.answer.specs.declared.Answer.{Answer}
-use Rattle.answer.specs.declared.Answer.the-variants.{Taken, Length, Room}
+use Rattle.answer.specs.declared.Answer.the-variants.{Taken, Length, Mark, Room}
 use Rattle.image.specs.Bytes.{le, atW, at1, at4, le4}
-use Rattle.image.specs.Layout.{noContents, noHeads}
+use Rattle.image.specs.Layout.{marked, noContents, noHeads}
 use Rattle.image.specs.declared.Content.{Content}
 use Rattle.machine.specs.Record.{node, kept, headAt, keptHead, thread, blankNodes, idleThreads}
 use Rattle.machine.specs.Start.{blankMachine}
@@ -28,20 +28,28 @@ le8 = le 8
 abbrev pub at8 : List ℕ → ℕ → ℕ
 at8 = atW 8
 
+abbrev pub recordSize : ℕ
+recordSize = 1970
+
+-- the mark "UQM" and version 2: a host that holds bytes of another layout is told
+abbrev pub isRecord : List ℕ → Bool
+isRecord = marked 85 81 77 2
+
 -- ---- to bytes
 
 abbrev pub headBytes : Machine → List ℕ
 headBytes m =
-    m .n ∷ m .t ∷ m .head ∷ (le4 (headAt m 0) ++ (m .tail ∷ (le8 (m .free) ++ le4 (keptHead m 0))))
+    85 ∷ 81 ∷ 77 ∷ 2 ∷ 0 ∷ m .form ∷ m .n ∷ m .t ∷ m .head ∷ m .tail
+    ∷ (le8 (m .free) ++ (le8 (headAt m 0) ++ le8 (keptHead m 0)))
 
 abbrev pub nodeBytes : Node → Content → List ℕ
 nodeBytes v p =
     le4 (v .item)
-    ++ (v .next ∷ v .linked ∷ (le4 (v .index) ++ (v .waits ∷ p .linked ∷ (le4 (p .index) ++ le4 (p .item)))))
+    ++ (v .next ∷ v .linked ∷ (le8 (v .index) ++ (v .waits ∷ p .linked ∷ (le8 (p .index) ++ le4 (p .item)))))
 
 abbrev pub threadBytes : Thread → List ℕ
 threadBytes v =
-    v .step ∷ v .node ∷ v .tail ∷ v .head ∷ (le4 (v .index) ++ (v .next ∷ (le4 (v .item) ++ (v .held ∷ []))))
+    v .step ∷ v .node ∷ v .tail ∷ v .head ∷ (le8 (v .index) ++ (v .next ∷ (le4 (v .item) ++ (v .held ∷ []))))
 
 unfoldable pub nodePart : Machine → ℕ → List ℕ
 nodePart m i = nodeBytes (node m i) (kept m i)
@@ -59,12 +67,12 @@ readNode s at = record {
   item = at4 s at;
   next = at1 s (at + 4);
   linked = at1 s (at + 5);
-  index = at4 s (at + 6);
-  waits = at1 s (at + 10);
+  index = at8 s (at + 6);
+  waits = at1 s (at + 14);
 }
 
 abbrev pub readKept : List ℕ → ℕ → Content
-readKept s at = record { linked = at1 s (at + 11); index = at4 s (at + 12); item = at4 s (at + 16) }
+readKept s at = record { linked = at1 s (at + 15); index = at8 s (at + 16); item = at4 s (at + 24) }
 
 abbrev pub readThread : List ℕ → ℕ → Thread
 readThread s at = record {
@@ -72,47 +80,51 @@ readThread s at = record {
   node = at1 s (at + 1);
   tail = at1 s (at + 2);
   head = at1 s (at + 3);
-  index = at4 s (at + 4);
-  next = at1 s (at + 8);
-  item = at4 s (at + 9);
-  held = at1 s (at + 13);
+  index = at8 s (at + 4);
+  next = at1 s (at + 12);
+  item = at4 s (at + 13);
+  held = at1 s (at + 17);
 }
 
 unfoldable pub nodeIn : List ℕ → ℕ → Node
-nodeIn s i = readNode s (20 + i * 20)
+nodeIn s i = readNode s (34 + i * 28)
 
 unfoldable pub keptIn : List ℕ → ℕ → Content
-keptIn s i = readKept s (20 + i * 20)
+keptIn s i = readKept s (34 + i * 28)
 
 unfoldable pub threadIn : List ℕ → ℕ → Thread
-threadIn s k = readThread s (1300 + k * 14)
+threadIn s k = readThread s (1826 + k * 18)
 
 unfoldable pub recordIn : List ℕ → Machine
 recordIn s = record {
-  n = at1 s 0;
-  t = at1 s 1;
-  head = at1 s 2;
-  heads = set noHeads 0 (at4 s 3);
-  tail = at1 s 7;
-  free = at8 s 8;
+  form = at1 s 5;
+  n = at1 s 6;
+  t = at1 s 7;
+  head = at1 s 8;
+  heads = set noHeads 0 (at8 s 18);
+  tail = at1 s 9;
+  free = at8 s 10;
   nodes = front (nodeIn s) 64 blankNodes;
-  «kept_heads» = set noHeads 0 (at4 s 16);
+  «kept_heads» = set noHeads 0 (at8 s 26);
   kept = front (keptIn s) 64 noContents;
   threads = front (threadIn s) 8 idleThreads;
 }
 
 -- ---- the two calls
 
--- 1: there are 1,412 bytes. The record itself is not tested here
+-- 1, then 2: there are 1,970 bytes, and they begin with mark and version. The record itself is not tested here
+unfoldable pub readAnswer : List ℕ → Answer
+readAnswer s = check (not (eqb (length s) recordSize)) Length (check (not (isRecord s)) Mark Taken)
+
 unfoldable pub readRecord : List ℕ → Out
 readRecord s = record {
-  answer = check (not (eqb (length s) 1412)) Length Taken;
-  machine = pick (eqb (length s) 1412) (recordIn s) blankMachine;
+  answer = readAnswer s;
+  machine = pick (accepted (readAnswer s)) (recordIn s) blankMachine;
 }
 
 -- 17
 unfoldable pub recordAnswer : ℕ → Answer
-recordAnswer room = check (ltb room 1412) Room Taken
+recordAnswer room = check (ltb room recordSize) Room Taken
 
 unfoldable pub recordWritten : Machine → List ℕ → List ℕ
-recordWritten m b = pick (ltb (length b) 1412) b (over b 0 (recordBytes m))
+recordWritten m b = pick (ltb (length b) recordSize) b (over b 0 (recordBytes m))

@@ -11,18 +11,29 @@ use answer::Answer;
 use machine::Machine;
 use machine::Out;
 use machine::blank::blank_machine;
+use reading::is_record;
 use reading::record_in;
 use writing::put_record;
 
-// The record that 1,412 bytes are, or 1; the record is not tested.
+// The size of a record's bytes.
+pub const SIZE: usize = 1970;
+
+// The record that 1,970 bytes are, or 1, or 2; the record is not tested.
 pub fn read_record(s: &[u8]) -> Out
     ensures answers { λ r. ⌜ told (r .answer) ≡ told (readRecord (now (s .entry)) .answer) ⌝ }
     ensures machine { λ r. ⌜ r .machine ≡ readRecord (now (s .entry)) .machine ⌝ }
 {
-    if s.len() != 1412 {
+    if s.len() != SIZE {
         let machine = blank_machine();
         return Out {
             answer: Answer::Length,
+            machine,
+        };
+    }
+    if !is_record(s) {
+        let machine = blank_machine();
+        return Out {
+            answer: Answer::Mark,
             machine,
         };
     }
@@ -33,12 +44,12 @@ pub fn read_record(s: &[u8]) -> Out
     }
 }
 
-// Writes the record, untested, into the first 1,412 bytes of the buffer, or nothing and 17.
+// Writes the record, untested, into the first 1,970 bytes of the buffer, or nothing and 17.
 pub fn write_record(m: Machine, b: &mut [u8]) -> Answer
     ensures answers { λ r. ⌜ told r ≡ told (recordAnswer (length (now (b .entry)))) ⌝ }
     ensures bytes { λ r. ⌜ now (b .exit) ≡ recordWritten m (now (b .entry)) ⌝ }
 {
-    if b.len() < 1412 {
+    if b.len() < SIZE {
         return Answer::Room;
     }
     put_record(b, m);

@@ -7,7 +7,7 @@ ghost use Rattle.lists.specs.Tab.{front};
 ghost use Rattle.image.specs.Bytes.{numOf, at4};
 ghost use Rattle.image.specs.Layout.{noContents};
 ghost use Rattle.machine.specs.Record.{blankNodes, idleThreads};
-ghost use Rattle.record.specs.Layout.{at8, readNode, readKept, readThread, nodeIn, keptIn, threadIn, recordIn};
+ghost use Rattle.record.specs.Layout.{recordSize, isRecord, at8, readNode, readKept, readThread, nodeIn, keptIn, threadIn, recordIn};
 use image::Content;
 use image::no_contents;
 use image::no_heads;
@@ -45,60 +45,80 @@ fn long_at(s: &[u8], at: usize) -> u64
     joined_words(low, high)
 }
 
+// Whether the bytes begin with a record's mark and version.
+pub fn is_record(s: &[u8]) -> bool
+    requires { ⌜ recordSize ≤ length (now s) ⌝ }
+    ensures { λ r. ⌜ r ≡ isRecord (now (s .entry)) ⌝ }
+{
+    if s[0] != 85 {
+        return false;
+    }
+    if s[1] != 81 {
+        return false;
+    }
+    if s[2] != 77 {
+        return false;
+    }
+    if s[3] != 2 {
+        return false;
+    }
+    s[4] == 0
+}
+
 fn node_at(s: &[u8], at: usize) -> Node
-    requires { ⌜ at + 20 ≤ length (now s) ⌝ }
+    requires { ⌜ at + 28 ≤ length (now s) ⌝ }
     ensures { λ r. ⌜ r ≡ readNode (now (s .entry)) at ⌝ }
 {
     let item = word_at(s, at);
-    let index = word_at(s, at + 6);
+    let index = long_at(s, at + 6);
     Node {
         item,
         next: s[at + 4],
         linked: s[at + 5],
         index,
-        waits: s[at + 10],
+        waits: s[at + 14],
     }
 }
 
 fn kept_at(s: &[u8], at: usize) -> Content
-    requires { ⌜ at + 20 ≤ length (now s) ⌝ }
+    requires { ⌜ at + 28 ≤ length (now s) ⌝ }
     ensures { λ r. ⌜ r ≡ readKept (now (s .entry)) at ⌝ }
 {
-    let index = word_at(s, at + 12);
-    let item = word_at(s, at + 16);
+    let index = long_at(s, at + 16);
+    let item = word_at(s, at + 24);
     Content {
-        linked: s[at + 11],
+        linked: s[at + 15],
         index,
         item,
     }
 }
 
 fn thread_at(s: &[u8], at: usize) -> Thread
-    requires { ⌜ at + 14 ≤ length (now s) ⌝ }
+    requires { ⌜ at + 18 ≤ length (now s) ⌝ }
     ensures { λ r. ⌜ r ≡ readThread (now (s .entry)) at ⌝ }
 {
-    let index = word_at(s, at + 4);
-    let item = word_at(s, at + 9);
+    let index = long_at(s, at + 4);
+    let item = word_at(s, at + 13);
     Thread {
         step: s[at],
         node: s[at + 1],
         tail: s[at + 2],
         head: s[at + 3],
         index,
-        next: s[at + 8],
+        next: s[at + 12],
         item,
-        held: s[at + 13],
+        held: s[at + 17],
     }
 }
 
 fn nodes_in(s: &[u8]) -> [Node; 64]
-    requires { ⌜ 1412 ≤ length (now s) ⌝ }
+    requires { ⌜ recordSize ≤ length (now s) ⌝ }
     ensures { λ r. ⌜ r ≡ front (nodeIn (now (s .entry))) 64 blankNodes ⌝ }
 {
     let mut l = blank_nodes();
     let mut i = 0;
     while i < 64 {
-        let v = node_at(s, 20 + i * 20);
+        let v = node_at(s, 34 + i * 28);
         l[i] = v;
         i += 1;
     }
@@ -106,13 +126,13 @@ fn nodes_in(s: &[u8]) -> [Node; 64]
 }
 
 fn kept_in(s: &[u8]) -> [Content; 64]
-    requires { ⌜ 1412 ≤ length (now s) ⌝ }
+    requires { ⌜ recordSize ≤ length (now s) ⌝ }
     ensures { λ r. ⌜ r ≡ front (keptIn (now (s .entry))) 64 noContents ⌝ }
 {
     let mut l = no_contents();
     let mut i = 0;
     while i < 64 {
-        let v = kept_at(s, 20 + i * 20);
+        let v = kept_at(s, 34 + i * 28);
         l[i] = v;
         i += 1;
     }
@@ -120,13 +140,13 @@ fn kept_in(s: &[u8]) -> [Content; 64]
 }
 
 fn threads_in(s: &[u8]) -> [Thread; 8]
-    requires { ⌜ 1412 ≤ length (now s) ⌝ }
+    requires { ⌜ recordSize ≤ length (now s) ⌝ }
     ensures { λ r. ⌜ r ≡ front (threadIn (now (s .entry))) 8 idleThreads ⌝ }
 {
     let mut l = idle_threads();
     let mut i = 0;
     while i < 8 {
-        let v = thread_at(s, 1300 + i * 14);
+        let v = thread_at(s, 1826 + i * 18);
         l[i] = v;
         i += 1;
     }
@@ -134,23 +154,24 @@ fn threads_in(s: &[u8]) -> [Thread; 8]
 }
 
 pub fn record_in(s: &[u8]) -> Machine
-    requires { ⌜ 1412 ≤ length (now s) ⌝ }
+    requires { ⌜ recordSize ≤ length (now s) ⌝ }
     ensures { λ r. ⌜ r ≡ recordIn (now (s .entry)) ⌝ }
 {
     let mut heads = no_heads();
-    heads[0] = word_at(s, 3);
-    let free = long_at(s, 8);
+    heads[0] = long_at(s, 18);
+    let free = long_at(s, 10);
     let mut kept_heads = no_heads();
-    kept_heads[0] = word_at(s, 16);
+    kept_heads[0] = long_at(s, 26);
     let nodes = nodes_in(s);
     let kept = kept_in(s);
     let threads = threads_in(s);
     Machine {
-        n: s[0],
-        t: s[1],
-        head: s[2],
+        form: s[5],
+        n: s[6],
+        t: s[7],
+        head: s[8],
         heads,
-        tail: s[7],
+        tail: s[9],
         free,
         nodes,
         kept_heads,

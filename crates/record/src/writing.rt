@@ -3,7 +3,7 @@ ghost use mathlib.Core.Path.{_≡_};
 ghost use Prim.Native.Nat.{_+_, _≤_};
 ghost use lib.ListN.{length};
 ghost use Rattle.lists.specs.Tab.{over, joined};
-ghost use Rattle.record.specs.Layout.{headBytes, nodeBytes, threadBytes, nodePart, threadPart, recordBytes};
+ghost use Rattle.record.specs.Layout.{recordSize, headBytes, nodeBytes, threadBytes, nodePart, threadPart, recordBytes};
 use image::Content;
 use machine::Machine;
 use machine::Node;
@@ -21,7 +21,7 @@ fn copy(b: &mut [u8], at: usize, a: &[u8])
     }
 }
 
-fn node_bytes(v: Node, p: Content) -> [u8; 20]
+fn node_bytes(v: Node, p: Content) -> [u8; 28]
     ensures { λ r. ⌜ r ≡ nodeBytes v p ⌝ }
 {
     [
@@ -35,12 +35,20 @@ fn node_bytes(v: Node, p: Content) -> [u8; 20]
         (v.index / 256 % 256) as u8,
         (v.index / 256 / 256 % 256) as u8,
         (v.index / 256 / 256 / 256 % 256) as u8,
+        (v.index / 256 / 256 / 256 / 256 % 256) as u8,
+        (v.index / 256 / 256 / 256 / 256 / 256 % 256) as u8,
+        (v.index / 256 / 256 / 256 / 256 / 256 / 256 % 256) as u8,
+        (v.index / 256 / 256 / 256 / 256 / 256 / 256 / 256 % 256) as u8,
         v.waits,
         p.linked,
         (p.index % 256) as u8,
         (p.index / 256 % 256) as u8,
         (p.index / 256 / 256 % 256) as u8,
         (p.index / 256 / 256 / 256 % 256) as u8,
+        (p.index / 256 / 256 / 256 / 256 % 256) as u8,
+        (p.index / 256 / 256 / 256 / 256 / 256 % 256) as u8,
+        (p.index / 256 / 256 / 256 / 256 / 256 / 256 % 256) as u8,
+        (p.index / 256 / 256 / 256 / 256 / 256 / 256 / 256 % 256) as u8,
         (p.item % 256) as u8,
         (p.item / 256 % 256) as u8,
         (p.item / 256 / 256 % 256) as u8,
@@ -48,7 +56,7 @@ fn node_bytes(v: Node, p: Content) -> [u8; 20]
     ]
 }
 
-fn thread_bytes(v: Thread) -> [u8; 14]
+fn thread_bytes(v: Thread) -> [u8; 18]
     ensures { λ r. ⌜ r ≡ threadBytes v ⌝ }
 {
     [
@@ -60,6 +68,10 @@ fn thread_bytes(v: Thread) -> [u8; 14]
         (v.index / 256 % 256) as u8,
         (v.index / 256 / 256 % 256) as u8,
         (v.index / 256 / 256 / 256 % 256) as u8,
+        (v.index / 256 / 256 / 256 / 256 % 256) as u8,
+        (v.index / 256 / 256 / 256 / 256 / 256 % 256) as u8,
+        (v.index / 256 / 256 / 256 / 256 / 256 / 256 % 256) as u8,
+        (v.index / 256 / 256 / 256 / 256 / 256 / 256 / 256 % 256) as u8,
         v.next,
         (v.item % 256) as u8,
         (v.item / 256 % 256) as u8,
@@ -69,19 +81,21 @@ fn thread_bytes(v: Thread) -> [u8; 14]
     ]
 }
 
-fn head_bytes(m: Machine) -> [u8; 20]
+fn head_bytes(m: Machine) -> [u8; 34]
     ensures { λ r. ⌜ r ≡ headBytes m ⌝ }
 {
     let h = m.heads[0];
     let p = m.kept_heads[0];
     [
+        85,
+        81,
+        77,
+        2,
+        0,
+        m.form,
         m.n,
         m.t,
         m.head,
-        (h % 256) as u8,
-        (h / 256 % 256) as u8,
-        (h / 256 / 256 % 256) as u8,
-        (h / 256 / 256 / 256 % 256) as u8,
         m.tail,
         (m.free % 256) as u8,
         (m.free / 256 % 256) as u8,
@@ -91,39 +105,51 @@ fn head_bytes(m: Machine) -> [u8; 20]
         (m.free / 256 / 256 / 256 / 256 / 256 % 256) as u8,
         (m.free / 256 / 256 / 256 / 256 / 256 / 256 % 256) as u8,
         (m.free / 256 / 256 / 256 / 256 / 256 / 256 / 256 % 256) as u8,
+        (h % 256) as u8,
+        (h / 256 % 256) as u8,
+        (h / 256 / 256 % 256) as u8,
+        (h / 256 / 256 / 256 % 256) as u8,
+        (h / 256 / 256 / 256 / 256 % 256) as u8,
+        (h / 256 / 256 / 256 / 256 / 256 % 256) as u8,
+        (h / 256 / 256 / 256 / 256 / 256 / 256 % 256) as u8,
+        (h / 256 / 256 / 256 / 256 / 256 / 256 / 256 % 256) as u8,
         (p % 256) as u8,
         (p / 256 % 256) as u8,
         (p / 256 / 256 % 256) as u8,
         (p / 256 / 256 / 256 % 256) as u8,
+        (p / 256 / 256 / 256 / 256 % 256) as u8,
+        (p / 256 / 256 / 256 / 256 / 256 % 256) as u8,
+        (p / 256 / 256 / 256 / 256 / 256 / 256 % 256) as u8,
+        (p / 256 / 256 / 256 / 256 / 256 / 256 / 256 % 256) as u8,
     ]
 }
 
 fn put_nodes(b: &mut [u8], m: Machine)
-    requires { ⌜ 1412 ≤ length (now b) ⌝ }
-    ensures { λ _. ⌜ now (b .exit) ≡ over (now (b .entry)) 20 (joined (nodePart m) 64) ⌝ }
+    requires { ⌜ recordSize ≤ length (now b) ⌝ }
+    ensures { λ _. ⌜ now (b .exit) ≡ over (now (b .entry)) 34 (joined (nodePart m) 64) ⌝ }
 {
     let mut i = 0;
     while i < 64 {
         let a = node_bytes(m.nodes[i], m.kept[i]);
-        copy(b, 20 + i * 20, &a);
+        copy(b, 34 + i * 28, &a);
         i += 1;
     }
 }
 
 fn put_threads(b: &mut [u8], m: Machine)
-    requires { ⌜ 1412 ≤ length (now b) ⌝ }
-    ensures { λ _. ⌜ now (b .exit) ≡ over (now (b .entry)) 1300 (joined (threadPart m) 8) ⌝ }
+    requires { ⌜ recordSize ≤ length (now b) ⌝ }
+    ensures { λ _. ⌜ now (b .exit) ≡ over (now (b .entry)) 1826 (joined (threadPart m) 8) ⌝ }
 {
     let mut i = 0;
     while i < 8 {
         let a = thread_bytes(m.threads[i]);
-        copy(b, 1300 + i * 14, &a);
+        copy(b, 1826 + i * 18, &a);
         i += 1;
     }
 }
 
 pub fn put_record(b: &mut [u8], m: Machine)
-    requires { ⌜ 1412 ≤ length (now b) ⌝ }
+    requires { ⌜ recordSize ≤ length (now b) ⌝ }
     ensures { λ _. ⌜ now (b .exit) ≡ over (now (b .entry)) 0 (recordBytes m) ⌝ }
 {
     let a = head_bytes(m);

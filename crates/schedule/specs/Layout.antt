@@ -10,7 +10,7 @@ use Rattle.answer.specs.Answers.{check, accepted}
 use Rattle.answer.specs.declared.Answer.{Answer}
 use Rattle.answer.specs.declared.Answer.the-variants.{Length, Mark, Threads, Events}
 use Rattle.image.specs.Bytes.{at1, at2, at4}
-use Rattle.image.specs.Layout.{marked, nodePlace, imageIn}
+use Rattle.image.specs.Layout.{marked, formIn, nodePlace, imageIn}
 use Rattle.image.specs.Refusals.{imageAnswer, blankImage}
 use Rattle.image.specs.declared.Image.{Image}
 use Rattle.machine.specs.Start.{threadsFit}
@@ -20,7 +20,7 @@ use Rattle.schedule.specs.declared.Opened.{Opened}
 
 -- mark "UQS", version 1; T; the event count; one image; then the events
 abbrev pub isSchedule : List ℕ → Bool
-isSchedule = marked 85 81 83
+isSchedule = marked 85 81 83 1
 
 abbrev pub threadsIn : List ℕ → ℕ
 threadsIn s = at1 s 5
@@ -38,15 +38,15 @@ scheduleIn s = record { t = threadsIn s; count = countIn s; image = imageIn (ima
 abbrev pub eventFrom : List ℕ → ℕ → Event
 eventFrom s at = record { kind = at1 s at; number = at1 s (at + 1); item = at4 s (at + 2) }
 
--- where event i of a schedule with N nodes begins
-abbrev pub eventPlace : ℕ → ℕ → ℕ
-eventPlace n i = 8 + nodePlace n + i * 6
+-- where event i of a schedule begins whose image is in form f, with N nodes
+abbrev pub eventPlace : ℕ → ℕ → ℕ → ℕ
+eventPlace f n i = 8 + nodePlace f n + i * 6
 
 abbrev pub nodesIn : List ℕ → ℕ
 nodesIn s = at1 (imagePart s) 5
 
 abbrev pub eventIn : List ℕ → ℕ → Event
-eventIn s i = eventFrom s (eventPlace (nodesIn s) i)
+eventIn s i = eventFrom s (eventPlace (formIn (imagePart s)) (nodesIn s) i)
 
 unfoldable pub eventsIn : List ℕ → List Event
 eventsIn s = tab (eventIn s) (countIn s)

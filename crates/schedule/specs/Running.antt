@@ -10,7 +10,8 @@ use Rattle.machine.specs.Start.{startOf}
 use Rattle.machine.specs.Event.{eventAt}
 use Rattle.machine.specs.declared.Event.{Event}
 use Rattle.machine.specs.declared.Touch.the-variants.{Nothing as nothing}
-use Rattle.schedule.specs.Layout.{threadsIn, countIn, nodesIn, scheduleIn, scheduleAnswer, eventIn}
+use Rattle.image.specs.Layout.{formIn}
+use Rattle.schedule.specs.Layout.{threadsIn, countIn, imagePart, nodesIn, scheduleIn, scheduleAnswer, eventIn}
 use Rattle.schedule.specs.Run.{Bench, Ran, benchAt, run, opened}
 use Rattle.schedule.specs.declared.Running.{Running}
 
@@ -22,6 +23,7 @@ abbrev pub openedRun : List ℕ → Running
 openedRun s = record {
   t = threadsIn s;
   n = nodesIn s;
+  form = formIn (imagePart s);
   count = countIn s;
   place = 0;
   answer = Taken;
@@ -38,6 +40,7 @@ forwardRun s g =
     record {
       t = g .t;
       n = g .n;
+      form = g .form;
       count = g .count;
       place = g .place + 1;
       answer = o .answer;
@@ -58,6 +61,7 @@ ranTo s i = run 0 (opened (scheduleIn s)) (tab (eventIn s) i)
 pub record Reached (s : List ℕ) (g : Running) : Type 0 where
   pub schedule : accepted (scheduleAnswer s) ≡ true
   pub nodes : g .n ≡ nodesIn s
+  pub form : g .form ≡ formIn (imagePart s)
   pub count : g .count ≡ countIn s
   pub machine : g .machine ≡ benchTo s (g .place) .machine
   pub taken : accepted (ranTo s (g .place) .answer) ≡ true

@@ -17,11 +17,12 @@ pub struct Opened {
     pub schedule: Schedule,
 }
 
-// A run on its way: T, N, how many events there are, the number of the next one, and the machine;
+// A run on its way: T, N, the image's form, how many events there are, the number of the next one, and the machine;
 // what the last event was, what it answered and which line it touched.
 pub struct Running {
     pub t: u8,
     pub n: u8,
+    pub form: u8,
     pub count: usize,
     pub place: usize,
     pub answer: Answer,

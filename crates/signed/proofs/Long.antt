@@ -12,7 +12,7 @@ use Rattle.page.specs.Printed.{refusedLine, printed}
 use Rattle.codec.proofs.Long.{long-refused, long-same}
 use Rattle.pages.proofs.PageLaws.{page-bytes}
 
-module _ (s : List ℕ) (long : 25170 < length s) where
+module _ (s : List ℕ) (long : 25430 < length s) where
   pub page-refused : accepted (pageAnswer s) ≡ false
   page-refused = ap accepted (sym (page-bytes s (long-refused s long))) ∙ long-refused s long
 
@@ -20,8 +20,8 @@ module _ (s : List ℕ) (long : 25170 < length s) where
   unfolding printed
   refused-printed = rw (page-refused, printed) refl
 
-module _ (s : List ℕ) (room : ℕ) (long : 25170 < room) (h : room ≤ length s) where
-  first-long : 25170 < length (take room s)
+module _ (s : List ℕ) (room : ℕ) (long : 25430 < room) (h : room ≤ length s) where
+  first-long : 25430 < length (take room s)
   first-long = omega (arith, length-take-le room s h)
 
   pub page-same : pageAnswer (take room s) ≡ pageAnswer s

@@ -29,9 +29,9 @@ Writes s k b a z =
     (κs : Lfts 2) × (x : RefT (List ℕ)) × (y : RefT (List ℕ)) × (y′ : RefT (List ℕ))
     × (now x ≡ s) × (now y ≡ b) × (now y′ ≡ z) × writing.Post κs (x, (k, (y, tt))) a (x, (k, (y′, tt)))
 
--- how many bytes an ending takes: 10 + 9N
+-- how many bytes an ending takes, by the form of the schedule's image
 abbrev pub endingSize : List ℕ → ℕ
-endingSize s = nodePlace (ran s .bench .machine .n)
+endingSize s = nodePlace (ran s .bench .machine .form) (ran s .bench .machine .n)
 
 -- a result that was taken
 pub record Page (s : List ℕ) (r : Count) : Type 0 where

@@ -9,17 +9,19 @@ use borrow.Author.Tests.{ltb-true, leb-true, eqb-true, eqb-false, not-true, lt-l
 use Rattle.lists.specs.Find.{pick, both, any}
 use Rattle.lists.proofs.BoolLaws.{both-true, both-of}
 use Rattle.lists.proofs.FindLaws.{any-hit}
+use Rattle.image.specs.Form.{known, topOf}
+use Rattle.image.specs.Layout.{headLines}
 use Rattle.image.specs.Refusals.{nodesFit}
 use Rattle.image.specs.declared.Content.{Content}
-use Rattle.machine.specs.Record.{none, node, kept, thread}
+use Rattle.machine.specs.Record.{none, node, kept, headAt, keptHead, thread}
 use Rattle.machine.specs.Stage.{lastStep, own, t, theHead, theNext, uses, stage}
 use Rattle.machine.specs.Start.{threadsFit}
-use Rattle.machine.specs.Range.{isNode, isLink, isFlag, sizesFit, endsFit, freeFits, nodeFits, readFits, nextFits, threadFits, inRange}
+use Rattle.machine.specs.Range.{isNode, isLink, isFlag, sizesFit, endsFit, freeFits, nodeFits, readFits, nextFits, threadFits, rangesFit, isIndex, headFits, indexFits, formFits, inRange}
 use Rattle.machine.specs.declared.Machine.{Machine}
 use Rattle.machine.specs.declared.Node.{Node}
 use Rattle.machine.specs.declared.Thread.{Thread}
 use Rattle.steps.specs.Ready.{Ready}
-use Rattle.steps.specs.Numbers.{threadNumbers, numbersFit}
+use Rattle.steps.specs.Numbers.{threadNumbers, rangesKept, numbersFit}
 
 -- ---- tests taken apart and put together
 
@@ -260,6 +262,46 @@ of-thread m k p =
     (both-of c (both d e) (of-link n (v .head) (p .head-link))
     (both-of d e (of-link n (v .next) (p .next-link)) (of-link n (v .held) (p .held-link))))))
 
+-- ---- the indices
+
+-- every index of the record is within the width of its form
+pub record Narrow (m : Machine) : Type 0 where
+  pub form : known (m .form) ≡ true
+  pub head : (k : ℕ) → k < headLines (m .n) → (headAt m k ≤ topOf (m .form)) × (keptHead m k ≤ topOf (m .form))
+  pub node : (i : ℕ) → i < m .n → (node m i .index ≤ topOf (m .form)) × (kept m i .index ≤ topOf (m .form))
+  pub thread : (k : ℕ) → k < m .t → thread m k .index ≤ topOf (m .form)
+
+narrow-of : (m : Machine) → formFits m ≡ true → Narrow m
+unfolding formFits headFits indexFits
+narrow-of m h =
+    let top = topOf (m .form) in
+    let hs = not (any (λ k. not (headFits m k)) (headLines (m .n))) in
+    let ns = not (any (λ i. not (indexFits m i)) (m .n)) in
+    let ts = not (any (λ k. not (isIndex m (thread m k .index))) (m .t)) in
+    let a = both-true (known (m .form)) (both hs (both ns ts)) h in
+    let b = both-true hs (both ns ts) (a .1) in
+    let c = both-true ns ts (b .1) in
+    record {
+      form = a .0;
+      head = λ k l. let p = both-true (isIndex m (headAt m k)) (isIndex m (keptHead m k)) (all-of (headFits m) (headLines (m .n)) (b .0) k l) in (leb-true (headAt m k) top (p .0), leb-true (keptHead m k) top (p .1));
+      node = λ i l. let p = both-true (isIndex m (node m i .index)) (isIndex m (kept m i .index)) (all-of (indexFits m) (m .n) (c .0) i l) in (leb-true (node m i .index) top (p .0), leb-true (kept m i .index) top (p .1));
+      thread = λ k l. leb-true (thread m k .index) top (all-of (λ k. isIndex m (thread m k .index)) (m .t) (c .1) k l);
+    }
+
+of-narrow : (m : Machine) → Narrow m → formFits m ≡ true
+unfolding formFits headFits indexFits
+of-narrow m w =
+    let top = topOf (m .form) in
+    let hs = not (any (λ k. not (headFits m k)) (headLines (m .n))) in
+    let ns = not (any (λ i. not (indexFits m i)) (m .n)) in
+    let ts = not (any (λ k. not (isIndex m (thread m k .index))) (m .t)) in
+    both-of (known (m .form)) (both hs (both ns ts)) (w .form)
+    (both-of hs (both ns ts)
+    (of-all (headFits m) (headLines (m .n)) (λ k l. both-of (isIndex m (headAt m k)) (isIndex m (keptHead m k)) (le-leb (headAt m k) top (w .head k l .0)) (le-leb (keptHead m k) top (w .head k l .1))))
+    (both-of ns ts
+    (of-all (indexFits m) (m .n) (λ i l. both-of (isIndex m (node m i .index)) (isIndex m (kept m i .index)) (le-leb (node m i .index) top (w .node i l .0)) (le-leb (kept m i .index) top (w .node i l .1))))
+    (of-all (λ k. isIndex m (thread m k .index)) (m .t) (λ k l. le-leb (thread m k .index) top (w .thread k l)))))
+
 -- ---- the laws
 
 -- the tests of a whole record
@@ -271,15 +313,16 @@ record Whole (m : Machine) (f : Machine → ℕ → Bool) : Type 0 where
   threads : (k : ℕ) → k < m .t → f m k ≡ true
 
 range-of : (m : Machine) → inRange m ≡ true → Whole m threadFits
-unfolding inRange
-range-of m h =
+unfolding inRange rangesFit
+range-of m h₀ =
+    let h = both-true (rangesFit m) (formFits m) h₀ .0 in
     let ns = not (any (λ i. not (nodeFits m i)) (m .n)) in
     let ts = not (any (λ k. not (threadFits m k)) (m .t)) in
     let p = parts5 (sizesFit m) (endsFit m) (freeFits m) ns ts h in
     record { sizes = p .0; ends = p .1; free = p .2; nodes = all-of (nodeFits m) (m .n) (p .3); threads = all-of (threadFits m) (m .t) (p .4) }
 
-numbers-of : (m : Machine) → numbersFit m ≡ true → Whole m threadNumbers
-unfolding numbersFit
+numbers-of : (m : Machine) → rangesKept m ≡ true → Whole m threadNumbers
+unfolding rangesKept
 numbers-of m h =
     let ns = not (any (λ i. not (nodeFits m i)) (m .n)) in
     let ts = not (any (λ k. not (threadNumbers m k)) (m .t)) in
@@ -293,17 +336,18 @@ fit-range m h =
     record { sizes = sizes-of m (w .sizes) (w .ends) (w .free); nodes = λ i l. node-of m i (w .nodes i l); threads = λ k l. thread-tests m k (tests-of m k (w .threads k l)) }
 
 pub fit-numbers : (m : Machine) → numbersFit m ≡ true → Fit m
+unfolding numbersFit
 fit-numbers m h =
-    let w = numbers-of m h in
+    let w = numbers-of m (both-true (rangesKept m) (formFits m) h .0) in
     record { sizes = sizes-of m (w .sizes) (w .ends) (w .free); nodes = λ i l. node-of m i (w .nodes i l); threads = λ k l. thread-of m k (w .threads k l) }
 
 pub used-range : (m : Machine) (k : ℕ) → inRange m ≡ true → k < m .t → Used m k
 used-range m k h l = used-tests m k (tests-of m k (range-of m h .threads k l))
 
 -- and back
-pub numbers-fit : (m : Machine) → Fit m → numbersFit m ≡ true
-unfolding numbersFit
-numbers-fit m f =
+ranges-kept : (m : Machine) → Fit m → rangesKept m ≡ true
+unfolding rangesKept
+ranges-kept m f =
     let s = f .sizes in
     let ns = not (any (λ i. not (nodeFits m i)) (m .n)) in
     let ts = not (any (λ k. not (threadNumbers m k)) (m .t)) in
@@ -315,8 +359,20 @@ numbers-fit m f =
     (both-of (freeFits m) (both ns ts) (lt-ltb (m .free) (2 ^ m .n) (s .free-in))
     (both-of ns ts (of-all (nodeFits m) (m .n) (λ i l. of-node m i (f .nodes i l))) (of-all (threadNumbers m) (m .t) (λ k l. of-thread m k (f .threads k l))))))
 
+pub numbers-fit : (m : Machine) → Fit m → Narrow m → numbersFit m ≡ true
+unfolding numbersFit
+numbers-fit m f w = both-of (rangesKept m) (formFits m) (ranges-kept m f) (of-narrow m w)
+
+pub narrow-range : (m : Machine) → inRange m ≡ true → Narrow m
+unfolding inRange
+narrow-range m h = narrow-of m (both-true (rangesFit m) (formFits m) h .1)
+
+pub narrow-numbers : (m : Machine) → numbersFit m ≡ true → Narrow m
+unfolding numbersFit
+narrow-numbers m h = narrow-of m (both-true (rangesKept m) (formFits m) h .1)
+
 pub range-numbers : (m : Machine) → inRange m ≡ true → numbersFit m ≡ true
-range-numbers m h = numbers-fit m (fit-range m h)
+range-numbers m h = numbers-fit m (fit-range m h) (narrow-range m h)
 
 -- what one step needs follows from 18's test
 pub ready : (m : Machine) (k : ℕ) → inRange m ≡ true → k < m .t → Ready m k

@@ -3,13 +3,14 @@ use Prim.Native.Nat.{ℕ, zero, suc, _+_, _^_, _≤_, _<_}
 use mathlib.Core.Path.{_≡_, refl}
 use mathlib.Core.Bool.{Bool, true, false}
 use native.Mathlib.Omega.{arith}
-use lib.Dec.{eqb}
+use lib.Dec.{eqb, leb}
 use borrow.Author.Tests.{eqb-false}
 use Rattle.lists.specs.Find.{pick, both}
 use Rattle.lists.specs.Word.{with, without}
 use Rattle.lists.proofs.WordLaws as words
 use Rattle.answer.specs.declared.Answer.the-variants.{Full, WornOut}
-use Rattle.machine.specs.Record.{none, top, node, thread, headAt, contentOf, ownNode, readTail, readNext, readItem, readHead, atStep, withItem, withNext, withLinked, withIndex, putNode, putTail, putFree, putHead}
+use Rattle.image.specs.Form.{topOf}
+use Rattle.machine.specs.Record.{none, node, thread, headAt, contentOf, ownNode, readTail, readNext, readItem, readHead, atStep, withItem, withNext, withLinked, withIndex, putNode, putTail, putFree, putHead}
 use Rattle.machine.specs.Stage.{Stage, noStep, A1, A2, A3, A4, A5, A6, A7, A8, A9, A10, A11, A12, D1, D2, D3, D4, D5, D6, D7, lastStep, stage}
 use Rattle.machine.specs.Line.{persist}
 use Rattle.machine.specs.declared.Line.{Line}
@@ -23,7 +24,8 @@ use Rattle.machine.specs.declared.Thread.{Thread}
 use Rattle.machine.proofs.LineLaws.{LineIn}
 use Rattle.machine.proofs.StageLaws.{step-number}
 use Rattle.steps.specs.Numbers.{numbersFit}
-use Rattle.steps.proofs.Fit.{Link, link, ThreadFit, Fit, Used, fit-range, fit-numbers, used-range, numbers-fit}
+use Rattle.steps.proofs.Fit.{Link, link, ThreadFit, Fit, Used, fit-range, fit-numbers, narrow-range, narrow-numbers, used-range, numbers-fit}
+use Rattle.steps.proofs.KeepIndex.{narrow-step, narrow-begun, narrow-persist}
 use Rattle.steps.proofs.Keep.{none-link, fit-thread, fit-node, fit-kept, fit-kept-head, fit-tail, fit-head, fit-free, next-free-lt, fit-left, fit-retired}
 
 -- ---- a thread with one thing replaced
@@ -165,7 +167,7 @@ module _ (m : Machine) (k : ℕ) (f : Fit m) (u : Used m k) (l : k < m .t) where
   fit-step A4 e = let p = f .nodes (thread m k .node) (u .own-in (rw e)) in stores (withLinked (node m (thread m k .node)) 0) 5 (p .next-link) (omega arith) (p .waits-in) (omega arith)
   fit-step A5 e = fit-moving m k (readTail (thread m k) (m .tail)) 6 f (read-tail (thread m k) (m .tail) (f .threads k l) (link (f .sizes .tail-in))) (omega arith)
   fit-step A6 e = let b = eqb (node m (thread m k .tail) .next) none in fit-going m k (pick b 7 12) f l (pick-le b 7 12 (omega arith) (omega arith))
-  fit-step A7 e = A7-by (u .own-in (rw e)) (eqb (node m (thread m k .tail) .index) top)
+  fit-step A7 e = A7-by (u .own-in (rw e)) (leb (topOf (m .form)) (node m (thread m k .tail) .index))
   fit-step A8 e = A8-by (u .t-in (rw e)) (eqb (node m (thread m k .tail) .next) none)
   fit-step A9 e = let p = f .nodes (thread m k .node) (u .own-in (rw e)) in stores (withLinked (node m (thread m k .node)) 1) 10 (p .next-link) (omega arith) (p .waits-in) (omega arith)
   fit-step A10 e =
@@ -192,7 +194,11 @@ module _ (m : Machine) (k : ℕ) (f : Fit m) (u : Used m k) (l : k < m .t) where
 
 -- a step of a thread
 pub kept-step : (m : Machine) (k : ℕ) → inRange m ≡ true → k < m .t → numbersFit (stepped m k (stage m k) .machine) ≡ true
-kept-step m k h l = numbers-fit (stepped m k (stage m k) .machine) (fit-step m k (fit-range m h) (used-range m k h l) l (stage m k) refl)
+kept-step m k h l =
+    let f = fit-range m h in
+    let u = used-range m k h l in
+    numbers-fit (stepped m k (stage m k) .machine) (fit-step m k f u l (stage m k) refl)
+    (narrow-step m k (narrow-range m h) u l (f .threads k l .held-link) (stage m k) refl)
 
 -- a begin
 pub kept-begun : (m : Machine) (k s v : ℕ) → numbersFit m ≡ true → k < m .t → s ≤ lastStep → numbersFit (begun m k s v) ≡ true
@@ -201,6 +207,7 @@ kept-begun m k s v h l q =
     numbers-fit (begun m k s v)
     (fit-thread m k (record { step = s; node = 255; tail = 255; head = 255; index = 0; next = 255; item = v; held = thread m k .held }) f
     (record { step-in = q; node-link = none-link; tail-link = none-link; head-link = none-link; next-link = none-link; held-link = f .threads k l .held-link }))
+    (narrow-begun m k s v (narrow-numbers m h))
 
 fit-persist : (m : Machine) (l : Line) → Fit m → LineIn (m .n) l → Fit (persist m l)
 fit-persist m (ofHead k) f h = fit-kept-head m k (headAt m k) f
@@ -208,4 +215,4 @@ fit-persist m (ofNode i) f h = fit-kept m i (contentOf (node m i)) f (f .nodes i
 
 -- a write-back
 pub kept-persist : (m : Machine) (l : Line) → numbersFit m ≡ true → LineIn (m .n) l → numbersFit (persist m l) ≡ true
-kept-persist m l h i = numbers-fit (persist m l) (fit-persist m l (fit-numbers m h) i)
+kept-persist m l h i = numbers-fit (persist m l) (fit-persist m l (fit-numbers m h) i) (narrow-persist m l (narrow-numbers m h) i)

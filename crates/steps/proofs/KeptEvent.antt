@@ -1,6 +1,6 @@
 -- Every event keeps a record's numbers in their ranges: refused or taken, a crash too. Of the event's own numbers nothing is asked.
 use Prim.Native.Nat.{ℕ, _<_}
-use mathlib.Core.Path.{_≡_, refl}
+use mathlib.Core.Path.{_≡_, refl, ap, _∙_}
 use mathlib.Core.Bool.{Bool, true, false, not}
 use native.Mathlib.Omega.{arith}
 use lib.Dec.{eqb, ltb, leb}
@@ -10,13 +10,16 @@ use Rattle.lists.proofs.BoolLaws.{both-of}
 use Rattle.lists.proofs.FindLaws.{least-found}
 use Rattle.answer.specs.Answers.{check, accepted}
 use Rattle.answer.specs.declared.Answer.{Answer}
-use Rattle.answer.specs.declared.Answer.the-variants.{Taken, Nodes, Threads, Linked, Busy, Idle, Number, NotZero, Record}
+use Rattle.answer.specs.declared.Answer.the-variants.{Taken, Busy, Idle, Number, NotZero, Record}
 use Rattle.image.specs.Layout.{contentAt}
 use Rattle.image.specs.Recovered.{firstUnclear}
-use Rattle.image.specs.Refusals.{nodesFit, startable, sound}
+use Rattle.image.specs.Refusals.{startable, sound, fitting, whole}
+use Rattle.image.proofs.HeadLaws.{one-head}
+use Rattle.image.proofs.SoundLaws.{Fitting, sound-then, is-fitting}
 use Rattle.machine.specs.Stage.{busy}
 use Rattle.machine.specs.Line.{lineCount, lineAt, persisted}
-use Rattle.machine.specs.Start.{threadsFit, startOf, startAnswer}
+use Rattle.machine.specs.Start.{startOf, startAnswer}
+use Rattle.machine.proofs.AnswerLaws.{answer-whole}
 use Rattle.machine.specs.Retire.{out, quiet}
 use Rattle.machine.specs.Event.{Deed, unknown, enqueues, dequeues, steps, writesBack, crashes, deedOf, threadTooLarge, lineTooLarge, itemNotZero, eventAnswer, done, eventAt, handed, eventOn}
 use Rattle.machine.specs.Range.{inRange}
@@ -27,7 +30,7 @@ use Rattle.machine.specs.declared.Out.{Out}
 use Rattle.machine.proofs.RangeLaws.{start-in-range}
 use Rattle.machine.proofs.LineLaws.{line-in}
 use Rattle.steps.specs.Numbers.{numbersFit}
-use Rattle.steps.proofs.Fit.{fit-range, range-numbers}
+use Rattle.steps.proofs.Fit.{fit-range, narrow-range, range-numbers}
 use Rattle.steps.proofs.Kept.{kept-step, kept-begun, kept-persist}
 
 -- ---- what a taken event has passed
@@ -56,19 +59,23 @@ clear m h = by (ltb (firstUnclear (persisted m)) (m .n)) refl
         let u = ltb-true 1 (contentAt (m .kept) i .linked) (least-found (λ i. ltb 1 (contentAt (m .kept) i .linked)) (m .n) 0 (omega arith)) in
         absurd (omega (arith, u, fit-range m h .nodes i l .kept-flag))
 
-start-of :
-    (a b u : Bool) (i : ℕ) (r : Answer) → a ≡ true → b ≡ true → u ≡ false → accepted r ≡ true →
-    accepted (check (not a) Threads (check (not b) Nodes (check u (Linked i) r))) ≡ true
-start-of a b u i r x y z h = rw (x, y, z) h
+persisted-sound : (m : Machine) → inRange m ≡ true → accepted (startable (persisted m) Taken) ≡ true → accepted (sound (persisted m) Taken) ≡ true
+unfolding sound
+persisted-sound m h a = rw (clear m h) a
+
+persisted-fits : (m : Machine) → inRange m ≡ true → Fitting (persisted m)
+persisted-fits m h = let w = narrow-range m h in record { head = w .head 0 (omega (arith, one-head (m .n))) .1; at = λ i l. w .node i l .1 }
+
+persisted-whole : (m : Machine) → inRange m ≡ true → accepted (startable (persisted m) Taken) ≡ true → whole (persisted m) Taken ≡ Taken
+unfolding whole
+persisted-whole m h a = sound-then (persisted m) (fitting (persisted m) Taken) (persisted-sound m h a) ∙ is-fitting (persisted m) Taken (persisted-fits m h)
 
 restart : (m : Machine) → inRange m ≡ true → accepted (startable (persisted m) Taken) ≡ true → accepted (startAnswer (persisted m) (m .t)) ≡ true
-unfolding startAnswer sound
 restart m h a =
     let s = fit-range m h .sizes in
     let ts = both-of (leb 1 (m .t)) (leb (m .t) 8) (le-leb 1 (m .t) (s .t-lo)) (le-leb (m .t) 8 (s .t-hi)) in
     let ns = both-of (leb 2 (m .n)) (leb (m .n) 64) (le-leb 2 (m .n) (s .n-lo)) (le-leb (m .n) 64 (s .n-hi)) in
-    let u = firstUnclear (persisted m) in
-    start-of (threadsFit (m .t)) (nodesFit (m .n)) (ltb u (m .n)) u (startable (persisted m) Taken) ts ns (clear m h) a
+    ap accepted (answer-whole (persisted m) (m .t) ts (narrow-range m h .form) ns ∙ persisted-whole m h a)
 
 kept-crash : (m : Machine) → inRange m ≡ true → accepted (startable (persisted m) Taken) ≡ true → numbersFit (startOf (persisted m) (m .t)) ≡ true
 kept-crash m h a = range-numbers (startOf (persisted m) (m .t)) (start-in-range (persisted m) (m .t) (restart m h a))

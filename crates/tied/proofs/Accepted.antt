@@ -19,6 +19,8 @@ use Rattle.image.specs.declared.Image.{Image}
 use Rattle.image.specs.Layout.{contentAt}
 use Rattle.image.specs.Recovered.{recoveredAt, twins, hasTwin, firstTwin, dummyOf, firstUnclear}
 use Rattle.image.specs.Refusals.{nodesFit, startable, sound}
+use Rattle.image.proofs.SoundLaws.{whole-is}
+use Rattle.machine.proofs.AcceptedLaws.{passed}
 use Rattle.machine.specs.Start.{threadsFit, startAnswer}
 use Rattle.model.specs.Basics.{sel}
 use Rattle.model.specs.Core as core
@@ -51,7 +53,7 @@ ge-of a b e = by (decLt a b)
 -- ---- what a start asks
 
 pub record Sound (g : Image) (t : ℕ) : Type 0 where
-  pub sizes : Sizes (g .n) t
+  pub sizes : Sizes (g .form) (g .n) t
   pub flags : (i : ℕ) → i < g .n → contentAt (g .nodes) i .linked ≤ 1
   pub apart : (i : ℕ) → i < g .n → hasTwin g i ≡ false
   pub dummy : dummyOf g < g .n
@@ -71,16 +73,15 @@ startable-is g rest e =
     by (no z) f l = omega arith
 
 pub sound-is : (g : Image) (t : ℕ) → accepted (startAnswer g t) ≡ true → Sound g t
-unfolding startAnswer sound firstUnclear
+unfolding sound firstUnclear
 sound-is g t e =
-    let a = pass (not (threadsFit t)) Threads _ refl e in
-    let b = pass (not (nodesFit (g .n))) Nodes _ refl (a .1) in
-    let c = pass (ltb (firstUnclear g) (g .n)) (Linked (firstUnclear g)) _ refl (b .1) in
+    let p = passed g t e in
+    let c = pass (ltb (firstUnclear g) (g .n)) (Linked (firstUnclear g)) _ refl (whole-is g (p .3) .sound) in
     let s = startable-is g Taken (c .1) in
-    let x = both-true _ _ (not-false _ (a .0)) in
-    let y = both-true _ _ (not-false _ (b .0)) in
+    let x = both-true _ _ (p .0) in
+    let y = both-true _ _ (p .2) in
     record {
-      sizes = record { nodes-lo = le-of 2 (g .n) (y .0); nodes-hi = le-of (g .n) 64 (y .1); threads-lo = le-of 1 t (x .0); threads-hi = le-of t 8 (x .1) };
+      sizes = record { form = p .1; nodes-lo = le-of 2 (g .n) (y .0); nodes-hi = le-of (g .n) 64 (y .1); threads-lo = le-of 1 t (x .0); threads-hi = le-of t 8 (x .1) };
       flags = λ i h. ge-of 1 (contentAt (g .nodes) i .linked) (clear-least (λ i. ltb 1 (contentAt (g .nodes) i .linked)) (g .n) (c .0) i h);
       apart = s .0;
       dummy = s .1;

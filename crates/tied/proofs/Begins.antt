@@ -70,9 +70,9 @@ module _ (g : Image) (t : ℕ) (G : recovery.Image) (r : ImageT g t G) (dm : dum
       same l h = line-is l (subst (λ n. LineIn n l) (size-is g t) h) ∙ ap shownContent (sym (kept-is _ _ _ d l h))
 
       by : (l : memory.Line) → LineIn (startOf g t .n) l → (a : Content) → Among a (persistedAt (startOf g t) l ∷ []) ⊎ (a ≡ cachedAt (startOf g t) l)
-          → Small a × Has (starts G) (lineShown l) (shownContent a)
-      by l h a (inl (inl e)) = subst (λ a. Small a × Has (starts G) (lineShown l) (shownContent a)) (sym e)
+          → Small (starts G .core .conf .top) a × Has (starts G) (lineShown l) (shownContent a)
+      by l h a (inl (inl e)) = subst (λ a. Small (starts G .core .conf .top) a × Has (starts G) (lineShown l) (shownContent a)) (sym e)
           (kept-flag _ _ _ d l h, record { time = 0; since = omega arith; until = omega arith; is = sym (same l h) })
       by l h a (inl (inr z)) = absurd z
-      by l h a (inr e) = subst (λ a. Small a × Has (starts G) (lineShown l) (shownContent a)) (sym e)
+      by l h a (inr e) = subst (λ a. Small (starts G .core .conf .top) a × Has (starts G) (lineShown l) (shownContent a)) (sym e)
           (cached-flag _ _ _ d l h, subst (Has (starts G) (lineShown l)) (shown-cached _ _ _ d l h) (startHere G (lineShown l)))

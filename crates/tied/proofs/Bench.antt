@@ -9,7 +9,7 @@ use lib.ListN.{length, getD, drop, length-append, List·getD-append}
 use lib.Seq.{drop-append-seam, drop-append-le, getD-append-seam}
 use Rattle.image.specs.declared.Content.{Content}
 use Rattle.tied.specs.Memory as memory
-use Rattle.machine.specs.Record.{top}
+use Rattle.image.specs.Form.{topOf}
 use Rattle.machine.specs.Line.{cachedAt, persistedAt}
 use Rattle.machine.specs.Start.{blankMachine}
 use Rattle.machine.specs.declared.Machine.{Machine}
@@ -46,20 +46,24 @@ shown-cached p m c d (memory.ofHead zero) h = ap (λ z. hd (lineIx (z .engine) (
 shown-cached p m c d (memory.ofHead (suc k)) h = absurd (omega (arith, one-head (m .n)))
 shown-cached p m c d (memory.ofNode i) h = d .nodes .at i h .content
 
-pub cached-flag : (p : memory.Line → Content) (m : Machine) (c : Core) → Tied p m c → (l : memory.Line) → LineIn (m .n) l → Small (cachedAt m l)
-cached-flag p m c d (memory.ofHead zero) h = (omega arith, d .narrow)
+-- the largest index is the form's
+pub top-is : (p : memory.Line → Content) (m : Machine) (c : Core) → Tied p m c → c .conf .top ≡ topOf (m .form)
+top-is p m c d = ap (λ z. z .top) (d .conf)
+
+pub cached-flag : (p : memory.Line → Content) (m : Machine) (c : Core) → Tied p m c → (l : memory.Line) → LineIn (m .n) l → Small (c .conf .top) (cachedAt m l)
+cached-flag p m c d (memory.ofHead zero) h = (omega arith, omega (arith, d .narrow, top-is p m c d))
 cached-flag p m c d (memory.ofHead (suc k)) h = absurd (omega (arith, one-head (m .n)))
-cached-flag p m c d (memory.ofNode i) h = (d .nodes .at i h .flag, d .nodes .at i h .narrow)
+cached-flag p m c d (memory.ofNode i) h = (d .nodes .at i h .flag, omega (arith, d .nodes .at i h .narrow, top-is p m c d))
 
 pub kept-is : (p : memory.Line → Content) (m : Machine) (c : Core) → Tied p m c → (l : memory.Line) → LineIn (m .n) l → persistedAt m l ≡ p l
 kept-is p m c d (memory.ofHead zero) h = sym (d .kept .head)
 kept-is p m c d (memory.ofHead (suc k)) h = absurd (omega (arith, one-head (m .n)))
 kept-is p m c d (memory.ofNode i) h = sym (d .kept .at i h)
 
-pub kept-flag : (p : memory.Line → Content) (m : Machine) (c : Core) → Tied p m c → (l : memory.Line) → LineIn (m .n) l → Small (persistedAt m l)
-kept-flag p m c d (memory.ofHead zero) h = (omega arith, subst (λ z. z .index ≤ top) (d .kept .head) (d .kept .narrow-head))
+pub kept-flag : (p : memory.Line → Content) (m : Machine) (c : Core) → Tied p m c → (l : memory.Line) → LineIn (m .n) l → Small (c .conf .top) (persistedAt m l)
+kept-flag p m c d (memory.ofHead zero) h = (omega arith, omega (arith, subst (λ z. z .index ≤ topOf (m .form)) (d .kept .head) (d .kept .narrow-head), top-is p m c d))
 kept-flag p m c d (memory.ofHead (suc k)) h = absurd (omega (arith, one-head (m .n)))
-kept-flag p m c d (memory.ofNode i) h = subst Small (d .kept .at i h) (d .kept .flag i h, d .kept .narrow i h)
+kept-flag p m c d (memory.ofNode i) h = subst (Small (c .conf .top)) (d .kept .at i h) (d .kept .flag i h, omega (arith, d .kept .narrow i h, top-is p m c d))
 
 -- any account of the persisted copies that is right may stand in
 pub own-kept : (p : memory.Line → Content) (m : Machine) (c : Core) → Tied p m c → Tied (persistedAt m) m c
@@ -80,8 +84,8 @@ own-kept p m c d = record {
     head = refl;
     at = λ i h. refl;
     flag = λ i h. kept-flag p m c d (memory.ofNode i) h .0;
-    narrow-head = subst (λ z. z .index ≤ top) (d .kept .head) (d .kept .narrow-head);
-    narrow = λ i h. kept-flag p m c d (memory.ofNode i) h .1;
+    narrow-head = subst (λ z. z .index ≤ topOf (m .form)) (d .kept .head) (d .kept .narrow-head);
+    narrow = λ i h. omega (arith, kept-flag p m c d (memory.ofNode i) h .1, top-is p m c d);
   };
 }
 
@@ -117,7 +121,7 @@ FromT k i = (k ≡ suc i) ⊎ ((k ≡ 0) × (i ≡ 0))
 
 -- each content of a line is one of the abstract machine's, what is persisted is the same; and the moments from which they count
 pub record ListsT (b : run.Bench) (B : M) : Type 0 where
-  pub lists : (l : memory.Line) → LineIn (b .machine .n) l → (a : Content) → Among a (contentsOf b l) → Small a × Has B (lineShown l) (shownContent a)
+  pub lists : (l : memory.Line) → LineIn (b .machine .n) l → (a : Content) → Among a (contentsOf b l) → Small (B .core .conf .top) a × Has B (lineShown l) (shownContent a)
   pub kept : (l : memory.Line) → LineIn (b .machine .n) l → B .past (lineShown l) (B .from (lineShown l)) ≡ shownContent (persistedAt (b .machine) l)
   pub now : B .now ≡ length (b .past)
   pub times : (l : memory.Line) → LineIn (b .machine .n) l → (i : ℕ) → i < length (b .past)
@@ -139,7 +143,7 @@ module _ (b : run.Bench) (B : M) (c′ : Core) (m′ : Machine) (w : memory.Touc
 
   -- what is to be shown of a line
   abbrev Line-at : memory.Line → Type 0
-  Line-at l = ((a : Content) → Among a (contentsOf (goesOn b m′ w) l) → Small a × Has (model.goesOn B c′ k) (lineShown l) (shownContent a))
+  Line-at l = ((a : Content) → Among a (contentsOf (goesOn b m′ w) l) → Small (c′ .conf .top) a × Has (model.goesOn B c′ k) (lineShown l) (shownContent a))
       × (model.goesOn B c′ k .past (lineShown l) (model.goesOn B c′ k .from (lineShown l)) ≡ shownContent (persistedAt m′ l))
 
   in-new : (l : memory.Line) → LineIn (b .machine .n) l → LineIn (m′ .n) l
@@ -160,9 +164,9 @@ module _ (b : run.Bench) (B : M) (c′ : Core) (m′ : Machine) (w : memory.Touc
       same : persistedAt m′ l ≡ persistedAt (b .machine) l
       same = kept-is _ m′ c′ d′ l (in-new l h) ∙ kp
 
-      by : (a : Content) → Among a (contentsOf b l) ⊎ (a ≡ cachedAt m′ l) → Small a × Has (model.goesOn B c′ k) (lineShown l) (shownContent a)
-      by a (inl z) = let o = r .lists l h a z in (o .0, onOld B c′ i k (lineShown l) (shownContent a) fm (o .1))
-      by a (inr e) = subst (λ a. Small a × Has (model.goesOn B c′ k) (lineShown l) (shownContent a)) (sym e) (cached-flag _ m′ c′ d′ l (in-new l h), present l h)
+      by : (a : Content) → Among a (contentsOf b l) ⊎ (a ≡ cachedAt m′ l) → Small (c′ .conf .top) a × Has (model.goesOn B c′ k) (lineShown l) (shownContent a)
+      by a (inl z) = let o = r .lists l h a z in (subst (λ z. Small (z .top) a) (sym shape) (o .0), onOld B c′ i k (lineShown l) (shownContent a) fm (o .1))
+      by a (inr e) = subst (λ a. Small (c′ .conf .top) a × Has (model.goesOn B c′ k) (lineShown l) (shownContent a)) (sym e) (cached-flag _ m′ c′ d′ l (in-new l h), present l h)
 
   -- the line that is persisted
   persists : (j : memory.Line) → LineIn (b .machine .n) j → w ≡ memory.aPersist j → k ≡ flushes (lineShown j) → Line-at j
@@ -181,13 +185,13 @@ module _ (b : run.Bench) (B : M) (c′ : Core) (m′ : Machine) (w : memory.Touc
           ap shownContent (kept-is _ m′ c′ d′ j (in-new j h) ∙ ap (λ w. keeps w (b .machine) (persistedAt (b .machine)) j) ew ∙ lines.put-same (persistedAt (b .machine)) j (cachedAt (b .machine) j))
           ∙ sym (shown-cached _ (b .machine) (B .core) d j h) ∙ sym (frame (lineShown j) (λ e. let z = sym ek ∙ e in let y : _≡_ {A = ℕ} 0 1 = cc in omega arith))
 
-      kept-one : Small (persistedAt m′ j) × Has (model.goesOn B c′ k) (lineShown j) (shownContent (persistedAt m′ j))
+      kept-one : Small (c′ .conf .top) (persistedAt m′ j) × Has (model.goesOn B c′ k) (lineShown j) (shownContent (persistedAt m′ j))
       kept-one = (kept-flag _ m′ c′ d′ j (in-new j h), subst (Has (model.goesOn B c′ k) (lineShown j)) (sym both-same) (onHere B c′ i k (lineShown j)))
 
-      by : (a : Content) → Among a (persistedAt m′ j ∷ []) ⊎ (a ≡ cachedAt m′ j) → Small a × Has (model.goesOn B c′ k) (lineShown j) (shownContent a)
-      by a (inl (inl e)) = subst (λ a. Small a × Has (model.goesOn B c′ k) (lineShown j) (shownContent a)) (sym e) kept-one
+      by : (a : Content) → Among a (persistedAt m′ j ∷ []) ⊎ (a ≡ cachedAt m′ j) → Small (c′ .conf .top) a × Has (model.goesOn B c′ k) (lineShown j) (shownContent a)
+      by a (inl (inl e)) = subst (λ a. Small (c′ .conf .top) a × Has (model.goesOn B c′ k) (lineShown j) (shownContent a)) (sym e) kept-one
       by a (inl (inr z)) = absurd z
-      by a (inr e) = subst (λ a. Small a × Has (model.goesOn B c′ k) (lineShown j) (shownContent a)) (sym e) (cached-flag _ m′ c′ d′ j (in-new j h), present j h)
+      by a (inr e) = subst (λ a. Small (c′ .conf .top) a × Has (model.goesOn B c′ k) (lineShown j) (shownContent a)) (sym e) (cached-flag _ m′ c′ d′ j (in-new j h), present j h)
 
   line-by : (w₀ : memory.Touch) (k₀ : Touch) → w ≡ w₀ → k ≡ k₀ → Touches w₀ k₀ → (l : memory.Line) → LineIn (b .machine .n) l → Line-at l
   line-by memory.nothing nowhere ew ek t l h = grows l h (ap (λ w. fromAfter w (length (b .past)) (b .from) l) ew)

@@ -13,7 +13,8 @@ use lib.Seq.{getD-set-same}
 use Rattle.lists.specs.Word.{has, with, without}
 use Rattle.image.specs.declared.Content.{Content}
 use Rattle.tied.specs.Memory as memory
-use Rattle.machine.specs.Record.{top, node, thread, contentOf, withNext, putNode, putTail, putHead, putFree, putThread, headAt}
+use Rattle.image.specs.Form.{topOf}
+use Rattle.machine.specs.Record.{node, thread, contentOf, withNext, putNode, putTail, putHead, putFree, putThread, headAt}
 use Rattle.machine.specs.Line.{putLine, cachedAt, persist, headContent}
 use Rattle.image.proofs.HeadLaws.{one-head}
 use Rattle.machine.proofs.LineLaws as lines
@@ -53,7 +54,7 @@ withoutT n w f r i = record { bits = λ j l. by j l (ℕ-discrete j i); fits = w
 
 module _ (p : memory.Line → Content) (m : Machine) (c : Core) (d : Tied p m c) where
   -- a thread moves on
-  pub moveT : (k : ℕ) → k < m .t → (v : Thread) (s : Th) → ThreadAt (m .n) v s (c .held k) → Tied p (putThread m k v) (setTh c k s)
+  pub moveT : (k : ℕ) → k < m .t → (v : Thread) (s : Th) → ThreadAt (topOf (m .form)) (m .n) v s (c .held k) → Tied p (putThread m k v) (setTh c k s)
   moveT k h v s a = record {
     conf = d .conf;
     sizes = d .sizes;
@@ -65,12 +66,12 @@ module _ (p : memory.Line → Content) (m : Machine) (c : Core) (d : Tied p m c)
     nodes = d .nodes;
     free = d .free;
     kept = d .kept;
-    threads = putThreads (m .n) (m .t) (m .threads) (c .thr) (c .held) (d .threads) (d .sizes .threads-hi) k h v (upd (c .thr) k s) (c .held)
-        (subst (λ s. ThreadAt (m .n) v s (c .held k)) (sym (upd-same (c .thr) k s)) a) (λ j ne. upd-other (c .thr) k s ne) (λ j ne. refl);
+    threads = putThreads (topOf (m .form)) (m .n) (m .t) (m .threads) (c .thr) (c .held) (d .threads) (d .sizes .threads-hi) k h v (upd (c .thr) k s) (c .held)
+        (subst (λ s. ThreadAt (topOf (m .form)) (m .n) v s (c .held k)) (sym (upd-same (c .thr) k s)) a) (λ j ne. upd-other (c .thr) k s ne) (λ j ne. refl);
   }
 
   -- a node's content
-  pub storeT : (i : ℕ) → i < m .n → (v : Node) (a : core.Node) → a ≡ shownContent (contentOf v) → v .next ≡ node m i .next → v .waits ≡ node m i .waits → v .linked ≤ 1 → v .index ≤ top
+  pub storeT : (i : ℕ) → i < m .n → (v : Node) (a : core.Node) → a ≡ shownContent (contentOf v) → v .next ≡ node m i .next → v .waits ≡ node m i .waits → v .linked ≤ 1 → v .index ≤ topOf (m .form)
       → Tied p (putNode m i v) (store c i a)
   storeT i h v a e en ew fl nr = record {
     conf = d .conf;
@@ -83,7 +84,7 @@ module _ (p : memory.Line → Content) (m : Machine) (c : Core) (d : Tied p m c)
     free = d .free;
     threads = d .threads;
     kept = d .kept;
-    nodes = putNodes (m .n) (m .t) (m .nodes) (c .node) (c .next) (c .wait) (d .nodes) (d .sizes .nodes-hi) i h v (upd (c .node) i a) (c .next) (c .wait)
+    nodes = putNodes (topOf (m .form)) (m .n) (m .t) (m .nodes) (c .node) (c .next) (c .wait) (d .nodes) (d .sizes .nodes-hi) i h v (upd (c .node) i a) (c .next) (c .wait)
         (record {
           content = upd-same (c .node) i a ∙ e;
           link = d .nodes .at i h .link ∙ ap linkOf (sym en);
@@ -108,7 +109,7 @@ module _ (p : memory.Line → Content) (m : Machine) (c : Core) (d : Tied p m c)
     free = d .free;
     threads = d .threads;
     kept = d .kept;
-    nodes = putNodes (m .n) (m .t) (m .nodes) (c .node) (c .next) (c .wait) (d .nodes) (d .sizes .nodes-hi) i h (withNext (node m i) x) (c .node) (upd (c .next) i o) (c .wait)
+    nodes = putNodes (topOf (m .form)) (m .n) (m .t) (m .nodes) (c .node) (c .next) (c .wait) (d .nodes) (d .sizes .nodes-hi) i h (withNext (node m i) x) (c .node) (upd (c .next) i o) (c .wait)
         (record {
           content = d .nodes .at i h .content;
           link = upd-same (c .next) i o ∙ e;
@@ -135,13 +136,13 @@ module _ (p : memory.Line → Content) (m : Machine) (c : Core) (d : Tied p m c)
     kept = d .kept;
   }
 
-  pub headT : (x y : ℕ) (i j : ℕ) → y ≡ x → j ≡ i → i ≤ top → Tied p (putHead m x i) (setHead c y j)
+  pub headT : (x y : ℕ) (i j : ℕ) → y ≡ x → j ≡ i → i ≤ topOf (m .form) → Tied p (putHead m x i) (setHead c y j)
   headT x y i j e f nr = record {
     conf = d .conf;
     sizes = d .sizes;
     hnode = e;
     hidx = f ∙ sym stored;
-    narrow = subst (λ y. y ≤ top) (sym stored) nr;
+    narrow = subst (λ y. y ≤ topOf (m .form)) (sym stored) nr;
     heads = length-set (m .heads) 0 i ∙ d .heads;
     tail = d .tail;
     nodes = d .nodes;
@@ -178,7 +179,7 @@ module _ (p : memory.Line → Content) (m : Machine) (c : Core) (d : Tied p m c)
     narrow = d .narrow;
     heads = d .heads;
     tail = d .tail;
-    nodes = record { size = d .nodes .size; at = λ j h. subst (NodeAt (m .n) (m .t) (node m j) (c .node j) (c .next j)) (sym (ew j h)) (d .nodes .at j h) };
+    nodes = record { size = d .nodes .size; at = λ j h. subst (NodeAt (topOf (m .form)) (m .n) (m .t) (node m j) (c .node j) (c .next j)) (sym (ew j h)) (d .nodes .at j h) };
     free = record { bits = λ j h. ef j h ∙ d .free .bits j h; fits = d .free .fits };
     threads = d .threads;
     kept = d .kept;
@@ -203,8 +204,8 @@ module _ (p : memory.Line → Content) (m : Machine) (c : Core) (d : Tied p m c)
       head = lines.put-same p (memory.ofHead 0) (headContent (headAt m 0)) ∙ ap headContent (sym (getD-set-same (m .«kept_heads») 0 (headAt m 0) 0 (omega (arith, d .kept .heads))));
       at = λ i l. other i ∙ d .kept .at i l;
       flag = λ i l. subst (λ y. y .linked ≤ 1) (sym (other i)) (d .kept .flag i l);
-      narrow-head = subst (λ y. y .index ≤ top) (sym (lines.put-same p (memory.ofHead 0) (headContent (headAt m 0)))) (d .narrow);
-      narrow = λ i l. subst (λ y. y .index ≤ top) (sym (other i)) (d .kept .narrow i l);
+      narrow-head = subst (λ y. y .index ≤ topOf (m .form)) (sym (lines.put-same p (memory.ofHead 0) (headContent (headAt m 0)))) (d .narrow);
+      narrow = λ i l. subst (λ y. y .index ≤ topOf (m .form)) (sym (other i)) (d .kept .narrow i l);
     };
   }
     where
@@ -222,7 +223,7 @@ module _ (p : memory.Line → Content) (m : Machine) (c : Core) (d : Tied p m c)
     nodes = d .nodes;
     free = d .free;
     threads = d .threads;
-    kept = putKepts (m .n) p (m .«kept_heads») (m .kept) (d .kept) (d .sizes .nodes-hi) i h (contentOf (node m i)) (d .nodes .at i h .flag) (d .nodes .at i h .narrow);
+    kept = putKepts (topOf (m .form)) (m .n) p (m .«kept_heads») (m .kept) (d .kept) (d .sizes .nodes-hi) i h (contentOf (node m i)) (d .nodes .at i h .flag) (d .nodes .at i h .narrow);
   }
 
   -- the shape

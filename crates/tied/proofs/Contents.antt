@@ -3,10 +3,9 @@ use mathlib.Core.Path.{_≡_, refl}
 use mathlib.Core.Bool.{Bool, true, false}
 use mathlib.Core.List.{List, [], _∷_, _++_}
 use mathlib.Core.Logic.{_⊎_, inl, inr}
-use Prim.Native.Nat.{_≤_}
+use Prim.Native.Nat.{ℕ, _≤_}
 use Rattle.image.specs.declared.Content.{Content}
 use Rattle.image.specs.Layout.{sameContent}
-use Rattle.machine.specs.Record.{top}
 use Rattle.page.specs.Contents.{joins, gathered}
 use Rattle.model.specs.Core as core
 use Rattle.tied.specs.Always.{Among}
@@ -16,10 +15,10 @@ unfolding gathered
 gathered-snoc s [] c = refl
 gathered-snoc s (a ∷ l) c = gathered-snoc (joins s a) l c
 
--- ---- contents whose flag is 0 or 1 and whose index is one of 32 bits
+-- ---- contents whose flag is 0 or 1 and whose index is at most z, the largest
 
-abbrev pub Small : Content → Type 0
-Small c = (c .linked ≤ 1) × (c .index ≤ top)
+abbrev pub Small : ℕ → Content → Type 0
+Small z c = (c .linked ≤ 1) × (c .index ≤ z)
 
 -- a content of a list that another joined was there, or is the other
 pub joins-old : (s : List Content) (c a : Content) → Among a (joins s c) → Among a s ⊎ (a ≡ c)

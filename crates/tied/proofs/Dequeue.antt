@@ -39,7 +39,7 @@ module _ (p : memory.Line → Content) (m : Machine) (c : Core) (d : Tied p m c)
         (record {
           stage = ap (λ h. d2 h (c .hidx)) (d .hnode) ∙ ap (d2 (m .head)) (d .hidx);
           holds = d .threads .at k hk .holds;
-          regs = let g = regs-of p m c d k hk in record { step = omega arith; node = g .node; tail = g .tail; head = inl (omega (arith, r .head, d .hnode, count-n p m c d)); next = g .next; held = g .held };
+          regs = let g = regs-of p m c d k hk in record { step = omega arith; node = g .node; tail = g .tail; head = inl (omega (arith, r .head, d .hnode, count-n p m c d)); next = g .next; held = g .held; index = d .narrow };
         });
     says = refl;
     touch = tt;
@@ -53,7 +53,7 @@ module _ (p : memory.Line → Content) (m : Machine) (c : Core) (d : Tied p m c)
         (record {
           stage = ap (λ E. emptyTo E (thread m k .head) (thread m k .index)) (engine-is p m c d k hk);
           holds = d .threads .at k hk .holds;
-          regs = let g = regs-of p m c d k hk in record { step = omega arith; node = g .node; tail = g .tail; head = g .head; next = d .nodes .at (thread m k .head) h .reach; held = g .held };
+          regs = let g = regs-of p m c d k hk in record { step = omega arith; node = g .node; tail = g .tail; head = g .head; next = d .nodes .at (thread m k .head) h .reach; held = g .held; index = g .index };
         });
     says = refl;
     touch = tt;
@@ -63,7 +63,7 @@ module _ (p : memory.Line → Content) (m : Machine) (c : Core) (d : Tied p m c)
         (record {
           stage = refl;
           holds = d .threads .at k hk .holds;
-          regs = let g = regs-of p m c d k hk in record { step = omega arith; node = g .node; tail = g .tail; head = g .head; next = d .nodes .at (thread m k .head) h .reach; held = g .held };
+          regs = let g = regs-of p m c d k hk in record { step = omega arith; node = g .node; tail = g .tail; head = g .head; next = d .nodes .at (thread m k .head) h .reach; held = g .held; index = g .index };
         });
     says = refl;
     touch = tt;
@@ -107,7 +107,7 @@ module _ (p : memory.Line → Content) (m : Machine) (c : Core) (d : Tied p m c)
           stage = ap (λ E. itemTo E (thread m k .head) (thread m k .next) (c .node (thread m k .next) .item)) (engine-is p m c d k hk)
               ∙ ap (λ z. d6 (thread m k .head) (z .item)) (d .nodes .at (thread m k .next) (h .1) .content);
           holds = d .threads .at k hk .holds;
-          regs = let g = regs-of p m c d k hk in record { step = omega arith; node = g .node; tail = g .tail; head = g .head; next = g .next; held = g .held };
+          regs = let g = regs-of p m c d k hk in record { step = omega arith; node = g .node; tail = g .tail; head = g .head; next = g .next; held = g .held; index = g .index };
         });
     says = refl;
     touch = tt;

@@ -7,6 +7,7 @@ use Prim.Native.Nat.{ℕ, zero, suc, _+_, _≤_, _<_}
 use native.Mathlib.Omega.{arith}
 use native.Mathlib.Numerals.{add-one}
 use native.Mathlib.Decide.{ℕ-discrete}
+use borrow.Author.Tests.{leb-false}
 use lib.Dec.{eqb, leb}
 use Rattle.lists.specs.Find.{pick, least}
 use Rattle.lists.specs.Word.{has, with, without}
@@ -14,8 +15,9 @@ use Rattle.lists.proofs.BoolLaws.{no-way}
 use Rattle.answer.specs.declared.Answer.the-variants.{Done, Full, WornOut}
 use Rattle.image.specs.declared.Content.{Content}
 use Rattle.tied.specs.Memory as memory
+use Rattle.image.specs.Form.{topOf}
 use Rattle.machine.specs.Record as rec
-use Rattle.machine.specs.Record.{top, node, thread, atStep, ownNode, readTail, putNode, putTail, putFree}
+use Rattle.machine.specs.Record.{node, thread, atStep, ownNode, readTail, putNode, putTail, putFree}
 use Rattle.machine.specs.Line.{persist}
 use Rattle.machine.specs.Stage.{stage, A1, A2, A3, A4, A5, A6, A7, A8, A9, A10, A11, A12}
 use Rattle.machine.specs.Retire as retire
@@ -35,14 +37,6 @@ use Rattle.tied.proofs.Relation.{Link, Regs, ThreadAt, FreeT, Tied}
 use Rattle.tied.proofs.Changes.{some-link, withT, withoutT, moveT, storeT, linkT, tailT, freeT, persistT, count-n}
 use Rattle.tied.proofs.Searches.{lowest-same, low-in, low-link}
 use Rattle.tied.proofs.Stepping.{StepT, link-in, link-is, lastT, regs-of, goes-on, leavesT, used, mode-is}
-
--- at the largest number both tests say the same
-top-test : (x : ℕ) → x ≤ top → leb top x ≡ eqb x top
-top-test x h = by (ℕ-discrete x top)
-  where
-    by : Dec (x ≡ top) → leb top x ≡ eqb x top
-    by (yes e) = rw (e) refl
-    by (no ne) = not-le top x (omega arith) ∙ sym (eq-no x top ne)
 
 module _ (p : memory.Line → Content) (m : Machine) (c : Core) (d : Tied p m c) (r : InRange c) (k : ℕ) (hk : k < m .t) where
   -- the choice is the record's
@@ -68,7 +62,7 @@ module _ (p : memory.Line → Content) (m : Machine) (c : Core) (d : Tied p m c)
         (record {
           stage = refl;
           holds = d .threads .at k hk .holds;
-          regs = let g = regs-of p m c d k hk in record { step = omega arith; node = inl (next-in e); tail = g .tail; head = g .head; next = g .next; held = g .held };
+          regs = let g = regs-of p m c d k hk in record { step = omega arith; node = inl (next-in e); tail = g .tail; head = g .head; next = g .next; held = g .held; index = g .index };
         });
     says = refl;
     touch = tt;
@@ -108,7 +102,7 @@ module _ (p : memory.Line → Content) (m : Machine) (c : Core) (d : Tied p m c)
         (record {
           stage = ap (a6 (thread m k .item) (thread m k .node)) (d .tail);
           holds = d .threads .at k hk .holds;
-          regs = let g = regs-of p m c d k hk in record { step = omega arith; node = g .node; tail = inl (omega (arith, r .tail, d .tail, count-n p m c d)); head = g .head; next = g .next; held = g .held };
+          regs = let g = regs-of p m c d k hk in record { step = omega arith; node = g .node; tail = inl (omega (arith, r .tail, d .tail, count-n p m c d)); head = g .head; next = g .next; held = g .held; index = g .index };
         });
     says = refl;
     touch = tt;
@@ -123,7 +117,7 @@ module _ (p : memory.Line → Content) (m : Machine) (c : Core) (d : Tied p m c)
       subst (λ o. StepT p m (stepped m k A6) (stepA6 c k (thread m k .item) (thread m k .node) (thread m k .tail) o)) (sym (d .nodes .at (thread m k .tail) (h .1) .link))
       (eA6 (eqb (node m (thread m k .tail) .next) 255))
 
-  eA7 : thread m k .node < m .n → thread m k .tail < m .n → (b : Bool) → eqb (node m (thread m k .tail) .index) top ≡ b
+  eA7 : thread m k .node < m .n → thread m k .tail < m .n → (b : Bool) → leb (topOf (m .form)) (node m (thread m k .tail) .index) ≡ b
       → StepT p m (pick b (answering WornOut (retire.freed m (thread m k .node)) k) (storing (memory.ofNode (thread m k .node)) (going (putNode m (thread m k .node) (rec.withIndex (node m (thread m k .node)) (node m (thread m k .tail) .index + 1))) k 8)))
       (stepA7 c k (thread m k .item) (thread m k .node) (thread m k .tail) b)
   eA7 h g true e = record {
@@ -139,24 +133,20 @@ module _ (p : memory.Line → Content) (m : Machine) (c : Core) (d : Tied p m c)
             (core.withIndex (c .node (thread m k .node)) (suc (c .node (thread m k .tail) .index)))
             (ap (λ z. core.withIndex z (suc (c .node (thread m k .tail) .index))) (a .content)
             ∙ ap (λ i. record { linked = eqb (node m (thread m k .node) .linked) 1; index = i; item = node m (thread m k .node) .item }) (ap (λ z. suc (z .index)) (x .content) ∙ sym (add-one (node m (thread m k .tail) .index))))
-            refl refl (a .flag) (low (node m (thread m k .tail) .index) e (x .narrow)))
+            refl refl (a .flag) (low (node m (thread m k .tail) .index) e))
             k hk (atStep (thread m k) 8) _ (goes-on p m c d k hk 8 _ (omega arith) refl);
         says = refl;
         touch = refl;
       }
     where
-      low : (i : ℕ) → eqb i top ≡ false → i ≤ top → i + 1 ≤ top
-      low i e h = by (ℕ-discrete i top)
-        where
-          by : Dec (i ≡ top) → i + 1 ≤ top
-          by (yes z) = no-way (sym (ap (λ y. eqb y top) z) ∙ e)
-          by (no z) = omega arith
+      low : (i : ℕ) → leb (topOf (m .form)) i ≡ false → i + 1 ≤ topOf (m .form)
+      low i e = omega (arith, leb-false (topOf (m .form)) i e)
 
   pub sA7 : stage m k ≡ A7 → StepT p m (stepped m k A7) (step c k (threadOf A7 (thread m k)))
   sA7 e = let h = used p m c d k hk r A7 e in let x = d .nodes .at (thread m k .tail) (h .1) in
       subst (λ b. StepT p m (stepped m k A7) (stepA7 c k (thread m k .item) (thread m k .node) (thread m k .tail) b))
-      (sym (ap (λ z. leb (z .top) (c .node (thread m k .tail) .index)) (d .conf) ∙ ap (λ z. leb top (z .index)) (x .content) ∙ top-test (node m (thread m k .tail) .index) (x .narrow)))
-      (eA7 (h .0) (h .1) (eqb (node m (thread m k .tail) .index) top) refl)
+      (sym (ap (λ z. leb (z .top) (c .node (thread m k .tail) .index)) (d .conf) ∙ ap (λ z. leb (topOf (m .form)) (z .index)) (x .content)))
+      (eA7 (h .0) (h .1) (leb (topOf (m .form)) (node m (thread m k .tail) .index)) refl)
 
   eA8 : thread m k .node < m .n → thread m k .tail < m .n → (b : Bool)
       → StepT p m (pick b (going (putNode m (thread m k .tail) (rec.withNext (node m (thread m k .tail)) (thread m k .node))) k 9) (going m k 12))

@@ -14,7 +14,7 @@ use Rattle.image.specs.declared.Image.{Image}
 use Rattle.image.specs.Layout.{contentAt, headIn}
 use Rattle.image.proofs.HeadLaws.{head-one}
 use Rattle.image.specs.Recovered.{headOf, recovered, recoveredAt, dummyOf}
-use Rattle.machine.specs.Record.{top}
+use Rattle.image.specs.Form.{topOf}
 use Rattle.machine.specs.Start as start
 use Rattle.machine.specs.Start.{risen}
 use Rattle.model.specs.Basics.{sel, bothb}
@@ -29,13 +29,13 @@ use Rattle.tied.proofs.Searches.{lowest-least, lowest-same}
 use Rattle.tied.proofs.Relation.{Sizes}
 
 pub record ImageT (g : Image) (t : ℕ) (G : recovery.Image) : Type 0 where
-  pub conf : G .conf ≡ confOf (g .n) t
-  pub sizes : Sizes (g .n) t
+  pub conf : G .conf ≡ confOf (g .form) (g .n) t
+  pub sizes : Sizes (g .form) (g .n) t
   pub head : G .heads 0 ≡ headIn g 0
   pub at : (i : ℕ) → i < g .n → G .at i ≡ shownContent (contentAt (g .nodes) i)
   pub flag : (i : ℕ) → i < g .n → contentAt (g .nodes) i .linked ≤ 1
-  pub narrow-head : headIn g 0 ≤ top
-  pub narrow : (i : ℕ) → i < g .n → contentAt (g .nodes) i .index ≤ top
+  pub narrow-head : headIn g 0 ≤ topOf (g .form)
+  pub narrow : (i : ℕ) → i < g .n → contentAt (g .nodes) i .index ≤ topOf (g .form)
 
 -- numbers below n only
 abbrev pub Under : ℕ → List ℕ → Type 0

@@ -14,6 +14,7 @@ use Rattle.lists.specs.Word.{has, with, without}
 use Rattle.lists.proofs.BoolLaws.{both-true, no-way}
 use Rattle.image.specs.declared.Content.{Content}
 use Rattle.tied.specs.Memory as memory
+use Rattle.image.specs.Form.{topOf}
 use Rattle.machine.specs.Record.{node, thread, withWaits, idleThread, putThread}
 use Rattle.machine.specs.Retire.{lastWait, releasedAt, released, left}
 use Rattle.machine.specs.declared.Machine.{Machine}
@@ -84,7 +85,7 @@ releasedAtT p m c d k hk i hi = record {
   tail = d .tail;
   threads = d .threads;
   kept = d .kept;
-  nodes = putNodes (m .n) (m .t) (m .nodes) (c .node) (c .next) (c .wait) (d .nodes) (d .sizes .nodes-hi) i hi
+  nodes = putNodes (topOf (m .form)) (m .n) (m .t) (m .nodes) (c .node) (c .next) (c .wait) (d .nodes) (d .sizes .nodes-hi) i hi
       (withWaits (node m i) (without (node m i .waits) k)) (c .node) (c .next) (upd (c .wait) i (remove k (c .wait i)))
       (record {
         content = a .content;
@@ -99,7 +100,7 @@ releasedAtT p m c d k hk i hi = record {
       (ap (λ w. freed (c .free i) w (remove k w)) (a .waits) ∙ freed-is k (m .t) (node m i .waits) (c .free i) hk (a .few));
 }
   where
-    a : NodeAt (m .n) (m .t) (node m i) (c .node i) (c .next i) (c .wait i)
+    a : NodeAt (topOf (m .form)) (m .n) (m .t) (node m i) (c .node i) (c .next i) (c .wait i)
     a = d .nodes .at i hi
 
 -- ---- all of them
@@ -167,11 +168,11 @@ module _ (p : memory.Line → Content) (m : Machine) (c : Core) (d : Tied p m c)
     nodes = s .nodes;
     free = s .free;
     kept = s .kept;
-    threads = putThreads _ _ _ (c .thr) (c .held) (s .threads) (s .sizes .threads-hi) k (omega (arith, et)) (idleThread x) (upd (c .thr) k idle) held′
+    threads = putThreads _ _ _ _ (c .thr) (c .held) (s .threads) (s .sizes .threads-hi) k (omega (arith, et)) (idleThread x) (upd (c .thr) k idle) held′
         (record {
           stage = upd-same (c .thr) k idle;
           holds = e;
-          regs = record { step = omega arith; node = inr refl; tail = inr refl; head = inr refl; next = inr refl; held = subst (λ n. Link n x) (sym en) lx };
+          regs = record { step = omega arith; node = inr refl; tail = inr refl; head = inr refl; next = inr refl; held = subst (λ n. Link n x) (sym en) lx; index = omega arith };
         }) (λ j ne. upd-other (c .thr) k idle ne) same;
   }
     where

@@ -3,7 +3,7 @@ use mathlib.Core.Path.{_≡_, refl, sym, ap, subst, _∙_}
 use mathlib.Core.Bool.{Bool, true, false, not}
 use mathlib.Core.Logic.{_⊎_, inl, inr}
 use mathlib.Core.Option.{Option, none}
-use Prim.Native.Nat.{ℕ, _^_, _≤_, _<_}
+use Prim.Native.Nat.{ℕ, zero, suc, _^_, _≤_, _<_}
 use native.Mathlib.Omega.{arith}
 use lib.Dec.{eqb, ltb, leb}
 use Rattle.lists.specs.Find.{pick}
@@ -11,9 +11,12 @@ use Rattle.lists.proofs.BoolLaws.{both-of}
 use Rattle.lists.proofs.FindLaws.{any-none}
 use Rattle.image.specs.declared.Content.{Content}
 use Rattle.tied.specs.Memory as memory
+use Rattle.image.specs.Form.{topOf}
+use Rattle.image.specs.Layout.{headLines}
+use Rattle.image.proofs.HeadLaws.{one-head}
 use Rattle.machine.specs.Record.{node, kept, thread}
 use Rattle.machine.specs.Stage.{Stage, noStep, A1, A2, A3, A4, A5, A6, A7, A8, A9, A10, A11, A12, D1, D2, D3, D4, D5, D6, D7, own, t, theHead, theNext, uses, lastStep, stage, stageOf}
-use Rattle.machine.specs.Range.{isNode, isLink, readFits, nextFits, nodeFits, threadFits, inRange}
+use Rattle.machine.specs.Range.{isNode, isLink, readFits, nextFits, nodeFits, threadFits, rangesFit, headFits, indexFits, formFits, inRange}
 use Rattle.machine.specs.declared.Machine.{Machine}
 use Rattle.machine.specs.declared.Thread.{Thread}
 use Rattle.model.specs.Core.{Core}
@@ -35,7 +38,7 @@ is-link m x (inl h) = by (eqb x 255)
     by false = is-node m x h
 is-link m x (inr e) = rw e refl
 
-module _ (m : Machine) (v : Thread) (next : ℕ → Option ℕ) (g : Regs (m .n) v) where
+module _ (m : Machine) (v : Thread) (next : ℕ → Option ℕ) (g : Regs (topOf (m .form)) (m .n) v) where
   reads : (s : Stage) → ThIn (m .n) next (threadOf s v)
       → (readFits m (uses s own) (v .node) ≡ true) × (readFits m (uses s t) (v .tail) ≡ true) × (readFits m (uses s theHead) (v .head) ≡ true) × (readFits m (uses s theNext) (v .next) ≡ true)
   reads noStep u = (is-link m _ (g .node), is-link m _ (g .tail), is-link m _ (g .head), is-link m _ (g .next))
@@ -88,11 +91,34 @@ module _ (p : memory.Line → Content) (m : Machine) (c : Core) (d : Tied p m c)
         both-of _ _ (le-true _ lastStep (g .step))
         (both-of _ _ (q .0) (both-of _ _ (q .1) (both-of _ _ (q .2) (both-of _ _ (q .3) (both-of _ _ (is-link m _ (g .held)) (next-fits _ refl))))))
 
-  pub tied-in-range : inRange m ≡ true
-  unfolding inRange
-  tied-in-range =
+  -- N, T, and every number of a node, a line, a thread or a step
+  ranges-fit : rangesFit m ≡ true
+  unfolding rangesFit
+  ranges-fit =
       let z = d .sizes in
       both-of _ _ (both-of _ _ (both-of _ _ (le-true 2 _ (z .nodes-lo)) (le-true _ 64 (z .nodes-hi))) (both-of _ _ (le-true 1 _ (z .threads-lo)) (le-true _ 8 (z .threads-hi))))
       (both-of _ _ (both-of _ _ (is-node m _ (omega (arith, r .head, d .hnode, count-n p m c d))) (is-node m _ (omega (arith, r .tail, d .tail, count-n p m c d))))
       (both-of _ _ (lt-true _ _ (d .free .fits))
       (both-of _ _ (ap not (any-none _ (m .n) (λ i h. ap not (node-fits i h)))) (ap not (any-none _ (m .t) (λ k h. ap not (thread-fits k h)))))))
+
+  -- every index is within the form's width
+  head-index : (k : ℕ) → k < headLines (m .n) → headFits m k ≡ true
+  unfolding headFits
+  head-index zero h = both-of _ _ (le-true _ _ (d .narrow)) (le-true _ _ (subst (λ z. z .index ≤ topOf (m .form)) (d .kept .head) (d .kept .narrow-head)))
+  head-index (suc k) h = absurd (omega (arith, one-head (m .n)))
+
+  node-index : (i : ℕ) → i < m .n → indexFits m i ≡ true
+  unfolding indexFits
+  node-index i h = both-of _ _ (le-true _ _ (d .nodes .at i h .narrow)) (le-true _ _ (subst (λ z. z .index ≤ topOf (m .form)) (d .kept .at i h) (d .kept .narrow i h)))
+
+  form-fits : formFits m ≡ true
+  unfolding formFits
+  form-fits =
+      both-of _ _ (d .sizes .form)
+      (both-of _ _ (ap not (any-none _ (headLines (m .n)) (λ k h. ap not (head-index k h))))
+      (both-of _ _ (ap not (any-none _ (m .n) (λ i h. ap not (node-index i h))))
+      (ap not (any-none _ (m .t) (λ k h. ap not (le-true _ _ (d .threads .at k h .regs .index)))))))
+
+  pub tied-in-range : inRange m ≡ true
+  unfolding inRange
+  tied-in-range = both-of _ _ ranges-fit form-fits

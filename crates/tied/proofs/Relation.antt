@@ -1,6 +1,6 @@
 -- A record and an abstract core that show the same; and what the record's numbers keep to by themselves.
 use mathlib.Core.Path.{_≡_, refl, sym, ap, subst, _∙_}
-use mathlib.Core.Bool.{Bool}
+use mathlib.Core.Bool.{Bool, true}
 use mathlib.Core.List.{List}
 use mathlib.Core.Logic.{_≢_, _⊎_}
 use mathlib.Core.Option.{Option}
@@ -11,8 +11,9 @@ use lib.ListN.{length, getD, set, length-set}
 use lib.Seq.{getD-set-same, getD-set-other}
 use Rattle.lists.specs.Word.{has, with, without}
 use Rattle.image.specs.declared.Content.{Content}
+use Rattle.image.specs.Form.{known, topOf}
 use Rattle.image.specs.Layout.{noContent}
-use Rattle.machine.specs.Record.{top, zeroNode, zeroThread, headAt, contentOf}
+use Rattle.machine.specs.Record.{zeroNode, zeroThread, headAt, contentOf}
 use Rattle.machine.specs.Stage.{lastStep}
 use Rattle.machine.specs.Line.{putLine, headContent}
 use Rattle.machine.specs.declared.Line.{Line}
@@ -30,31 +31,31 @@ use Rattle.tied.proofs.Words.{has-with, has-without, with-fits, without
 abbrev pub Link : ℕ → ℕ → Type 0
 Link n x = (x < n) ⊎ (x ≡ 255)
 
--- ---- a node
+-- ---- a node; z is the largest index
 
-pub record NodeAt (n t : ℕ) (v : Node) (a : core.Node) (o : Option ℕ) (w : List ℕ) : Type 0 where
+pub record NodeAt (z n t : ℕ) (v : Node) (a : core.Node) (o : Option ℕ) (w : List ℕ) : Type 0 where
   pub content : a ≡ shownContent (contentOf v)
   pub link : o ≡ linkOf (v .next)
   pub waits : w ≡ members t (v .waits)
   pub flag : v .linked ≤ 1
   pub reach : Link n (v .next)
   pub few : v .waits < 2 ^ t
-  pub narrow : v .index ≤ top
+  pub narrow : v .index ≤ z
 
-pub record NodesT (n t : ℕ) (l : List Node) (node : ℕ → core.Node) (next : ℕ → Option ℕ) (wait : ℕ → List ℕ) : Type 0 where
+pub record NodesT (z n t : ℕ) (l : List Node) (node : ℕ → core.Node) (next : ℕ → Option ℕ) (wait : ℕ → List ℕ) : Type 0 where
   pub size : length l ≡ 64
-  pub at : (i : ℕ) → i < n → NodeAt n t (getD l i zeroNode) (node i) (next i) (wait i)
+  pub at : (i : ℕ) → i < n → NodeAt z n t (getD l i zeroNode) (node i) (next i) (wait i)
 
 -- one node replaced
-pub putNodes : (n t : ℕ) (l : List Node) (node : ℕ → core.Node) (next : ℕ → Option ℕ) (wait : ℕ → List ℕ) → NodesT n t l node next wait → n ≤ 64
-    → (i : ℕ) → i < n → (v : Node) (node′ : ℕ → core.Node) (next′ : ℕ → Option ℕ) (wait′ : ℕ → List ℕ) → NodeAt n t v (node′ i) (next′ i) (wait′ i)
+pub putNodes : (z n t : ℕ) (l : List Node) (node : ℕ → core.Node) (next : ℕ → Option ℕ) (wait : ℕ → List ℕ) → NodesT z n t l node next wait → n ≤ 64
+    → (i : ℕ) → i < n → (v : Node) (node′ : ℕ → core.Node) (next′ : ℕ → Option ℕ) (wait′ : ℕ → List ℕ) → NodeAt z n t v (node′ i) (next′ i) (wait′ i)
     → ((j : ℕ) → j ≢ i → node′ j ≡ node j) → ((j : ℕ) → j ≢ i → next′ j ≡ next j) → ((j : ℕ) → j ≢ i → wait′ j ≡ wait j)
-    → NodesT n t (set l i v) node′ next′ wait′
-putNodes n t l node next wait r h i hi v node′ next′ wait′ a en ex ew = record { size = length-set l i v ∙ r .size; at = λ j hj. by j hj (ℕ-discrete j i) }
+    → NodesT z n t (set l i v) node′ next′ wait′
+putNodes z n t l node next wait r h i hi v node′ next′ wait′ a en ex ew = record { size = length-set l i v ∙ r .size; at = λ j hj. by j hj (ℕ-discrete j i) }
   where
-    by : (j : ℕ) → j < n → Dec (j ≡ i) → NodeAt n t (getD (set l i v) j zeroNode) (node′ j) (next′ j) (wait′ j)
-    by j hj (yes e) = subst (λ j. NodeAt n t (getD (set l i v) j zeroNode) (node′ j) (next′ j) (wait′ j)) (sym e)
-        (subst (λ x. NodeAt n t x (node′ i) (next′ i) (wait′ i)) (sym (getD-set-same l i v zeroNode (omega (arith, r .size)))) a)
+    by : (j : ℕ) → j < n → Dec (j ≡ i) → NodeAt z n t (getD (set l i v) j zeroNode) (node′ j) (next′ j) (wait′ j)
+    by j hj (yes e) = subst (λ j. NodeAt z n t (getD (set l i v) j zeroNode) (node′ j) (next′ j) (wait′ j)) (sym e)
+        (subst (λ x. NodeAt z n t x (node′ i) (next′ i) (wait′ i)) (sym (getD-set-same l i v zeroNode (omega (arith, r .size)))) a)
     by j hj (no ne) = rw (getD-set-other l i j v zeroNode ne, en j ne, ex j ne, ew j ne) (r .at j hj)
 
 -- ---- the free set
@@ -65,78 +66,80 @@ pub record FreeT (n w : ℕ) (f : ℕ → Bool) : Type 0 where
 
 -- ---- a thread
 
-pub record Regs (n : ℕ) (v : Thread) : Type 0 where
+pub record Regs (z n : ℕ) (v : Thread) : Type 0 where
   pub step : v .step ≤ lastStep
   pub node : Link n (v .node)
   pub tail : Link n (v .tail)
   pub head : Link n (v .head)
   pub next : Link n (v .next)
   pub held : Link n (v .held)
+  pub index : v .index ≤ z
 
-pub record ThreadAt (n : ℕ) (v : Thread) (s : Th) (o : Option ℕ) : Type 0 where
+pub record ThreadAt (z n : ℕ) (v : Thread) (s : Th) (o : Option ℕ) : Type 0 where
   pub stage : s ≡ shownThread v
   pub holds : o ≡ linkOf (v .held)
-  pub regs : Regs n v
+  pub regs : Regs z n v
 
-pub record ThreadsT (n t : ℕ) (l : List Thread) (thr : ℕ → Th) (held : ℕ → Option ℕ) : Type 0 where
+pub record ThreadsT (z n t : ℕ) (l : List Thread) (thr : ℕ → Th) (held : ℕ → Option ℕ) : Type 0 where
   pub size : length l ≡ 8
-  pub at : (k : ℕ) → k < t → ThreadAt n (getD l k zeroThread) (thr k) (held k)
+  pub at : (k : ℕ) → k < t → ThreadAt z n (getD l k zeroThread) (thr k) (held k)
 
-pub putThreads : (n t : ℕ) (l : List Thread) (thr : ℕ → Th) (held : ℕ → Option ℕ) → ThreadsT n t l thr held → t ≤ 8
-    → (k : ℕ) → k < t → (v : Thread) (thr′ : ℕ → Th) (held′ : ℕ → Option ℕ) → ThreadAt n v (thr′ k) (held′ k)
+pub putThreads : (z n t : ℕ) (l : List Thread) (thr : ℕ → Th) (held : ℕ → Option ℕ) → ThreadsT z n t l thr held → t ≤ 8
+    → (k : ℕ) → k < t → (v : Thread) (thr′ : ℕ → Th) (held′ : ℕ → Option ℕ) → ThreadAt z n v (thr′ k) (held′ k)
     → ((j : ℕ) → j ≢ k → thr′ j ≡ thr j) → ((j : ℕ) → j ≢ k → held′ j ≡ held j)
-    → ThreadsT n t (set l k v) thr′ held′
-putThreads n t l thr held r h i hi v thr′ held′ a en ex = record { size = length-set l i v ∙ r .size; at = λ j hj. by j hj (ℕ-discrete j i) }
+    → ThreadsT z n t (set l k v) thr′ held′
+putThreads z n t l thr held r h i hi v thr′ held′ a en ex = record { size = length-set l i v ∙ r .size; at = λ j hj. by j hj (ℕ-discrete j i) }
   where
-    by : (j : ℕ) → j < t → Dec (j ≡ i) → ThreadAt n (getD (set l i v) j zeroThread) (thr′ j) (held′ j)
-    by j hj (yes e) = subst (λ j. ThreadAt n (getD (set l i v) j zeroThread) (thr′ j) (held′ j)) (sym e)
-        (subst (λ x. ThreadAt n x (thr′ i) (held′ i)) (sym (getD-set-same l i v zeroThread (omega (arith, r .size)))) a)
+    by : (j : ℕ) → j < t → Dec (j ≡ i) → ThreadAt z n (getD (set l i v) j zeroThread) (thr′ j) (held′ j)
+    by j hj (yes e) = subst (λ j. ThreadAt z n (getD (set l i v) j zeroThread) (thr′ j) (held′ j)) (sym e)
+        (subst (λ x. ThreadAt z n x (thr′ i) (held′ i)) (sym (getD-set-same l i v zeroThread (omega (arith, r .size)))) a)
     by j hj (no ne) = rw (getD-set-other l i j v zeroThread ne, en j ne, ex j ne) (r .at j hj)
 
 -- ---- the persisted copies: p is what each line holds
 
-pub record KeptT (n : ℕ) (p : Line → Content) (h : List ℕ) (l : List Content) : Type 0 where
+pub record KeptT (z n : ℕ) (p : Line → Content) (h : List ℕ) (l : List Content) : Type 0 where
   pub size : length l ≡ 64
   pub heads : length h ≡ 8
   pub head : p (ofHead 0) ≡ headContent (getD h 0 0)
   pub at : (i : ℕ) → i < n → p (ofNode i) ≡ getD l i noContent
   pub flag : (i : ℕ) → i < n → p (ofNode i) .linked ≤ 1
-  pub narrow-head : p (ofHead 0) .index ≤ top
-  pub narrow : (i : ℕ) → i < n → p (ofNode i) .index ≤ top
+  pub narrow-head : p (ofHead 0) .index ≤ z
+  pub narrow : (i : ℕ) → i < n → p (ofNode i) .index ≤ z
 
-pub putKepts : (n : ℕ) (p : Line → Content) (h : List ℕ) (l : List Content) → KeptT n p h l → n ≤ 64 → (i : ℕ) → i < n → (v : Content) → v .linked ≤ 1 → v .index ≤ top
-    → KeptT n (putLine p (ofNode i) v) h (set l i v)
-putKepts n p h l r hn i hi v fl nr = record {
+pub putKepts : (z n : ℕ) (p : Line → Content) (h : List ℕ) (l : List Content) → KeptT z n p h l → n ≤ 64 → (i : ℕ) → i < n → (v : Content) → v .linked ≤ 1 → v .index ≤ z
+    → KeptT z n (putLine p (ofNode i) v) h (set l i v)
+putKepts z n p h l r hn i hi v fl nr = record {
   size = length-set l i v ∙ r .size;
   heads = r .heads;
   head = lines.put-other p (ofNode i) v (ofHead 0) (λ e. lines.head-not-node 0 i e) ∙ r .head;
   at = λ j hj. by j hj (ℕ-discrete j i);
   flag = λ j hj. lines.put-ind p (ofNode i) v (λ k c. c .linked ≤ 1) (ofNode j) fl (λ ne. r .flag j hj);
-  narrow-head = lines.put-ind p (ofNode i) v (λ k c. c .index ≤ top) (ofHead 0) nr (λ ne. r .narrow-head);
-  narrow = λ j hj. lines.put-ind p (ofNode i) v (λ k c. c .index ≤ top) (ofNode j) nr (λ ne. r .narrow j hj);
+  narrow-head = lines.put-ind p (ofNode i) v (λ k c. c .index ≤ z) (ofHead 0) nr (λ ne. r .narrow-head);
+  narrow = λ j hj. lines.put-ind p (ofNode i) v (λ k c. c .index ≤ z) (ofNode j) nr (λ ne. r .narrow j hj);
 }
   where
     by : (j : ℕ) → j < n → Dec (j ≡ i) → putLine p (ofNode i) v (ofNode j) ≡ getD (set l i v) j noContent
     by j hj (yes e) = lines.put-at p (ofNode i) v (ofNode j) (ap ofNode e) ∙ sym (getD-set-same l i v noContent (omega (arith, r .size))) ∙ ap (λ j. getD (set l i v) j noContent) (sym e)
-    by j hj (no ne) = lines.put-other p (ofNode i) v (ofNode j) (λ z. ne (let w : j ≡ i = cc in w)) ∙ r .at j hj ∙ sym (getD-set-other l i j v noContent ne)
+    by j hj (no ne) = lines.put-other p (ofNode i) v (ofNode j) (λ q. ne (let w : j ≡ i = cc in w)) ∙ r .at j hj ∙ sym (getD-set-other l i j v noContent ne)
 
 -- ---- the whole
 
-pub record Sizes (n t : ℕ) : Type 0 where
+pub record Sizes (f n t : ℕ) : Type 0 where
+  pub form : known f ≡ true
   pub nodes-lo : 2 ≤ n
   pub nodes-hi : n ≤ 64
   pub threads-lo : 1 ≤ t
   pub threads-hi : t ≤ 8
 
 pub record Tied (p : Line → Content) (m : Machine) (c : Core) : Type 0 where
-  pub conf : c .conf ≡ confOf (m .n) (m .t)
-  pub sizes : Sizes (m .n) (m .t)
+  pub conf : c .conf ≡ confOf (m .form) (m .n) (m .t)
+  pub sizes : Sizes (m .form) (m .n) (m .t)
   pub hnode : c .hnode ≡ m .head
   pub hidx : c .hidx ≡ headAt m 0
-  pub narrow : headAt m 0 ≤ top
+  pub narrow : headAt m 0 ≤ topOf (m .form)
   pub heads : length (m .heads) ≡ 8
   pub tail : c .tail ≡ m .tail
-  pub nodes : NodesT (m .n) (m .t) (m .nodes) (c .node) (c .next) (c .wait)
+  pub nodes : NodesT (topOf (m .form)) (m .n) (m .t) (m .nodes) (c .node) (c .next) (c .wait)
   pub free : FreeT (m .n) (m .free) (c .free)
-  pub threads : ThreadsT (m .n) (m .t) (m .threads) (c .thr) (c .held)
-  pub kept : KeptT (m .n) p (m .«kept_heads») (m .kept)
+  pub threads : ThreadsT (topOf (m .form)) (m .n) (m .t) (m .threads) (c .thr) (c .held)
+  pub kept : KeptT (topOf (m .form)) (m .n) p (m .«kept_heads») (m .kept)

@@ -15,6 +15,7 @@ use Rattle.lists.proofs.BoolLaws.{no-way}
 use Rattle.lists.proofs.FindLaws.{any-clear}
 use Rattle.image.specs.declared.Content.{Content}
 use Rattle.tied.specs.Memory as memory
+use Rattle.image.specs.Form.{topOf}
 use Rattle.machine.specs.Record.{node, thread, withWaits}
 use Rattle.machine.specs.Stage as stage
 use Rattle.machine.specs.Stage.{stages, stageOf, lastStep}
@@ -124,7 +125,7 @@ module _ (p : memory.Line → Content) (m : Machine) (c : Core) (d : Tied p m c)
     tail = d .tail;
     threads = d .threads;
     kept = d .kept;
-    nodes = putNodes (m .n) (m .t) (m .nodes) (c .node) (c .next) (c .wait) (d .nodes) (d .sizes .nodes-hi) x hx
+    nodes = putNodes (topOf (m .form)) (m .n) (m .t) (m .nodes) (c .node) (c .next) (c .wait) (d .nodes) (d .sizes .nodes-hi) x hx
         (withWaits (node m x) (retire.others m k)) (c .node) (c .next) (upd (c .wait) x (others (c .conf .threads) k (c .thr)))
         (record {
           content = d .nodes .at x hx .content;

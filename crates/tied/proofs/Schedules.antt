@@ -1,4 +1,4 @@
--- A schedule read from bytes: it begins with an accepted start, and its indices are of 32 bits.
+-- A schedule read from bytes: it begins with an accepted start, and its indices are within their width.
 use mathlib.Core.Path.{_≡_, refl, sym, ap, subst, _∙_}
 use mathlib.Core.Bool.{Bool, true, false, not}
 use mathlib.Core.List.{List}
@@ -12,12 +12,14 @@ use Rattle.lists.proofs.TabLaws.{front-at}
 use Rattle.answer.specs.Answers.{check, accepted}
 use Rattle.answer.specs.declared.Answer.{Answer}
 use Rattle.answer.specs.declared.Answer.the-variants.{Taken, Length, Mark, Nodes, Threads, Events}
-use Rattle.image.specs.Bytes.{at1, at4}
-use Rattle.image.specs.Layout.{contentAt, noContent, noContents, isImage, nodePlace, readContent, readNodes, imageIn, readHeads}
+use Rattle.image.specs.declared.Image.{Image}
+use Rattle.image.specs.Bytes.{at1, atW}
+use Rattle.image.specs.Layout.{contentAt, noContent, noContents, formIn, isImage, nodePlace, readContent, readNodes, imageIn, readHeads}
 use Rattle.image.proofs.HeadLaws.{one-head, heads-at}
 use Rattle.image.proofs.ByteLaws.{at-small}
-use Rattle.image.specs.Refusals.{nodesFit, sound, imageAnswer}
-use Rattle.machine.specs.Record.{top}
+use Rattle.image.proofs.SoundLaws.{Fitting, is-fitting, sound-then}
+use Rattle.image.specs.Refusals.{nodesFit, sound, fitting, whole, imageAnswer}
+use Rattle.image.specs.Form.{widthOf, topOf, headsAt}
 use Rattle.machine.specs.Start.{threadsFit, startAnswer}
 use Rattle.machine.specs.Range.{inRange}
 use Rattle.machine.specs.declared.Event.{Event}
@@ -34,41 +36,55 @@ Bytes s = (i : ℕ) → getD s i 0 < 256
 check-no : (b : Bool) (w rest : Answer) → b ≡ false → accepted rest ≡ true → accepted (check b w rest) ≡ true
 check-no b w rest e a = rw e a
 
-narrow4 : (s : List ℕ) → Bytes s → (i : ℕ) → at4 s i ≤ top
-narrow4 s b i = omega (arith, at-small 4 s i b)
+pub whole-of : (g : Image) → accepted (sound g Taken) ≡ true → Fitting g → accepted (whole g Taken) ≡ true
+unfolding whole
+whole-of g s f = ap accepted (sound-then g (fitting g Taken) s ∙ is-fitting g Taken f)
+
+-- what is read as an index is at most the largest of its width
+narrow-at : (f : ℕ) (s : List ℕ) → Bytes s → (i : ℕ) → atW (widthOf f) s i ≤ topOf f
+unfolding topOf
+narrow-at f s b i = omega (arith, at-small (widthOf f) s i b)
 
 pub narrow-image : (s : List ℕ) → Bytes s → Narrow (imageIn s)
 unfolding imageIn readHeads readNodes
-narrow-image s b = record {
-  head = subst (λ x. x ≤ top) (sym (heads-at (at1 s 5) (λ k. at4 s (6 + k * 4)) 0 (omega (arith, one-head (at1 s 5))))) (narrow4 s b 6);
-  at = λ i h. subst (λ c. c .index ≤ top) (sym (front-at (λ i. readContent s (nodePlace i)) (at1 s 5) noContents i noContent h)) (narrow4 s b (nodePlace i + 1));
-}
+narrow-image s b =
+    let f = formIn s in
+    record {
+      head = subst (λ x. x ≤ topOf f) (sym (heads-at (at1 s 5) (λ k. atW (widthOf f) s (headsAt f + k * widthOf f)) 0 (omega (arith, one-head (at1 s 5))))) (narrow-at f s b (headsAt f + 0 * widthOf f));
+      at = λ i h. subst (λ c. c .index ≤ topOf f) (sym (front-at (λ i. readContent f s (nodePlace f i)) (at1 s 5) noContents i noContent h)) (narrow-at f s b (nodePlace f i + 1));
+    }
 
-pub image-starts : (s : List ℕ) (more t : ℕ) → accepted (imageAnswer more s) ≡ true → threadsFit t ≡ true → accepted (startAnswer (imageIn s) t) ≡ true
+pub image-starts : (s : List ℕ) (more t : ℕ) → Bytes s → accepted (imageAnswer more s) ≡ true → threadsFit t ≡ true → accepted (startAnswer (imageIn s) t) ≡ true
 unfolding imageAnswer startAnswer imageIn
-image-starts s more t a h =
+image-starts s more t b a h =
     let x = pass (ltb (length s) 10) Length _ refl a in
     let y = pass (not (isImage s)) Mark _ refl (x .1) in
     let z = pass (not (nodesFit (at1 s 5))) Nodes _ refl (y .1) in
-    let w = pass (not (eqb (length s) (nodePlace (at1 s 5) + more))) Length _ refl (z .1) in
-    check-no (not (threadsFit t)) Threads _ (ap not h) (check-no (not (nodesFit (at1 s 5))) Nodes _ (z .0) (w .1))
+    let w = pass (not (eqb (length s) (nodePlace (formIn s) (at1 s 5) + more))) Length _ refl (z .1) in
+    let n = narrow-image s b in
+    check-no (not (threadsFit t)) Threads _ (ap not h)
+    (check-no (not (isImage s)) Mark _ (y .0) (check-no (not (nodesFit (at1 s 5))) Nodes _ (z .0) (whole-of (imageIn s) (w .1) (record { head = n .head; at = n .at }))))
 
-pub schedule-starts : (s : List ℕ) → accepted (scheduleAnswer s) ≡ true → accepted (startAnswer (scheduleIn s .image) (scheduleIn s .t)) ≡ true
+-- the bytes of a schedule's image are bytes
+image-bytes : (s : List ℕ) → Bytes s → Bytes (imagePart s)
+image-bytes s b i = subst (λ x. x < 256) (sym (getD-drop 8 s i 0)) (b (8 + i))
+
+pub schedule-starts : (s : List ℕ) → Bytes s → accepted (scheduleAnswer s) ≡ true → accepted (startAnswer (scheduleIn s .image) (scheduleIn s .t)) ≡ true
 unfolding scheduleAnswer scheduleIn
-schedule-starts s a =
+schedule-starts s b a =
     let x = pass (ltb (length s) 8) Length _ refl a in
     let y = pass (not (isSchedule s)) Mark _ refl (x .1) in
     let z = pass (not (threadsFit (threadsIn s))) Threads _ refl (y .1) in
     let w = pass (ltb 4096 (countIn s)) Events _ refl (z .1) in
-    image-starts (imagePart s) (countIn s * 6) (threadsIn s) (w .1) (not-false _ (z .0))
+    image-starts (imagePart s) (countIn s * 6) (threadsIn s) (image-bytes s b) (w .1) (not-false _ (z .0))
 
 pub schedule-narrow : (s : List ℕ) → Bytes s → Narrow (scheduleIn s .image)
 unfolding scheduleIn
-schedule-narrow s b = narrow-image (imagePart s) (λ i. subst (λ x. x < 256) (sym (getD-drop 8 s i 0)) (b (8 + i)))
+schedule-narrow s b = narrow-image (imagePart s) (image-bytes s b)
 
 -- no record of a schedule's run is refused by 18, nor any of its start with other events
 pub events-in-range : (s : List ℕ) → Bytes s → accepted (scheduleAnswer s) ≡ true → (q : ℕ) (l : List Event) → inRange (run q (opened (scheduleIn s)) l .bench .machine) ≡ true
-events-in-range s b a q l = run-in-range (scheduleIn s .image) (scheduleIn s .t) (schedule-starts s a) (schedule-narrow s b) q l
+events-in-range s b a q l = run-in-range (scheduleIn s .image) (scheduleIn s .t) (schedule-starts s b a) (schedule-narrow s b) q l
 
 pub ran-in-range : (s : List ℕ) → Bytes s → accepted (scheduleAnswer s) ≡ true → inRange (ran s .bench .machine) ≡ true
 unfolding ran

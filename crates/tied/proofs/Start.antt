@@ -19,7 +19,8 @@ use Rattle.image.specs.declared.Image.{Image}
 use Rattle.image.specs.Layout.{contentAt, noContent, noContents, headIn, headsOf}
 use Rattle.image.proofs.HeadLaws.{one-head, heads-at, heads-length, head-one}
 use Rattle.image.specs.Recovered.{headOf, recoveredAt, dummyOf}
-use Rattle.machine.specs.Record.{top, zeroNode, zeroThread, blankNodes, idleThread, idleThreads, contentOf}
+use Rattle.image.specs.Form.{topOf}
+use Rattle.machine.specs.Record.{zeroNode, zeroThread, blankNodes, idleThread, idleThreads, contentOf}
 use Rattle.machine.specs.Line.{headContent}
 use Rattle.machine.specs.declared.Line.{Line}
 use Rattle.machine.specs.declared.Line.the-variants.{OfHead as ofHead, OfNode as ofNode}
@@ -81,7 +82,7 @@ imageLine g (ofNode i) = contentAt (g .nodes) i
 
 module _ (g : Image) (t : ℕ) (G : recovery.Image) (r : ImageT g t G) where
   node-at : (d : ℕ) → Under (g .n) (queueOf g) → (i : ℕ) → i < g .n
-      → NodeAt (g .n) t (startNode g d (queueOf g) i) (upd (G .at) d (core.withIndex (G .at d) (recovery.headOf G)) i) (linkUp d (queueOf g) i) []
+      → NodeAt (topOf (g .form)) (g .n) t (startNode g d (queueOf g) i) (upd (G .at) d (core.withIndex (G .at d) (recovery.headOf G)) i) (linkUp d (queueOf g) i) []
   node-at d u i h = record {
     content = by (ℕ-discrete i d);
     link = link-up (g .n) d (queueOf g) i (r .sizes .nodes-hi) u;
@@ -99,8 +100,8 @@ module _ (g : Image) (t : ℕ) (G : recovery.Image) (r : ImageT g t G) where
       by (no ne) = upd-other (G .at) d _ ne ∙ r .at i h
           ∙ ap (λ b. shownContent (record { linked = contentAt (g .nodes) i .linked; index = pick b (headOf g) (contentAt (g .nodes) i .index); item = contentAt (g .nodes) i .item })) (sym (eq-no i d ne))
 
-      low : (b : Bool) → pick b (headOf g) (contentAt (g .nodes) i .index) ≤ top
-      low true = subst (λ x. x ≤ top) (sym (head-one g)) (r .narrow-head)
+      low : (b : Bool) → pick b (headOf g) (contentAt (g .nodes) i .index) ≤ topOf (g .form)
+      low true = subst (λ x. x ≤ topOf (g .form)) (sym (head-one g)) (r .narrow-head)
       low false = r .narrow i h
 
   spare-is : (d i : ℕ) → i < g .n
@@ -124,12 +125,12 @@ module _ (g : Image) (t : ℕ) (G : recovery.Image) (r : ImageT g t G) where
         sizes = r .sizes;
         hnode = refl;
         hidx = head-is g t G r ∙ head-one g ∙ sym first;
-        narrow = subst (λ x. x ≤ top) (sym first) (r .narrow-head);
+        narrow = subst (λ x. x ≤ topOf (g .form)) (sym first) (r .narrow-head);
         heads = heads-length (g .n) (headIn g);
         tail = last-is d (queueOf g);
         nodes = record {
           size = front-size (startNode g d (queueOf g)) (g .n) (replicate 64 _) (r .sizes .nodes-hi);
-          at = λ i h. subst (λ v. NodeAt (g .n) t v (upd (G .at) d (core.withIndex (G .at d) (recovery.headOf G)) i) (linkUp d (queueOf g) i) [])
+          at = λ i h. subst (λ v. NodeAt (topOf (g .form)) (g .n) t v (upd (G .at) d (core.withIndex (G .at d) (recovery.headOf G)) i) (linkUp d (queueOf g) i) [])
               (sym (front-at (startNode g d (queueOf g)) (g .n) (replicate 64 _) i zeroNode h)) (node-at d u i h);
         };
         free = record { bits = λ i h. spare-is d i h; fits = word-fits (spare g d) (g .n) };
@@ -138,7 +139,7 @@ module _ (g : Image) (t : ℕ) (G : recovery.Image) (r : ImageT g t G) where
           at = λ k h. rw (getD-replicate 8 k (idleThread 255) zeroThread (omega (arith, r .sizes .threads-hi))) (record {
             stage = refl;
             holds = refl;
-            regs = record { step = omega arith; node = inr refl; tail = inr refl; head = inr refl; next = inr refl; held = inr refl };
+            regs = record { step = omega arith; node = inr refl; tail = inr refl; head = inr refl; next = inr refl; held = inr refl; index = omega arith };
           });
         };
         kept = record {

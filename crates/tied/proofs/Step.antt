@@ -52,12 +52,12 @@ module _ (p : memory.Line → Content) (m : Machine) (c : Core) (d : Tied p m c)
   enqueuesT v = moveT p m c d k hk (record { step = 1; node = 255; tail = 255; head = 255; index = 0; next = 255; item = v; held = thread m k .held }) (a1 v) (record {
     stage = refl;
     holds = d .threads .at k hk .holds;
-    regs = record { step = omega arith; node = inr refl; tail = inr refl; head = inr refl; next = inr refl; held = d .threads .at k hk .regs .held };
+    regs = record { step = omega arith; node = inr refl; tail = inr refl; head = inr refl; next = inr refl; held = d .threads .at k hk .regs .held; index = omega arith };
   })
 
   pub dequeuesT : Tied p (begun m k 13 0) (setTh c k d1)
   dequeuesT = moveT p m c d k hk (record { step = 13; node = 255; tail = 255; head = 255; index = 0; next = 255; item = 0; held = thread m k .held }) d1 (record {
     stage = refl;
     holds = d .threads .at k hk .holds;
-    regs = record { step = omega arith; node = inr refl; tail = inr refl; head = inr refl; next = inr refl; held = d .threads .at k hk .regs .held };
+    regs = record { step = omega arith; node = inr refl; tail = inr refl; head = inr refl; next = inr refl; held = d .threads .at k hk .regs .held; index = omega arith };
   })

@@ -10,6 +10,7 @@ use Rattle.lists.proofs.BoolLaws.{no-way}
 use Rattle.answer.specs.declared.Answer.{Answer}
 use Rattle.image.specs.declared.Content.{Content}
 use Rattle.tied.specs.Memory as memory
+use Rattle.image.specs.Form.{topOf}
 use Rattle.machine.specs.Record.{thread, atStep}
 use Rattle.machine.specs.Line.{putLine, cachedAt}
 use Rattle.machine.specs.Stage.{Stage, lastStep, stage}
@@ -93,15 +94,15 @@ module _ (p : memory.Line → Content) (m : Machine) (c : Core) (d : Tied p m c)
   pub mode-is : c .conf .mode ≡ atOnce
   mode-is = ap (λ z. z .mode) (d .conf)
 
-  pub regs-of : Regs (m .n) (thread m k)
+  pub regs-of : Regs (topOf (m .form)) (m .n) (thread m k)
   regs-of = d .threads .at k hk .regs
 
   -- the thread goes on to step s with what it has read
-  pub goes-on : (s : ℕ) (S : Th) → s ≤ lastStep → S ≡ shownThread (atStep (thread m k) s) → ThreadAt (m .n) (atStep (thread m k) s) S (c .held k)
+  pub goes-on : (s : ℕ) (S : Th) → s ≤ lastStep → S ≡ shownThread (atStep (thread m k) s) → ThreadAt (topOf (m .form)) (m .n) (atStep (thread m k) s) S (c .held k)
   goes-on s S h e = record {
     stage = e;
     holds = d .threads .at k hk .holds;
-    regs = record { step = h; node = regs-of .node; tail = regs-of .tail; head = regs-of .head; next = regs-of .next; held = regs-of .held };
+    regs = record { step = h; node = regs-of .node; tail = regs-of .tail; head = regs-of .head; next = regs-of .next; held = regs-of .held; index = regs-of .index };
   }
 
   -- the thread answers and holds what it held

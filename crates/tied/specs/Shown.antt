@@ -10,7 +10,7 @@ use Rattle.answer.specs.declared.Answer.the-variants.{Taken, Done, Full, WornOu
 use Rattle.image.specs.declared.Content.{Content}
 use Rattle.image.specs.declared.Image.{Image}
 use Rattle.image.specs.Layout.{contentAt, headIn}
-use Rattle.machine.specs.Record.{top}
+use Rattle.image.specs.Form.{topOf}
 use Rattle.tied.specs.Memory as memory
 use Rattle.machine.specs.Stage.{Stage, noStep, A1, A2, A3, A4, A5, A6, A7, A8, A9, A10, A11, A12, D1, D2, D3, D4, D5, D6, D7, stageOf}
 use Rattle.machine.specs.declared.Thread.{Thread}
@@ -77,9 +77,9 @@ threadOf D7 v = d7 (v .head) (v .item)
 abbrev pub shownThread : Thread → Th
 shownThread v = threadOf (stageOf (v .step)) v
 
--- N nodes, T threads, indices of 32 bits, one line for Head, the lowest-numbered free node first, a line persisted in one step
-abbrev pub confOf : ℕ → ℕ → Conf
-confOf n t = record { nodes = n; threads = t; top = top; engine = shared; chooser = lowestFirst; mode = atOnce }
+-- N nodes, T threads, indices of the form's width, one line for Head, the lowest-numbered free node first, a line persisted in one step
+abbrev pub confOf : ℕ → ℕ → ℕ → Conf
+confOf f n t = record { nodes = n; threads = t; top = topOf f; engine = shared; chooser = lowestFirst; mode = atOnce }
 
 -- a line
 abbrev pub lineShown : memory.Line → Line
@@ -89,7 +89,7 @@ lineShown (memory.ofNode i) = ofNode i
 -- an image: nothing is there beyond its N nodes
 unfoldable pub imageShown : Image → ℕ → recovery.Image
 imageShown g t = record {
-  conf = confOf (g .n) t;
+  conf = confOf (g .form) (g .n) t;
   heads = headIn g;
   at = λ i. sel (ltb i (g .n)) (shownContent (contentAt (g .nodes) i)) core.zeroNode;
 }
@@ -115,7 +115,7 @@ answerOf core.worn = WornOut
 answerOf core.empty = Empty
 answerOf (core.item v) = Item v
 
--- every index of an image is one of 32 bits, as those of the code's type are
+-- every index of an image is within its form's width, as acceptance says
 pub record Narrow (g : Image) : Type 0 where
-  pub head : headIn g 0 ≤ top
-  pub at : (i : ℕ) → i < g .n → contentAt (g .nodes) i .index ≤ top
+  pub head : headIn g 0 ≤ topOf (g .form)
+  pub at : (i : ℕ) → i < g .n → contentAt (g .nodes) i .index ≤ topOf (g .form)

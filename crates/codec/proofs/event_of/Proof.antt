@@ -1,10 +1,10 @@
 use Rattle.codec.proofs.Accepted as laws
 use Rattle.codec.proofs.Asked as asked
 use Rattle.codec.specs.Parts.{eventOf}
-use Rattle.schedule.specs.Layout.{scheduleIn, scheduleAnswer, countIn, nodesIn}
+use Rattle.schedule.specs.Layout.{scheduleIn, scheduleAnswer, countIn, imagePart, nodesIn}
 use Rattle.schedule.specs.declared.Opened.{Opened}
 use Rattle.schedule.specs.declared.Schedule.{Schedule}
-use Rattle.image.specs.Layout.{imageIn}
+use Rattle.image.specs.Layout.{formIn, imageIn}
 use Rattle.answer.specs.Answers.{told, accepted}
 use Rattle.answer.specs.declared.Answer.{Answer}
 use borrow.Author.Tests.{lt-ltb, le-ltb, not-true, not-false}
@@ -64,7 +64,9 @@ event-at-requires c κs =
     let es = ap (λ (r : Opened). r .schedule) e ∙ laws.opened-schedule s h in
     let ec : c .before .before .before .before .before .before .before .open-schedule .result .schedule .count ≡ countIn s = ap (λ (d : Schedule). d .count) es in
     let en : c .before .before .before .before .before .before .before .open-schedule .result .schedule .image .n ≡ nodesIn s = ap (λ (d : Schedule). d .image .n) es in
-    rw (en) (laws.event-fits s (c .before .before .before .before .before .before .before .before .before .args .i) h (omega (arith, ec, c .before .before .if2 .left)))
+    let ef : c .before .before .before .before .before .before .before .open-schedule .result .schedule .image .form ≡ formIn (imagePart s) = ap (λ (d : Schedule). d .image .form) es in
+    let l = laws.schedule-lies s h in
+    rw (en, ef) (l .0, (l .1 .0, laws.event-fits s (c .before .before .before .before .before .before .before .before .before .args .i) h (omega (arith, ec, c .before .before .if2 .left))))
 
 returns-3 : tie.Need-returns-3
 unfolding eventOf scheduleIn imageIn
@@ -77,9 +79,10 @@ returns-3 c =
     let es = ap (λ (r : Opened). r .schedule) e ∙ laws.opened-schedule s h in
     let ec : c .before .before .before .before .before .before .before .before .open-schedule .result .schedule .count ≡ countIn s = ap (λ (d : Schedule). d .count) es in
     let en : c .before .before .before .before .before .before .before .before .open-schedule .result .schedule .image .n ≡ nodesIn s = ap (λ (d : Schedule). d .image .n) es in
+    let ef : c .before .before .before .before .before .before .before .before .open-schedule .result .schedule .image .form ≡ formIn (imagePart s) = ap (λ (d : Schedule). d .image .form) es in
     let i = c .before .before .before .before .before .before .before .before .before .before .args .i in (
       ap (λ (x : Answer). told x) (sym (asked.asked-taken s i h (omega (arith, ec, c .before .before .before .if2 .left)))),
-      rw (h, ← ec, lt-ltb _ _ (c .before .before .before .if2 .left), ← en) (c .event-at .ensures),
+      rw (h, ← ec, lt-ltb _ _ (c .before .before .before .if2 .left), ← en, ← ef) (c .event-at .ensures),
     )
 
 pub event-of-spec : {M : Type 1} → statement M

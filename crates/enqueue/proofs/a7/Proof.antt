@@ -1,4 +1,6 @@
-use borrow.Author.Tests.{eq-eqb, ne-eqb}
+use native.Mathlib.Omega.{arith}
+use borrow.Author.Tests.{le-leb, lt-leb}
+use Rattle.image.proofs.FormLaws.{top-small}
 use borrow.Author.Needs.{needs}
 use Rattle.enqueue.proofs.a7.Statement.{statement}
 use Rattle.enqueue.proofs.a7.Tie as tie
@@ -21,6 +23,9 @@ mul-v c = search needs
 element-copy-out-v : tie.Need-element-copy-out-v
 element-copy-out-v c = search needs
 
+top-of-requires : tie.Need-top-of-requires
+top-of-requires c κs = search needs
+
 cast-with-bit : tie.Need-cast-with-bit
 cast-with-bit c = search needs
 
@@ -31,10 +36,10 @@ leave-requires : tie.Need-leave-requires
 leave-requires c κs = search needs
 
 returns : tie.Need-returns
-returns c = rw (c .leave .ensures, c .before .with-bit .ensures, eq-eqb _ _ (c .before .before .if1 .taken))
+returns c = rw (c .leave .ensures, c .before .with-bit .ensures, ← c .before .before .before .before .top-of .ensures, le-leb _ _ (c .before .before .if1 .taken))
 
 add-r : tie.Need-add-r
-add-r c = search needs
+add-r c = omega (arith, c .before .before .before .top-of .ensures, c .before .if1 .left, top-small (c .before .before .before .before .before .before .before .before .args .m .form))
 
 mul-r : tie.Need-mul-r
 mul-r c = search needs
@@ -49,7 +54,7 @@ way-write-given-r-2 : tie.Need-way-write-given-r-2
 way-write-given-r-2 c = search needs
 
 returns-2 : tie.Need-returns-2
-returns-2 c = simp (ne-eqb _ _ (c .before .before .before .if1 .left))
+returns-2 c = rw (← c .before .before .before .before .before .top-of .ensures, lt-leb _ _ (c .before .before .before .if1 .left))
 
 pub a7-spec : {M : Type 1} → statement M
 a7-spec =
@@ -61,6 +66,7 @@ a7-spec =
     cast-t
     mul-v
     element-copy-out-v
+    top-of-requires
     cast-with-bit
     with-bit-requires
     leave-requires

@@ -15,7 +15,7 @@ event-at-requires c κs =
     let z = c .before .before in
     let r = z .pre .0 in
     let lt : z .args .g .place < countIn (z .args .s .now) = omega (arith, r .count, z .pre .1) in
-    omega (arith, r .nodes, codec.event-fits (z .args .s .now) (z .args .g .place) (r .schedule) lt)
+    rw (r .form, r .nodes) (let l = codec.schedule-lies (z .args .s .now) (r .schedule) in (l .0, (l .1 .0, codec.event-fits (z .args .s .now) (z .args .g .place) (r .schedule) lt)))
 
 cast-act : tie.Need-cast-act
 cast-act c =
@@ -36,7 +36,7 @@ returns c =
     let z = c .before .before .before .before .before .before in
     let e = c .before .before .before .event-at in
     let o = c .before .act in
-    laws.forward-is (z .args .s .now) (z .args .g) (z .pre .0 .nodes) (e .result) (o .result) (e .ensures) (o .ensures)
+    laws.forward-is (z .args .s .now) (z .args .g) (z .pre .0 .nodes) (z .pre .0 .form) (e .result) (o .result) (e .ensures) (o .ensures)
 
 pub forward-spec : {M : Type 1} → statement M
 forward-spec =

@@ -7,13 +7,13 @@ use denote.Enum.Declared.{tagOf}
 use Rattle.answer.proofs.Answer.{the-type}
 use Rattle.answer.specs.Answers.{accepted}
 use Rattle.answer.specs.declared.Answer.{Answer}
-use Rattle.answer.specs.declared.Answer.the-variants.{Taken, Done, Full, WornOut, Item, Empty, Length, Mark, Nodes, Threads, Events, Linked, Twin, NoDummy, Kind, Number, Busy, Idle, NotZero, Contents, Endings, NoEnding, Room, Record}
+use Rattle.answer.specs.declared.Answer.the-variants.{Taken, Done, Full, WornOut, Item, Empty, Length, Mark, Nodes, Threads, Events, Linked, Twin, NoDummy, Kind, Number, Busy, Idle, NotZero, Contents, Endings, NoEnding, Room, Record, Clean, Narrow}
 use borrow.Author.Needs.{needs}
 use Rattle.answer.proofs.taken.is_taken.Statement.{statement}
 use Rattle.answer.proofs.taken.is_taken.Tie as tie
 
 abbrev keys : List ℕ
-keys = 6 ∷ 7 ∷ 8 ∷ 9 ∷ 10 ∷ 11 ∷ 12 ∷ 13 ∷ 14 ∷ 15 ∷ 16 ∷ 17 ∷ 18 ∷ 19 ∷ 20 ∷ 21 ∷ 22 ∷ 23 ∷ []
+keys = 6 ∷ 7 ∷ 8 ∷ 9 ∷ 10 ∷ 11 ∷ 12 ∷ 13 ∷ 14 ∷ 15 ∷ 16 ∷ 17 ∷ 18 ∷ 19 ∷ 20 ∷ 21 ∷ 22 ∷ 23 ∷ 24 ∷ 25 ∷ []
 
 -- an answer that is none of the six in front is a refusal
 refused : (a : Answer) → OneOf keys (tagOf the-type a) → false ≡ accepted a
@@ -41,6 +41,8 @@ refused Endings h = refl
 refused NoEnding h = refl
 refused Room h = refl
 refused Record h = refl
+refused (Clean p) h = refl
+refused (Narrow p) h = refl
 
 enum-told : tie.Need-enum-told
 enum-told c = search needs

@@ -147,6 +147,18 @@ enum-told-15 c = search needs
 refused-requires-18 : tie.Need-refused-requires-18
 refused-requires-18 c κs = search needs
 
+enum-known-a-10 : tie.Need-enum-known-a-10
+enum-known-a-10 c = search needs
+
+refused-requires-19 : tie.Need-refused-requires-19
+refused-requires-19 c κs = search needs
+
+enum-known-a-11 : tie.Need-enum-known-a-11
+enum-known-a-11 c = search needs
+
+refused-requires-20 : tie.Need-refused-requires-20
+refused-requires-20 c κs = search needs
+
 returns : tie.Need-returns
 returns c = rw (c .taken .ensures, c .before .enum-told .given .1)
 
@@ -219,6 +231,12 @@ returns-23 c = rw (c .refused17 .ensures, c .before .enum-told14 .given .1)
 returns-24 : tie.Need-returns-24
 returns-24 c = rw (c .refused18 .ensures, c .before .enum-told15 .given .1)
 
+returns-25 : tie.Need-returns-25
+returns-25 c = rw (c .refused19 .ensures, c .before .before .a10 .given .1)
+
+returns-26 : tie.Need-returns-26
+returns-26 c = rw (c .refused20 .ensures, c .before .before .a11 .given .1)
+
 pub told-of-spec : {M : Type 1} → statement M
 told-of-spec =
     tie.close
@@ -271,6 +289,10 @@ told-of-spec =
     refused-requires-17
     enum-told-15
     refused-requires-18
+    enum-known-a-10
+    refused-requires-19
+    enum-known-a-11
+    refused-requires-20
     returns
     returns-2
     returns-3
@@ -294,4 +316,6 @@ told-of-spec =
     returns-21
     returns-22
     returns-23
-    returns-24)
+    returns-24
+    returns-25
+    returns-26)

@@ -1,55 +1,49 @@
-use mathlib.Core.Path.{_≡_, refl, ap, _∙_}
-use Rattle.codec.proofs.Laws as image
-use Rattle.image.specs.Layout.{bodyBytes}
-use Rattle.lists.specs.Tab.{over, joined}
-use Prim.Native.Nat.{_≤_, _-_}
-use lib.ListN.{length}
-use Rattle.lists.proofs.TabLaws as laws
+use mathlib.Core.Path.{_≡_, refl, sym, ap, _∙_}
 use native.Mathlib.Omega.{arith}
+use Prim.Native.Nat.{ℕ, _+_, _-_, _≤_, _<_}
+use Rattle.image.proofs.FormLaws as forms
+use Rattle.codec.proofs.Laws as laws
+use lib.ListN.{length}
+use Rattle.lists.specs.Tab.{over, joined}
+use Rattle.lists.proofs.TabLaws as tabs
+use Rattle.image.specs.Form.{headerSize}
+use Rattle.image.specs.Layout.{bodyBytes}
 use Rattle.codec.proofs.nodes.put_nodes.Statement.{statement}
 use Rattle.codec.proofs.nodes.put_nodes.Tie as tie
 
 abbrev Inv-loop : tie.InvT-loop
-Inv-loop b₀ n nodes i₀ b i = (i ≤ n) × (b ≡ over b₀ 10 (bodyBytes nodes i))
+Inv-loop b₀ form n nodes i₀ b i = (i ≤ n) × (b ≡ over b₀ (headerSize form) (bodyBytes form nodes i))
 
 abbrev μ-loop : tie.MeasureT-loop
-μ-loop b₀ n nodes i₀ b i = n - i
+μ-loop b₀ form n nodes i₀ b i = n - i
 
 loop-holds : tie.Need-loop-holds Inv-loop μ-loop
 unfolding over bodyBytes joined
 loop-holds c = (omega arith, refl)
 
 mul-v : tie.Need-mul-v Inv-loop μ-loop
-mul-v c = omega arith
+mul-v c = omega (arith, c .before .before .before .pre .1 .0)
 
 array-copy-out-v : tie.Need-array-copy-out-v Inv-loop μ-loop
-array-copy-out-v c = omega arith
+array-copy-out-v c = omega (arith, c .before .before .before .pre .1 .0)
 
-mul-put-content : tie.Need-mul-put-content Inv-loop μ-loop
-mul-put-content c = omega arith
-
-add-put-content : tie.Need-add-put-content Inv-loop μ-loop
-add-put-content c = omega arith
+place-of-requires : tie.Need-place-of-requires Inv-loop μ-loop
+place-of-requires c κs = (c .before .before .before .before .pre .0, omega (arith, c .before .before .before .before .pre .1 .0))
 
 put-content-requires : tie.Need-put-content-requires Inv-loop μ-loop
-put-content-requires c κs =
-    let p = c .before .before .before .loop in
-    omega (arith, ap length (p .inv .1), laws.length-over (c .before .before .before .before .before .args .b .now) 10 (bodyBytes (c .before .before .before .before .before .args .t2) (p .i)))
+put-content-requires c κs = let p = c .before .before .before .before .loop in let q = c .before .before .before .before .before .before .pre in let a = c .before .before .before .before .before .before .args in (q .0, omega (arith, c .before .place-of .ensures, forms.place-within (a .form) (p .i) (a .n) (omega arith), q .1 .1, ap length (p .inv .1), tabs.length-over (a .b .now) (headerSize (a .form)) (bodyBytes (a .form) (a .t3) (p .i))))
 
 add-i : tie.Need-add-i Inv-loop μ-loop
-add-i c = omega arith
+add-i c = omega (arith, c .before .before .before .before .before .before .before .before .before .pre .1 .0)
 
 loop-less : tie.Need-loop-less Inv-loop μ-loop
 loop-less c = omega arith
 
 loop-again : tie.Need-loop-again Inv-loop μ-loop
-loop-again c =
-    let p = c .before .before .before .before .before .before .loop in
-    let a = c .before .before .before .before .before .before .before .before .args in
-    (omega arith, rw (c .before .before .put-content .ensures, p .inv .1) (image.body-over (a .b .now) (a .t2) (p .i)))
+loop-again c = let p = c .before .before .before .before .before .before .before .loop in let a = c .before .before .before .before .before .before .before .before .before .args in (omega arith, rw (c .before .before .put-content .ensures, c .before .before .before .before .place-of .ensures, p .inv .1) (laws.body-over (a .b .now) (a .form) (a .t3) (p .i) (c .before .before .before .before .before .before .before .before .before .pre .0)))
 
 same-length : tie.Need-same-length Inv-loop μ-loop
-same-length c = ap length (c .before .loop .inv .1) ∙ laws.length-over (c .before .before .before .args .b .now) 10 (bodyBytes (c .before .before .before .args .t2) (c .before .loop .i))
+same-length c = let a = c .before .before .before .args in ap length (c .before .loop .inv .1) ∙ tabs.length-over (a .b .now) (headerSize (a .form)) (bodyBytes (a .form) (a .t3) (c .before .loop .i))
 
 returns : tie.Need-returns Inv-loop μ-loop
 returns c = let e : c .before .loop .i ≡ c .before .before .before .args .n = omega arith in rw (← e) (c .before .loop .inv .1)
@@ -63,8 +57,7 @@ put-nodes-spec =
     loop-holds
     mul-v
     array-copy-out-v
-    mul-put-content
-    add-put-content
+    place-of-requires
     put-content-requires
     add-i
     loop-less

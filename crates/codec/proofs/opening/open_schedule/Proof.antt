@@ -69,9 +69,8 @@ image-in-requires c κs =
     let s = b .before .before .before .args .s .now in
     let h : accepted (scheduleAnswer s) ≡ true =
     rw (← b .before .check-schedule .ensures) (sym (b .is-taken .ensures) ∙ not-false (b .is-taken .result) (c .before .before .before .if1 .left)) in
-    let t = laws.schedule-taken s h .part in
     let e = take-all (length s - 8) (drop 8 s) (omega (arith, length-drop 8 s)) in
-    rw e (laws.nodes-most _ (t .nodes), omega (arith, t .size))
+    rw e (laws.schedule-lies s h)
 
 returns-2 : tie.Need-returns-2
 unfolding readSchedule scheduleIn

@@ -1,3 +1,10 @@
+use mathlib.Core.Bool.{true}
+use mathlib.Core.Path.{_≡_, refl, sym, ap, _∙_}
+use native.Mathlib.Omega.{arith}
+use Rattle.image.proofs.FormLaws as forms
+use Rattle.image.specs.Layout.{formIn, isImage, nodePlace}
+use Rattle.image.specs.Bytes.{at1}
+use Rattle.image.specs.Form.{known}
 use Rattle.image.specs.Refusals.{imageAnswer}
 use borrow.Author.Tests.{eq-eqb, ne-eqb, lt-ltb, le-ltb, le-leb, lt-leb, not-true, not-false}
 use borrow.Author.Needs.{needs}
@@ -8,91 +15,61 @@ returns : tie.Need-returns
 unfolding imageAnswer
 returns c = rw (lt-ltb _ _ (c .if1 .taken))
 
-is-marked-requires : tie.Need-is-marked-requires
-is-marked-requires c κs = search needs
+form-in-requires : tie.Need-form-in-requires
+form-in-requires c κs = search needs
+
+is-known-requires : tie.Need-is-known-requires
+is-known-requires c κs = search needs
 
 returns-2 : tie.Need-returns-2
 unfolding imageAnswer
-returns-2 c =
-    let m = c .before .is-marked in
-    rw (le-ltb _ _ (c .before .before .if1 .left), ← m .ensures, not-true (m .result) (c .if2 .taken))
+returns-2 c = rw (le-ltb _ _ (c .before .before .before .if1 .left), ← c .before .before .form-in .ensures, ← c .before .is-known .ensures, not-true (c .before .is-known .result) (c .if2 .taken))
 
 shared-slice-read-n : tie.Need-shared-slice-read-n
 shared-slice-read-n c = search needs
 
 returns-3 : tie.Need-returns-3
 unfolding imageAnswer
-returns-3 c =
-    let p = c .before .before in
-    let m = p .before .is-marked in
-    rw (le-ltb _ _ (p .before .before .if1 .left), ← m .ensures, not-false (m .result) (p .if2 .left), lt-leb _ _ (c .if3 .taken))
+returns-3 c = rw (le-ltb _ _ (c .before .before .before .before .before .if1 .left), ← c .before .before .before .before .form-in .ensures, ← c .before .before .before .is-known .ensures, not-false (c .before .before .before .is-known .result) (c .before .before .if2 .left), lt-leb _ _ (c .if3 .taken))
 
 returns-4 : tie.Need-returns-4
 unfolding imageAnswer
-returns-4 c =
-    let p = c .before .before .before in
-    let m = p .before .is-marked in
-    rw (le-ltb _ _ (p .before .before .if1 .left), ← m .ensures, not-false (m .result) (p .if2 .left), le-leb _ _ (c .before .if3 .left), lt-leb _ _ (c .if4 .taken))
+returns-4 c = rw (le-ltb _ _ (c .before .before .before .before .before .before .if1 .left), ← c .before .before .before .before .before .form-in .ensures, ← c .before .before .before .before .is-known .ensures, not-false (c .before .before .before .before .is-known .result) (c .before .before .before .if2 .left), le-leb _ _ (c .before .if3 .left), lt-leb _ _ (c .if4 .taken))
 
 cast-k : tie.Need-cast-k
 cast-k c = search needs
 
-mul-if5 : tie.Need-mul-if5
-mul-if5 c = search needs
+place-of-requires : tie.Need-place-of-requires
+place-of-requires c κs = (sym (c .before .before .before .before .is-known .ensures) ∙ not-false (c .before .before .before .before .is-known .result) (c .before .before .before .if2 .left), omega (arith, c .if4 .left))
 
 add-if5 : tie.Need-add-if5
-add-if5 c = search needs
-
-add-if5-2 : tie.Need-add-if5-2
-add-if5-2 c = search needs
+add-if5 c = let k = sym (c .before .before .before .before .before .is-known .ensures) ∙ not-false (c .before .before .before .before .before .is-known .result) (c .before .before .before .before .if2 .left) in omega (arith, c .place-of .ensures, forms.place-most _ _ k (c .before .if4 .left) .1, c .before .before .before .before .before .before .before .before .before .pre)
 
 returns-5 : tie.Need-returns-5
 unfolding imageAnswer
-returns-5 c =
-    let p = c .before .before .before .before in
-    let m = p .before .is-marked in
-    rw (
-      le-ltb _ _ (p .before .before .if1 .left),
-      ← m .ensures,
-      not-false (m .result) (p .if2 .left),
-      le-leb _ _ (c .before .before .if3 .left),
-      le-leb _ _ (c .before .if4 .left),
-      ne-eqb _ _ (c .if5 .taken),
-    )
+returns-5 c = rw (le-ltb _ _ (c .before .before .before .before .before .before .before .before .if1 .left), ← c .before .before .before .before .before .before .before .form-in .ensures, ← c .before .before .before .before .before .before .is-known .ensures, not-false (c .before .before .before .before .before .before .is-known .result) (c .before .before .before .before .before .if2 .left), le-leb _ _ (c .before .before .before .if3 .left), le-leb _ _ (c .before .before .if4 .left), ← c .before .place-of .ensures, ne-eqb _ _ (c .if5 .taken))
 
 sound-at-requires : tie.Need-sound-at-requires
-sound-at-requires c κs = search needs
+sound-at-requires c κs = let s = c .before .before .before .before .before .before .before .before .before .before .args .s .now in let k : isImage s ≡ true = ap known (sym (c .before .before .before .before .before .before .before .form-in .ensures)) ∙ sym (c .before .before .before .before .before .before .is-known .ensures) ∙ not-false (c .before .before .before .before .before .before .is-known .result) (c .before .before .before .before .before .if2 .left) in let e : c .before .place-of .result ≡ nodePlace (formIn s) (at1 s 5) = c .before .place-of .ensures ∙ ap (λ f. nodePlace f (at1 s 5)) (c .before .before .before .before .before .before .before .form-in .ensures) in (refl, (k, (c .before .before .if4 .left, omega (arith, e, c .if5 .left))))
 
 returns-6 : tie.Need-returns-6
 unfolding imageAnswer
-returns-6 c =
-    let q = c .before in
-    let p = q .before .before .before .before in
-    let m = p .before .is-marked in
-    rw (
-      le-ltb _ _ (p .before .before .if1 .left),
-      ← m .ensures,
-      not-false (m .result) (p .if2 .left),
-      le-leb _ _ (q .before .before .if3 .left),
-      le-leb _ _ (q .before .if4 .left),
-      eq-eqb _ _ (q .if5 .left),
-    )
-    (c .sound-at .ensures)
+returns-6 c = rw (le-ltb _ _ (c .before .before .before .before .before .before .before .before .before .if1 .left), ← c .before .before .before .before .before .before .before .before .form-in .ensures, ← c .before .before .before .before .before .before .before .is-known .ensures, not-false (c .before .before .before .before .before .before .before .is-known .result) (c .before .before .before .before .before .before .if2 .left), le-leb _ _ (c .before .before .before .before .if3 .left), le-leb _ _ (c .before .before .before .if4 .left), ← c .before .before .place-of .ensures, eq-eqb _ _ (c .before .if5 .left)) (c .sound-at .ensures)
 
 pub check-part-spec : {M : Type 1} → statement M
 check-part-spec =
     tie.close
     (tie.spec
     returns
-    is-marked-requires
+    form-in-requires
+    is-known-requires
     returns-2
     shared-slice-read-n
     returns-3
     returns-4
     cast-k
-    mul-if5
+    place-of-requires
     add-if5
-    add-if5-2
     returns-5
     sound-at-requires
     returns-6)

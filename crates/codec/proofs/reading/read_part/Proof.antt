@@ -32,7 +32,7 @@ image-in-requires c κs =
     let h : accepted (imageAnswer (a .more) (a .s .now)) ≡ true =
     rw (← b .before .check-part .ensures) (sym (b .is-taken .ensures) ∙ not-false (b .is-taken .result) (c .if1 .left)) in
     let t = laws.part-taken (a .more) (a .s .now) h in
-    (laws.nodes-most _ (t .nodes), omega (arith, t .size))
+    (t .mark, (laws.nodes-most _ (t .nodes), omega (arith, t .size)))
 
 returns-2 : tie.Need-returns-2
 unfolding readPart

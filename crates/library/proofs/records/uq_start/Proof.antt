@@ -4,6 +4,7 @@ use Rattle.answer.proofs.Injective.{told-injective}
 use Rattle.library.specs.Packed.{packed, replyOf}
 use Rattle.library.proofs.Laws as laws
 use lib.ListN.{length}
+use native.Mathlib.Omega.{arith}
 use Rattle.answer.specs.declared.Answer.the-variants.{Threads}
 use Rattle.image.specs.Refusals.{readImage}
 use Rattle.machine.specs.Start.{startFrom}
@@ -72,7 +73,7 @@ returns-3 c =
     let a = told-injective (o .result .answer) (readImage s .answer) (o .ensures .0) ∙ laws.image-answer s in
     let h = ap accepted (sym a) ∙ (sym (c .before .before .before .before .before .before .before .before .before .is-taken .ensures) ∙ laws.taken-of (c .before .before .before .before .before .before .before .before .before .is-taken .result) (c .before .before .before .before .before .before .before .before .if2 .left)) in
     let g = o .ensures .1 ∙ laws.image-read s h in
-    let m = c .before .before .before .before .before .before .start-from .ensures .1 ∙ (ap (λ g. startFrom g k .machine) g ∙ laws.start-machine s k f h) in
+    let m = c .before .before .before .before .before .before .start-from .ensures .1 ∙ (ap (λ g. startFrom g k .machine) g ∙ laws.start-machine s k f (λ j. omega (arith, c .before .before .before .before .before .before .before .before .before .before .before .before .before .before .shared-slice-known .given j)) h) in
     let n = c .before .before .before .write-record in
     let w = told-injective (n .result) (recordAnswer (length b)) (n .ensures .0) ∙ sym (laws.start-room s k f (length b) h) in
     (laws.packed-is (n .result) (startAnswered s k (length b)) 0 (c .packed-of3 .result) (c .packed-of3 .ensures) w, n .ensures .1 ∙ (ap (λ m. recordWritten m b) m ∙ sym (laws.start-written s k f b h)))

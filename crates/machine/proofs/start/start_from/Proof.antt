@@ -3,8 +3,9 @@ use Rattle.machine.specs.Laid.{refusedStart}
 use mathlib.Core.Bool.{true, false}
 use borrow.Author.Tests.{not-true, not-false}
 use Rattle.answer.specs.Answers.{told}
-use Rattle.answer.specs.declared.Answer.the-variants.{Taken, Nodes, Threads}
-use Rattle.image.specs.Refusals.{nodesFit, sound}
+use Rattle.answer.specs.declared.Answer.the-variants.{Taken, Mark, Nodes, Threads}
+use Rattle.image.specs.Form.{known}
+use Rattle.image.specs.Refusals.{nodesFit, whole}
 use Rattle.machine.specs.Start.{threadsFit}
 use Rattle.machine.specs.declared.Out.{Out}
 use Rattle.machine.proofs.AnswerLaws as answers
@@ -25,8 +26,8 @@ returns c =
     let e = c .refused .ensures ∙ sym (answers.start-refused (s .g) (s .t) Threads (answers.answer-threads (s .g) (s .t) no) refl) in
     (ap (λ (o : Out). told (o .answer)) e, ap (λ (o : Out). o .machine) e)
 
-nodes-fit-requires : tie.Need-nodes-fit-requires
-nodes-fit-requires c κs = search needs
+is-known-requires : tie.Need-is-known-requires
+is-known-requires c κs = search needs
 
 refused-requires-2 : tie.Need-refused-requires-2
 refused-requires-2 c κs = search needs
@@ -36,14 +37,31 @@ returns-2 c =
     let p = c .before .before .before in
     let s = p .before .before .args in
     let yes : threadsFit (s .t) ≡ true = sym (p .before .threads-fit .ensures) ∙ not-false _ (p .if1 .left) in
-    let no : nodesFit (s .g .n) ≡ false = sym (c .before .before .nodes-fit .ensures) ∙ not-true _ (c .before .if2 .taken) in
-    let e = c .refused2 .ensures ∙ sym (answers.start-refused (s .g) (s .t) Nodes (answers.answer-nodes (s .g) (s .t) yes no) refl) in
+    let no : known (s .g .form) ≡ false = sym (c .before .before .is-known .ensures) ∙ not-true _ (c .before .if2 .taken) in
+    let e = c .refused2 .ensures ∙ sym (answers.start-refused (s .g) (s .t) Mark (answers.answer-form (s .g) (s .t) yes no) refl) in
     (ap (λ (o : Out). told (o .answer)) e, ap (λ (o : Out). o .machine) e)
 
-sound-of-requires : tie.Need-sound-of-requires
-sound-of-requires c κs =
-    let s = c .before .before .before .before .args in
-    answers.nodes-range (s .g .n) (sym (c .before .nodes-fit .ensures) ∙ not-false _ (c .if2 .left)) .1
+nodes-fit-requires : tie.Need-nodes-fit-requires
+nodes-fit-requires c κs = search needs
+
+refused-requires-3 : tie.Need-refused-requires-3
+refused-requires-3 c κs = search needs
+
+returns-3 : tie.Need-returns-3
+returns-3 c =
+    let q = c .before .before .before in
+    let p = q .before .before in
+    let s = p .before .before .args in
+    let yes : threadsFit (s .t) ≡ true = sym (p .before .threads-fit .ensures) ∙ not-false _ (p .if1 .left) in
+    let form : known (s .g .form) ≡ true = sym (q .before .is-known .ensures) ∙ not-false _ (q .if2 .left) in
+    let no : nodesFit (s .g .n) ≡ false = sym (c .before .before .nodes-fit .ensures) ∙ not-true _ (c .before .if3 .taken) in
+    let e = c .refused3 .ensures ∙ sym (answers.start-refused (s .g) (s .t) Nodes (answers.answer-nodes (s .g) (s .t) yes form no) refl) in
+    (ap (λ (o : Out). told (o .answer)) e, ap (λ (o : Out). o .machine) e)
+
+whole-of-requires : tie.Need-whole-of-requires
+whole-of-requires c κs =
+    let s = c .before .before .before .before .before .before .args in
+    answers.nodes-range (s .g .n) (sym (c .before .nodes-fit .ensures) ∙ not-false _ (c .if3 .left)) .1
 
 enum-told : tie.Need-enum-told
 enum-told c = search needs
@@ -51,35 +69,39 @@ enum-told c = search needs
 start-requires : tie.Need-start-requires
 start-requires c κs =
     let p = c .before .before .before in
-    let s = p .before .before .before .before .args in
-    answers.nodes-range (s .g .n) (sym (p .before .nodes-fit .ensures) ∙ not-false _ (p .if2 .left)) .1
-
-returns-3 : tie.Need-returns-3
-returns-3 c =
-    let m = c .before .before .before in
-    let p = m .before in
-    let q = p .before .before in
-    let s = q .before .before .args in
-    let yes : threadsFit (s .t) ≡ true = sym (q .before .threads-fit .ensures) ∙ not-false _ (q .if1 .left) in
-    let fit : nodesFit (s .g .n) ≡ true = sym (p .before .nodes-fit .ensures) ∙ not-false _ (p .if2 .left) in
-    let taken : sound (s .g) Taken ≡ Taken = sym (m .sound-of .ensures) ∙ c .before .enum-told .given .1 in
-    let e = answers.start-taken (s .g) (s .t) (answers.answer-sound (s .g) (s .t) yes fit ∙ taken) in
-    (sym (ap (λ (o : Out). told (o .answer)) e), c .start .ensures ∙ sym (ap (λ (o : Out). o .machine) e))
-
-refused-requires-3 : tie.Need-refused-requires-3
-refused-requires-3 c κs = search needs
+    let s = p .before .before .before .before .before .before .args in
+    answers.nodes-range (s .g .n) (sym (p .before .nodes-fit .ensures) ∙ not-false _ (p .if3 .left)) .1
 
 returns-4 : tie.Need-returns-4
 returns-4 c =
-    let m = c .before .before in
+    let m = c .before .before .before in
     let p = m .before in
-    let q = p .before .before in
+    let k = p .before .before in
+    let q = k .before .before in
     let s = q .before .before .args in
     let yes : threadsFit (s .t) ≡ true = sym (q .before .threads-fit .ensures) ∙ not-false _ (q .if1 .left) in
-    let fit : nodesFit (s .g .n) ≡ true = sym (p .before .nodes-fit .ensures) ∙ not-false _ (p .if2 .left) in
-    let no : sound (s .g) Taken ≡ Taken → ⊥ = λ e. answers.not-taken (m .sound-of .result) (c .before .match .keys2) (m .sound-of .ensures ∙ e) in
-    let r : c .refused3 .result ≡ refusedStart (sound (s .g) Taken) = c .refused3 .ensures ∙ ap refusedStart (m .sound-of .ensures) in
-    let e = r ∙ sym (answers.start-refused (s .g) (s .t) (sound (s .g) Taken) (answers.answer-sound (s .g) (s .t) yes fit) (answers.sound-refused (s .g) no)) in
+    let form : known (s .g .form) ≡ true = sym (k .before .is-known .ensures) ∙ not-false _ (k .if2 .left) in
+    let fit : nodesFit (s .g .n) ≡ true = sym (p .before .nodes-fit .ensures) ∙ not-false _ (p .if3 .left) in
+    let taken : whole (s .g) Taken ≡ Taken = sym (m .whole-of .ensures) ∙ c .before .enum-told .given .1 in
+    let e = answers.start-taken (s .g) (s .t) (answers.answer-whole (s .g) (s .t) yes form fit ∙ taken) in
+    (sym (ap (λ (o : Out). told (o .answer)) e), c .start .ensures ∙ sym (ap (λ (o : Out). o .machine) e))
+
+refused-requires-4 : tie.Need-refused-requires-4
+refused-requires-4 c κs = search needs
+
+returns-5 : tie.Need-returns-5
+returns-5 c =
+    let m = c .before .before in
+    let p = m .before in
+    let k = p .before .before in
+    let q = k .before .before in
+    let s = q .before .before .args in
+    let yes : threadsFit (s .t) ≡ true = sym (q .before .threads-fit .ensures) ∙ not-false _ (q .if1 .left) in
+    let form : known (s .g .form) ≡ true = sym (k .before .is-known .ensures) ∙ not-false _ (k .if2 .left) in
+    let fit : nodesFit (s .g .n) ≡ true = sym (p .before .nodes-fit .ensures) ∙ not-false _ (p .if3 .left) in
+    let no : whole (s .g) Taken ≡ Taken → ⊥ = λ e. answers.not-taken (m .whole-of .result) (c .before .match .keys2) (m .whole-of .ensures ∙ e) in
+    let r : c .refused4 .result ≡ refusedStart (whole (s .g) Taken) = c .refused4 .ensures ∙ ap refusedStart (m .whole-of .ensures) in
+    let e = r ∙ sym (answers.start-refused (s .g) (s .t) (whole (s .g) Taken) (answers.answer-whole (s .g) (s .t) yes form fit) (answers.whole-refused (s .g) no)) in
     (ap (λ (o : Out). told (o .answer)) e, ap (λ (o : Out). o .machine) e)
 
 pub start-from-spec : {M : Type 1} → statement M
@@ -89,12 +111,15 @@ start-from-spec =
     threads-fit-requires
     refused-requires
     returns
-    nodes-fit-requires
+    is-known-requires
     refused-requires-2
     returns-2
-    sound-of-requires
+    nodes-fit-requires
+    refused-requires-3
+    returns-3
+    whole-of-requires
     enum-told
     start-requires
-    returns-3
-    refused-requires-3
-    returns-4)
+    returns-4
+    refused-requires-4
+    returns-5)

@@ -70,19 +70,20 @@ returns-2 c =
 cast-if3 : tie.Need-cast-if3
 cast-if3 c = search needs
 
-mul-if3 : tie.Need-mul-if3
-mul-if3 c = search needs
-
-add-if3 : tie.Need-add-if3
-add-if3 c = search needs
+place-of-requires : tie.Need-place-of-requires
+place-of-requires c κs =
+    let z = c .before .before .before .before .before .before .before .before .before .before in
+    let p = c .before .before .before .before .before .before .before .page-of in
+    let f = sym (c .before .before .before .before .before .before .is-taken .ensures) ∙ going.taken-of (c .before .before .before .before .before .before .is-taken .result) (c .before .before .before .before .before .if1 .left) in
+    (laws.page-form (z .args .s .now) (p .result) (p .ensures) f, laws.page-small (z .args .s .now) (p .result) (p .ensures) f)
 
 returns-3 : tie.Need-returns-3
 returns-3 c =
-    let z = c .before .before .before .before .before .before .before .before .before .before .before in
-    let p = c .before .before .before .before .before .before .before .before .page-of in
-    let f = sym (c .before .before .before .before .before .before .before .is-taken .ensures) ∙ going.taken-of (c .before .before .before .before .before .before .before .is-taken .result) (c .before .before .before .before .before .before .if1 .left) in
-    let n : c .before .before .ending-count .result ≡ endingCount (z .args .s .now) = c .before .before .ending-count .ensures ∙ rw (c .before .before .before .counts-of .ensures) (laws.page-count (z .args .s .now) (p .result) (p .ensures) f) in
-    let e = laws.ending-room (z .args .s .now) (p .result) (p .ensures) f (z .args .k) (length (z .args .b .now)) (omega (arith, n)) (omega arith) in
+    let z = c .before .before .before .before .before .before .before .before .before .before .before .before in
+    let p = c .before .before .before .before .before .before .before .before .before .page-of in
+    let f = sym (c .before .before .before .before .before .before .before .before .is-taken .ensures) ∙ going.taken-of (c .before .before .before .before .before .before .before .before .is-taken .result) (c .before .before .before .before .before .before .before .if1 .left) in
+    let n : c .before .before .before .ending-count .result ≡ endingCount (z .args .s .now) = c .before .before .before .ending-count .ensures ∙ rw (c .before .before .before .before .counts-of .ensures) (laws.page-count (z .args .s .now) (p .result) (p .ensures) f) in
+    let e = laws.ending-room (z .args .s .now) (p .result) (p .ensures) f (z .args .k) (length (z .args .b .now)) (omega (arith, n)) (omega (arith, c .if3 .taken, c .before .place-of .ensures)) in
     (ap told e, laws.same-bytes (z .args .s .now) (z .args .k) (z .args .b .now) (ap accepted (sym e)))
 
 cast-ending-picks : tie.Need-cast-ending-picks
@@ -90,43 +91,49 @@ cast-ending-picks c = search needs
 
 ending-picks-requires : tie.Need-ending-picks-requires
 ending-picks-requires c κs =
-    let z = c .before .before .before .before .before .before .before .before .before .before .before in
-    let p = c .before .before .before .before .before .before .before .before .page-of in
-    let f = sym (c .before .before .before .before .before .before .before .is-taken .ensures) ∙ going.taken-of (c .before .before .before .before .before .before .before .is-taken .result) (c .before .before .before .before .before .before .if1 .left) in
-    (laws.page-small (z .args .s .now) (p .result) (p .ensures) f, rw (c .before .before .before .counts-of .ensures) (laws.page-ready (z .args .s .now) (p .result) (p .ensures) f .0))
+    let z = c .before .before .before .before .before .before .before .before .before .before .before .before in
+    let p = c .before .before .before .before .before .before .before .before .before .page-of in
+    let f = sym (c .before .before .before .before .before .before .before .before .is-taken .ensures) ∙ going.taken-of (c .before .before .before .before .before .before .before .before .is-taken .result) (c .before .before .before .before .before .before .before .if1 .left) in
+    (laws.page-small (z .args .s .now) (p .result) (p .ensures) f, rw (c .before .before .before .before .counts-of .ensures) (laws.page-ready (z .args .s .now) (p .result) (p .ensures) f .0))
 
 table-of-requires : tie.Need-table-of-requires
 table-of-requires c κs = search needs
 
 ending-image-requires : tie.Need-ending-image-requires
 ending-image-requires c κs =
-    let z = c .before .before .before .before .before .before .before .before .before .before .before .before .before in
-    let p = c .before .before .before .before .before .before .before .before .before .before .page-of in
-    let f = sym (c .before .before .before .before .before .before .before .before .before .is-taken .ensures) ∙ going.taken-of (c .before .before .before .before .before .before .before .before .before .is-taken .result) (c .before .before .before .before .before .before .before .before .if1 .left) in
-    (laws.page-small (z .args .s .now) (p .result) (p .ensures) f, rw (c .before .ending-picks .ensures, c .before .before .before .before .before .counts-of .ensures) (laws.page-filled (z .args .s .now) (p .result) (p .ensures) f (z .args .k)))
+    let z = c .before .before .before .before .before .before .before .before .before .before .before .before .before .before in
+    let p = c .before .before .before .before .before .before .before .before .before .before .before .page-of in
+    let f = sym (c .before .before .before .before .before .before .before .before .before .before .is-taken .ensures) ∙ going.taken-of (c .before .before .before .before .before .before .before .before .before .before .is-taken .result) (c .before .before .before .before .before .before .before .before .before .if1 .left) in
+    (laws.page-small (z .args .s .now) (p .result) (p .ensures) f, rw (c .before .ending-picks .ensures, c .before .before .before .before .before .before .counts-of .ensures) (laws.page-filled (z .args .s .now) (p .result) (p .ensures) f (z .args .k)))
+
+in-form-requires : tie.Need-in-form-requires
+in-form-requires c κs = search needs
 
 put-image-requires : tie.Need-put-image-requires
 put-image-requires c κs =
-    let z = c .before .before .before .before .before .before .before .before .before .before .before .before .before .before .before in
-    let p = c .before .before .before .before .before .before .before .before .before .before .before .before .page-of in
-    let f = sym (c .before .before .before .before .before .before .before .before .before .before .before .is-taken .ensures) ∙ going.taken-of (c .before .before .before .before .before .before .before .before .before .before .before .is-taken .result) (c .before .before .before .before .before .before .before .before .before .before .if1 .left) in
-    let i = c .before .ending-image in
-    let e : i .result .n ≡ p .result .machine .n = ap (λ (x : Image). x .n) (i .ensures) ∙ laws.picked-nodes _ _ _ in
-    (omega (arith, e, laws.page-small (z .args .s .now) (p .result) (p .ensures) f), omega (arith, e, c .before .before .before .before .if3 .left))
+    let z = c .before .before .before .before .before .before .before .before .before .before .before .before .before .before .before .before .before in
+    let p = c .before .before .before .before .before .before .before .before .before .before .before .before .before .before .page-of in
+    let f = sym (c .before .before .before .before .before .before .before .before .before .before .before .before .before .is-taken .ensures) ∙ going.taken-of (c .before .before .before .before .before .before .before .before .before .before .before .before .before .is-taken .result) (c .before .before .before .before .before .before .before .before .before .before .before .before .if1 .left) in
+    let i = c .before .before .ending-image in
+    let g = c .before .in-form in
+    let e : g .result .n ≡ p .result .machine .n = ap (λ (x : Image). x .n) (g .ensures) ∙ ap (λ (x : Image). x .n) (i .ensures) ∙ laws.picked-nodes _ _ _ in
+    let h : g .result .form ≡ p .result .machine .form = ap (λ (x : Image). x .form) (g .ensures) in
+    let l = c .before .before .before .before .before .if3 .left in
+    rw (e, h) (laws.page-form (z .args .s .now) (p .result) (p .ensures) f, (laws.page-small (z .args .s .now) (p .result) (p .ensures) f, omega (arith, l, c .before .before .before .before .before .before .place-of .ensures)))
 
 same-length : tie.Need-same-length
 same-length c = search needs
 
 returns-4 : tie.Need-returns-4
 returns-4 c =
-    let z = c .before .before .before .before .before .before .before .before .before .before .before .before .before .before .before .before .before .before in
-    let p = c .before .before .before .before .before .before .before .before .before .before .before .before .before .before .before .page-of in
-    let f = sym (c .before .before .before .before .before .before .before .before .before .before .before .before .before .before .is-taken .ensures) ∙ going.taken-of (c .before .before .before .before .before .before .before .before .before .before .before .before .before .before .is-taken .result) (c .before .before .before .before .before .before .before .before .before .before .before .before .before .if1 .left) in
-    let n : c .before .before .before .before .before .before .before .before .before .ending-count .result ≡ endingCount (z .args .s .now) = c .before .before .before .before .before .before .before .before .before .ending-count .ensures ∙ rw (c .before .before .before .before .before .before .before .before .before .before .counts-of .ensures) (laws.page-count (z .args .s .now) (p .result) (p .ensures) f) in
-    let lt : z .args .k < endingCount (z .args .s .now) = omega (arith, n, c .before .before .before .before .before .before .before .before .if2 .left) in
-    let e = laws.ending-taken (z .args .s .now) (p .result) (p .ensures) f (z .args .k) (length (z .args .b .now)) lt (omega (arith, c .before .before .before .before .before .before .before .if3 .left)) in
-    let i = c .before .before .before .before .ending-image in
-    let g : i .result ≡ endingIn (z .args .s .now) (z .args .k) = i .ensures ∙ rw (c .before .before .before .before .before .table-of .ensures, c .before .before .before .before .before .before .ending-picks .ensures, c .before .before .before .before .before .before .before .before .before .before .counts-of .ensures) (laws.page-ending (z .args .s .now) (p .result) (p .ensures) f (z .args .k) lt) in
+    let z = c .before .before .before .before .before .before .before .before .before .before .before .before .before .before .before .before .before .before .before .before in
+    let p = c .before .before .before .before .before .before .before .before .before .before .before .before .before .before .before .before .before .page-of in
+    let f = sym (c .before .before .before .before .before .before .before .before .before .before .before .before .before .before .before .before .is-taken .ensures) ∙ going.taken-of (c .before .before .before .before .before .before .before .before .before .before .before .before .before .before .before .before .is-taken .result) (c .before .before .before .before .before .before .before .before .before .before .before .before .before .before .before .if1 .left) in
+    let n : c .before .before .before .before .before .before .before .before .before .before .before .ending-count .result ≡ endingCount (z .args .s .now) = c .before .before .before .before .before .before .before .before .before .before .before .ending-count .ensures ∙ rw (c .before .before .before .before .before .before .before .before .before .before .before .before .counts-of .ensures) (laws.page-count (z .args .s .now) (p .result) (p .ensures) f) in
+    let lt : z .args .k < endingCount (z .args .s .now) = omega (arith, n, c .before .before .before .before .before .before .before .before .before .before .if2 .left) in
+    let e = laws.ending-taken (z .args .s .now) (p .result) (p .ensures) f (z .args .k) (length (z .args .b .now)) lt (omega (arith, c .before .before .before .before .before .before .before .before .if3 .left, c .before .before .before .before .before .before .before .before .before .place-of .ensures)) in
+    let i = c .before .before .before .before .before .ending-image in
+    let g : c .before .before .before .before .in-form .result ≡ endingIn (z .args .s .now) (z .args .k) = c .before .before .before .before .in-form .ensures ∙ rw (i .ensures, c .before .before .before .before .before .before .table-of .ensures, c .before .before .before .before .before .before .before .ending-picks .ensures, c .before .before .before .before .before .before .before .before .before .before .before .before .counts-of .ensures) (laws.page-ending (z .args .s .now) (p .result) (p .ensures) f (z .args .k) lt) in
     (ap told e, c .before .before .put-image .ensures ∙ ap (λ (x : Image). over (z .args .b .now) 0 (imageBytes x)) g ∙ laws.ending-bytes (z .args .s .now) (z .args .k) (z .args .b .now) (ap accepted (sym e)))
 
 pub ending-of-spec : {M : Type 1} → statement M
@@ -143,13 +150,13 @@ ending-of-spec =
     cast-if2
     returns-2
     cast-if3
-    mul-if3
-    add-if3
+    place-of-requires
     returns-3
     cast-ending-picks
     ending-picks-requires
     table-of-requires
     ending-image-requires
+    in-form-requires
     put-image-requires
     same-length
     returns-4)

@@ -30,7 +30,7 @@ returns-2 : tie.Need-returns-2
 returns-2 c =
     let a = c .before .before .before .before .before .before .args in
     let w = c .before .before .write-ending in
-    let h : length (endingLine (a .k) (a .g)) ≤ 721 = omega (arith, w .ensures .0 .0, w .ensures .0 .1) in
+    let h : length (endingLine (a .k) (a .g)) ≤ 731 = omega (arith, w .ensures .0 .0, w .ensures .0 .1) in
     let p = laws.put-all (a .b .now) (a .at) (length (a .b .now) - a .at) (endingLine (a .k) (a .g)) (omega arith) (w .ensures .0 .0, w .ensures .1) in
     (p .0, (p .1, h))
 

@@ -29,7 +29,7 @@ Inv-loop b₀ at counts n from to t count picks₀ k₀ p₀ b picks k p =
     (from ≤ k) × (k ≤ to) × (p ≤ length b₀) × (p ≡ at + length (linesOn (lineFrom t counts n) from (k - from)))
     × (b ≡ over b₀ at (linesOn (lineFrom t counts n) from (k - from)))
     × (from + fitting (lineFrom t counts n) from (to - from) (length b₀ - at) ≡ k + fitting (lineFrom t counts n) k (to - k) (length b₀ - p))
-    × (picks ≡ picksOf counts n k) × (from < k → length (lineFrom t counts n from) ≤ 721)
+    × (picks ≡ picksOf counts n k) × (from < k → length (lineFrom t counts n from) ≤ 731)
 
 abbrev μ-loop : tie.MeasureT-loop
 μ-loop b₀ at counts n from to t count picks₀ k₀ p₀ b picks k p = to - k
@@ -136,8 +136,8 @@ returns c =
     let m = written.same-room (a .b .now) (a .at) (linesOn (lineFrom (a .t3) (a .counts) (a .n)) (a .from) (p .k - a .from)) (p .inv .4) in
     let e = picked.picked-line (a .t3) (a .counts) (a .n) (p .k) (p .picks) (i .nodes) (i .i) (omega arith) (i .inv .1) (p .inv .6) (c .before .before .before .before .before .no-heads .result) (c .before .before .before .before .before .no-heads .ensures) in
     let l = laws.put-left (p .b) (p .p) (length (p .b) - p .p) _ (w .ensures .0, w .ensures .1 .0) (c .if1 .taken) (picked.line-some (p .k) _) in
-    let h : length (f (p .k)) ≤ 721 = omega (arith, w .ensures .1 .1, ap length e) in
-    (omega (arith, p .inv .5, laws.fit-full f (p .k) (a .to) (length (a .b .now) - p .p) (omega arith) (omega (arith, l .0, m, ap length e))), (p .inv .3, (l .1 ∙ p .inv .4, λ q. picked.first-known (λ j. length (f j) ≤ 721) (a .from) (p .k) (p .inv .7) (omega arith) h (omega arith))))
+    let h : length (f (p .k)) ≤ 731 = omega (arith, w .ensures .1 .1, ap length e) in
+    (omega (arith, p .inv .5, laws.fit-full f (p .k) (a .to) (length (a .b .now) - p .p) (omega arith) (omega (arith, l .0, m, ap length e))), (p .inv .3, (l .1 ∙ p .inv .4, λ q. picked.first-known (λ j. length (f j) ≤ 731) (a .from) (p .k) (p .inv .7) (omega arith) h (omega arith))))
 
 turned-requires : tie.Need-turned-requires Inv-loop2 μ-loop2 Inv-loop μ-loop
 turned-requires c κs = (c .before .before .before .before .before .before .before .before .before .before .before .before .before .before .pre .0, c .before .before .before .before .before .before .before .before .before .before .before .before .before .before .pre .1 .0)
@@ -170,7 +170,7 @@ loop-again c =
       s .1,
       p .inv .5 ∙ laws.fit-next f (p .k) (a .to) (length (a .b .now) - p .p) (omega arith) h ∙ ap (λ x. p .k + 1 + fitting f (p .k + 1) (a .to - (p .k + 1)) x) r,
       c .turned .ensures ∙ ap (turnedOf (a .counts) (lineCount (a .n))) (p .inv .6) ∙ turns.turn-picks (a .counts) (a .n) (p .k) (z .pre .1 .0),
-      picked.first-known (λ j. length (f j) ≤ 721) (a .from) (p .k) (p .inv .7) (omega arith) (omega (arith, w .ensures .1 .1, ap length e)),
+      picked.first-known (λ j. length (f j) ≤ 731) (a .from) (p .k) (p .inv .7) (omega arith) (omega (arith, w .ensures .1 .1, ap length e)),
     )
 
 same-length-2 : tie.Need-same-length-2 Inv-loop2 μ-loop2 Inv-loop μ-loop

@@ -2,7 +2,7 @@ use native.Mathlib.Omega.{arith}
 use Prim.Native.Nat.{ℕ, _+_, _≤_}
 use mathlib.Core.Path.{sym, subst}
 use lib.ListN.{length, getD}
-use mir.Syntax.{w32}
+use mir.Syntax.{w32, w64}
 use mir.Val.{Fits}
 use Rattle.image.proofs.HeadLaws.{head-largest}
 use Rattle.printing.proofs.Short as short
@@ -18,15 +18,12 @@ largest-of-requires c κs = search needs
 items-of-requires : tie.Need-items-of-requires
 items-of-requires c κs = search needs
 
-cast-put-line : tie.Need-cast-put-line
-cast-put-line c = search needs
-
 put-line-requires : tie.Need-put-line-requires
 put-line-requires c κs =
     let b = c .before .before .before in
     let s = b .before .before .before in
     let i = c .before .before .items-of in
-    let h : Fits w32 (b .largest-of .result) = search needs in
+    let h : Fits w64 (b .largest-of .result) = search needs in
     let v : (j : ℕ) → Fits w32 (getD (i .result .items) j 0) = λ j. search needs in
     let m = short.image-short 64 (s .args .k) (s .args .g) (omega arith) (omega arith) (omega (arith, h, b .largest-of .ensures, head-largest (s .args .g))) (short.listed-small _ (i .result) (i .ensures) (λ j. omega (arith, v j))) (omega arith) in (
       laws.few-items (s .args .g) (i .result) (s .pre .0) (i .ensures),
@@ -42,7 +39,7 @@ returns c =
     let a = b .before .before .before .args in
     let i = c .before .before .before .before .before .items-of in
     let e = c .before .before .put-line in
-    let h : Fits w32 (b .largest-of .result) = search needs in
+    let h : Fits w64 (b .largest-of .result) = search needs in
     let v : (j : ℕ) → Fits w32 (getD (i .result .items) j 0) = λ j. search needs in
     let m = short.image-short 64 (a .k) (a .g) (omega arith) (omega arith) (omega (arith, h, b .largest-of .ensures, head-largest (a .g))) (short.listed-small _ (i .result) (i .ensures) (λ j. omega (arith, v j))) (omega arith) in
     let w = subst (λ t. written.Put (a .b .now) (a .at) t (e .last .0) (e .result)) (laws.ending-line (a .k) (a .g) (b .largest-of .result) (i .result) (b .largest-of .ensures) (i .ensures)) (e .ensures) in
@@ -50,4 +47,4 @@ returns c =
 
 pub write-ending-spec : {M : Type 1} → statement M
 write-ending-spec =
-    tie.close (tie.spec largest-of-requires items-of-requires cast-put-line put-line-requires same-length returns)
+    tie.close (tie.spec largest-of-requires items-of-requires put-line-requires same-length returns)

@@ -5,11 +5,11 @@ use Rattle.record.proofs.reading.node_at.Tie as tie
 word-at-requires : tie.Need-word-at-requires
 word-at-requires c κs = search needs
 
-add-word-at : tie.Need-add-word-at
-add-word-at c = search needs
+add-long-at : tie.Need-add-long-at
+add-long-at c = search needs
 
-word-at-requires-2 : tie.Need-word-at-requires-2
-word-at-requires-2 c κs = search needs
+long-at-requires : tie.Need-long-at-requires
+long-at-requires c κs = search needs
 
 add-t5 : tie.Need-add-t5
 add-t5 c = search needs
@@ -30,15 +30,15 @@ shared-slice-read-t13 : tie.Need-shared-slice-read-t13
 shared-slice-read-t13 c = search needs
 
 returns : tie.Need-returns
-returns c = rw (c .before .before .before .before .word-at .ensures, c .before .before .before .word-at2 .ensures)
+returns c = rw (c .before .before .before .long-at .ensures, c .before .before .before .before .word-at .ensures)
 
 pub node-at-spec : {M : Type 1} → statement M
 node-at-spec =
     tie.close
     (tie.spec
     word-at-requires
-    add-word-at
-    word-at-requires-2
+    add-long-at
+    long-at-requires
     add-t5
     shared-slice-read-t7
     add-t8

@@ -1,0 +1,18 @@
+use Rattle.image.specs.Layout.{formIn}
+use borrow.Author.Needs.{needs}
+use Rattle.codec.proofs.bytes.form_in.Statement.{statement}
+use Rattle.codec.proofs.bytes.form_in.Tie as tie
+
+is-marked-requires : tie.Need-is-marked-requires
+is-marked-requires c κs = search needs
+
+returns : tie.Need-returns
+unfolding formIn
+returns c = rw (← c .before .is-marked .ensures, c .if1 .taken)
+
+returns-2 : tie.Need-returns-2
+unfolding formIn
+returns-2 c = rw (← c .before .is-marked .ensures, c .if1 .left)
+
+pub form-in-spec : {M : Type 1} → statement M
+form-in-spec = tie.close (tie.spec is-marked-requires returns returns-2)

@@ -1,0 +1,51 @@
+-- The tests of indices against the width of the form, as the code takes them.
+use Prim.Native.Nat.{ℕ, _≤_, _<_}
+use mathlib.Core.Path.{_≡_, refl, sym, ap, _∙_}
+use mathlib.Core.Bool.{Bool, true, false, not}
+use lib.Dec.{leb}
+use borrow.Author.Tests.{lt-leb, le-leb}
+use Rattle.lists.specs.Find.{pick, both, any}
+use Rattle.image.specs.Form.{known, topOf}
+use Rattle.image.specs.Layout.{headLines}
+use Rattle.image.proofs.HeadLaws.{one-head}
+use Rattle.machine.specs.Record.{node, kept, headAt, keptHead, thread}
+use Rattle.machine.specs.Range.{headFits, indexFits, isIndex, formFits}
+use Rattle.machine.specs.declared.Machine.{Machine}
+use Rattle.range.specs.Parts.{wideHead, wideNode, wideThread}
+
+module _ (m : Machine) where
+  pub node-wide : (i : ℕ) → topOf (m .form) < node m i .index → wideNode m i ≡ true
+  unfolding wideNode indexFits
+  node-wide i h = rw (lt-leb (node m i .index) (topOf (m .form)) h)
+
+  pub kept-wide : (i : ℕ) → node m i .index ≤ topOf (m .form) → topOf (m .form) < kept m i .index → wideNode m i ≡ true
+  unfolding wideNode indexFits
+  kept-wide i a h = rw (le-leb (node m i .index) (topOf (m .form)) a, lt-leb (kept m i .index) (topOf (m .form)) h)
+
+  pub node-narrow : (i : ℕ) → node m i .index ≤ topOf (m .form) → kept m i .index ≤ topOf (m .form) → wideNode m i ≡ false
+  unfolding wideNode indexFits
+  node-narrow i a b = rw (le-leb (node m i .index) (topOf (m .form)) a, le-leb (kept m i .index) (topOf (m .form)) b)
+
+  pub thread-wide : (k : ℕ) → topOf (m .form) < thread m k .index → wideThread m k ≡ true
+  unfolding wideThread
+  thread-wide k h = rw (lt-leb (thread m k .index) (topOf (m .form)) h)
+
+  pub thread-narrow : (k : ℕ) → thread m k .index ≤ topOf (m .form) → wideThread m k ≡ false
+  unfolding wideThread
+  thread-narrow k h = rw (le-leb (thread m k .index) (topOf (m .form)) h)
+
+  pub head-wide : topOf (m .form) < headAt m 0 → false ≡ not (any (wideHead m) 1)
+  unfolding any wideHead headFits
+  head-wide h = rw (lt-leb (headAt m 0) (topOf (m .form)) h)
+
+  pub head-rest : headAt m 0 ≤ topOf (m .form) → leb (keptHead m 0) (topOf (m .form)) ≡ not (any (wideHead m) 1)
+  unfolding any wideHead headFits
+  head-rest h = rw (le-leb (headAt m 0) (topOf (m .form)) h) (by (leb (keptHead m 0) (topOf (m .form))))
+    where
+      by : (b : Bool) → b ≡ not (pick (not b) true false)
+      by true = refl
+      by false = refl
+
+  pub form-by : formFits m ≡ both (known (m .form)) (both (not (any (wideHead m) 1)) (both (not (any (wideNode m) (m .n))) (not (any (wideThread m) (m .t)))))
+  unfolding formFits wideHead wideNode wideThread
+  form-by = ap (λ n. both (known (m .form)) (both (not (any (wideHead m) n)) (both (not (any (wideNode m) (m .n))) (not (any (wideThread m) (m .t)))))) (one-head (m .n))
