@@ -25,7 +25,11 @@ pub fn write_image(g: Image, b: &mut [u8]) -> Answer
     if 64 < n {
         return Answer::Nodes;
     }
-    let a = image::whole_of(g);
+    let a = image::sound_of(g);
+    if !is_taken(a) {
+        return a;
+    }
+    let a = image::fitting_of(g);
     if !is_taken(a) {
         return a;
     }

@@ -6,7 +6,7 @@ use mathlib.Core.List.{List}
 use mathlib.Core.Logic.{_≢_, _⊎_, inl, inr}
 use native.Mathlib.Omega.{arith}
 use native.Mathlib.Nat.{add-mul, one-mul, mul-le-mul-right}
-use borrow.Author.Tests.{ltb-true, ltb-false, lt-ltb, le-ltb, eqb-true}
+use borrow.Author.Tests.{ltb-true, ltb-false, lt-ltb, le-ltb, eqb-true, ne-eqb}
 use lib.Dec.{ltb, eqb}
 use Rattle.lists.specs.Find.{pick, both, least, any}
 use Rattle.lists.proofs.BoolLaws.{no-way, both-true}
@@ -52,7 +52,19 @@ top-small f = by (formOf f)
 
 pub known-is : (f : ℕ) → known f ≡ true → (f ≡ 1) ⊎ (f ≡ 2)
 unfolding known
-known-is f h = inl (eqb-true f 1 h)
+known-is f = by (eqb f 1) refl
+  where
+    by : (b : Bool) → eqb f 1 ≡ b → pick b true (eqb f 2) ≡ true → (f ≡ 1) ⊎ (f ≡ 2)
+    by true e h = inl (eqb-true f 1 e)
+    by false e h = inr (eqb-true f 2 h)
+
+pub known-one : (f : ℕ) → f ≡ 1 → true ≡ known f
+unfolding known
+known-one f e = rw e
+
+pub known-other : (f : ℕ) → f ≢ 1 → eqb f 2 ≡ known f
+unfolding known
+known-other f ne = rw (ne-eqb f 1 ne)
 
 -- what is so of each of them
 pub by-form : (P : ℕ → Type 0) (f : ℕ) → known f ≡ true → P 1 → P 2 → P f
@@ -113,31 +125,39 @@ place-from f i = refl
 
 -- ---- the form that bytes have
 
-pub form-marked : (s : List ℕ) → isImage s ≡ true → marked 85 81 73 (formIn s) s ≡ true
-unfolding formIn known
-form-marked s = by (marked 85 81 73 1 s) refl
-  where
-    by : (b : Bool) → marked 85 81 73 1 s ≡ b → eqb (pick b 1 0) 1 ≡ true → marked 85 81 73 (pick b 1 0) s ≡ true
-    by true e h = e
-    by false e h = no-way (sym h)
-
-pub marked-form : (f : ℕ) (s : List ℕ) → known f ≡ true → marked 85 81 73 f s ≡ true → formIn s ≡ f
-unfolding formIn known
-marked-form f s h m =
-    let e = eqb-true f 1 h in
-    let n : marked 85 81 73 1 s ≡ true = rw (← e) m in
-    rw n (sym e)
-
 -- the version's byte
-pub form-byte : (s : List ℕ) → isImage s ≡ true → formIn s ≡ at1 s 3
+marked-version : (f : ℕ) (s : List ℕ) → marked 85 81 73 f s ≡ true → at1 s 3 ≡ f
 unfolding marked
-form-byte s h =
-    let f = formIn s in
-    let a = both-true (eqb (at1 s 0) 85) (both (eqb (at1 s 1) 81) (both (eqb (at1 s 2) 73) (both (eqb (at1 s 3) f) (eqb (at1 s 4) 0)))) (form-marked s h) in
+marked-version f s h =
+    let a = both-true (eqb (at1 s 0) 85) (both (eqb (at1 s 1) 81) (both (eqb (at1 s 2) 73) (both (eqb (at1 s 3) f) (eqb (at1 s 4) 0)))) h in
     let b = both-true (eqb (at1 s 1) 81) (both (eqb (at1 s 2) 73) (both (eqb (at1 s 3) f) (eqb (at1 s 4) 0))) (a .1) in
     let c = both-true (eqb (at1 s 2) 73) (both (eqb (at1 s 3) f) (eqb (at1 s 4) 0)) (b .1) in
     let d = both-true (eqb (at1 s 3) f) (eqb (at1 s 4) 0) (c .1) in
-    sym (eqb-true (at1 s 3) f (d .0))
+    eqb-true (at1 s 3) f (d .0)
+
+pub form-marked : (s : List ℕ) → isImage s ≡ true → marked 85 81 73 (formIn s) s ≡ true
+unfolding formIn known
+form-marked s = by (marked 85 81 73 1 s) (marked 85 81 73 2 s) refl refl
+  where
+    by : (a b : Bool) → marked 85 81 73 1 s ≡ a → marked 85 81 73 2 s ≡ b → known (pick a 1 (pick b 2 0)) ≡ true → marked 85 81 73 (pick a 1 (pick b 2 0)) s ≡ true
+    by true b e g h = e
+    by false true e g h = g
+    by false false e g h = no-way (sym h)
+
+-- bytes of version 2 are not of version 1
+not-both : (s : List ℕ) → marked 85 81 73 2 s ≡ true → marked 85 81 73 1 s ≡ false
+not-both s h = by (marked 85 81 73 1 s) refl
+  where
+    by : (b : Bool) → marked 85 81 73 1 s ≡ b → b ≡ false
+    by false e = refl
+    by true e = absurd (omega (arith, marked-version 1 s e, marked-version 2 s h))
+
+pub marked-form : (f : ℕ) (s : List ℕ) → known f ≡ true → marked 85 81 73 f s ≡ true → formIn s ≡ f
+unfolding formIn
+marked-form f s h = by-form (λ f. marked 85 81 73 f s ≡ true → formIn s ≡ f) f h (λ m. rw m) (λ m. rw (not-both s m, m))
+
+pub form-byte : (s : List ℕ) → isImage s ≡ true → formIn s ≡ at1 s 3
+form-byte s h = sym (marked-version (formIn s) s (form-marked s h))
 
 -- ---- the places of nodes, linear for whoever uses them
 

@@ -105,6 +105,15 @@ whole-else g rest h = by (accepted (sound g Taken)) refl
         sound-then g (fitting g rest) e ∙ fitting-else g rest (sym (ap accepted f) ∙ h) ∙ sym f
     by false e = sound-else g (fitting g rest) e ∙ sym (sound-else g (fitting g Taken) e)
 
+-- where 6, 7, 8 refuse, and where they do not
+pub whole-unsound : (g : Image) → accepted (sound g Taken) ≡ false → whole g Taken ≡ sound g Taken
+unfolding whole
+whole-unsound g = sound-else g (fitting g Taken)
+
+pub whole-sound : (g : Image) → accepted (sound g Taken) ≡ true → whole g Taken ≡ fitting g Taken
+unfolding whole
+whole-sound g = sound-then g (fitting g Taken)
+
 pub record Whole (g : Image) : Type 0 where
   pub sound : accepted (sound g Taken) ≡ true
   pub fits : Fitting g

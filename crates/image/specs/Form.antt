@@ -1,10 +1,11 @@
 -- The form of an image, one byte: 1 is "UQI" version 1, 2 "UQI" version 2, 3 "UQI" version 3, 4 "UQP" version 1.
 -- Width, largest index and sizes follow from it.
 use Prim.Native.Nat.{ℕ, _+_, _-_, _^_}
-use mathlib.Core.Bool.{Bool}
+use mathlib.Core.Bool.{Bool, true}
 use mathlib.Core.List.{List, [], _∷_}
 use lib.ListN.{getD}
 use lib.Dec.{eqb}
+use Rattle.lists.specs.Find.{pick}
 
 pub data Form : Type 0 where
   plain wide pair desks : Form
@@ -14,7 +15,7 @@ formOf f = getD (plain ∷ plain ∷ wide ∷ pair ∷ desks ∷ []) f plain
 
 -- the forms that are read and written
 unfoldable pub known : ℕ → Bool
-known f = eqb f 1
+known f = pick (eqb f 1) true (eqb f 2)
 
 -- "Image version 2 has 64-bit indices": the bytes of an index
 abbrev pub width : Form → ℕ

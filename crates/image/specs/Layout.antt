@@ -48,9 +48,9 @@ unfoldable pub marked : ℕ → ℕ → ℕ → ℕ → List ℕ → Bool
 marked a b c v s =
     both (eqb (at1 s 0) a) (both (eqb (at1 s 1) b) (both (eqb (at1 s 2) c) (both (eqb (at1 s 3) v) (eqb (at1 s 4) 0))))
 
--- the form that bytes have by their mark and version: "UQI" version 1; 0 where they have none
+-- the form that bytes have by their mark and version: "UQI" version 1 or 2; 0 where they have none
 unfoldable pub formIn : List ℕ → ℕ
-formIn s = pick (marked 85 81 73 1 s) 1 0
+formIn s = pick (marked 85 81 73 1 s) 1 (pick (marked 85 81 73 2 s) 2 0)
 
 -- "UQI" in a version that is read
 abbrev pub isImage : List ℕ → Bool

@@ -10,15 +10,17 @@ use super::queue::last_of;
 use super::queue::link_of;
 use super::queue::queue_of;
 use answer::Answer;
+use answer::is_taken;
 use image::Content;
 use image::Image;
 use image::dummy_of;
+use image::fitting_of;
 use image::is_known;
 use image::largest_of;
 use image::no_contents;
 use image::no_heads;
 use image::recovered_in;
-use image::whole_of;
+use image::sound_of;
 ghost use mathlib.Core.Path.{_≡_};
 ghost use Prim.Native.Nat.{suc, _≤_, _<_};
 ghost use Rattle.answer.specs.Answers.{told};
@@ -195,13 +197,17 @@ pub fn start_from(g: Image, t: u8) -> Out
     if !nodes_fit(g.n) {
         return refused(Answer::Nodes);
     }
-    let a = whole_of(g);
-    if let Answer::Taken = a {
-        let machine = start(g, t);
-        return Out {
-            answer: Answer::Taken,
-            machine,
-        };
+    let a = sound_of(g);
+    if !is_taken(a) {
+        return refused(a);
     }
-    refused(a)
+    let a = fitting_of(g);
+    if !is_taken(a) {
+        return refused(a);
+    }
+    let machine = start(g, t);
+    Out {
+        answer: Answer::Taken,
+        machine,
+    }
 }

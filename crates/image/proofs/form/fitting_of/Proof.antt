@@ -1,51 +1,103 @@
-use mathlib.Core.Path.{_∙_, sym, ap}
+use Prim.Native.Nat.{_≤_, _-_}
+use mathlib.Core.Path.{_≡_, sym, _∙_}
+use native.Mathlib.Nat.{sub-zero}
+use native.Mathlib.Omega.{arith}
 use borrow.Author.Tests.{lt-ltb, le-ltb}
 use borrow.Author.Needs.{needs}
+use Rattle.lists.specs.Find.{least}
+use Rattle.lists.proofs.FindLaws as find
+use Rattle.image.specs.Recovered.{firstTooWide}
 use Rattle.image.specs.Refusals.{fitting}
-use Rattle.image.proofs.FormLaws.{head-wide}
+use Rattle.image.proofs.FormLaws.{wideAt, too-wide-is, head-wide}
 use Rattle.image.proofs.form.fitting_of.Statement.{statement}
 use Rattle.image.proofs.form.fitting_of.Tie as tie
 
-top-of-requires : tie.Need-top-of-requires
+abbrev Inv-loop : tie.InvT-loop
+Inv-loop g top h n i₀ i = (i ≤ n) × (firstTooWide g ≡ least (wideAt g) (n - i) i)
+
+abbrev μ-loop : tie.MeasureT-loop
+μ-loop g top h n i₀ i = n - i
+
+top-of-requires : tie.Need-top-of-requires Inv-loop μ-loop
 top-of-requires c κs = search needs
 
-element-copy-out-h : tie.Need-element-copy-out-h
+element-copy-out-h : tie.Need-element-copy-out-h Inv-loop μ-loop
 element-copy-out-h c = search needs
 
-cast-t13 : tie.Need-cast-t13
-cast-t13 c = search needs
+cast-t14 : tie.Need-cast-t14 Inv-loop μ-loop
+cast-t14 c = search needs
 
-returns : tie.Need-returns
+returns : tie.Need-returns Inv-loop μ-loop
 unfolding fitting
 returns c = rw (head-wide _, ← c .before .before .top-of .ensures, lt-ltb _ _ (c .if1 .taken))
 
-cast-n : tie.Need-cast-n
+cast-n : tie.Need-cast-n Inv-loop μ-loop
 cast-n c = search needs
 
-first-too-wide-requires : tie.Need-first-too-wide-requires
-first-too-wide-requires c κs = search needs
+loop-holds : tie.Need-loop-holds Inv-loop μ-loop
+loop-holds c = (omega arith, too-wide-is _ ∙ rw sub-zero)
 
-cast-t15 : tie.Need-cast-t15
-cast-t15 c = search needs
+mul-v : tie.Need-mul-v Inv-loop μ-loop
+mul-v c = omega arith
 
-returns-2 : tie.Need-returns-2
+element-copy-out-v : tie.Need-element-copy-out-v Inv-loop μ-loop
+element-copy-out-v c = search needs
+
+cast-t20 : tie.Need-cast-t20 Inv-loop μ-loop
+cast-t20 c = search needs
+
+returns-2 : tie.Need-returns-2 Inv-loop μ-loop
+unfolding fitting wideAt
+returns-2 c =
+    let b = c .before .before .before .before in
+    let p = b .loop in
+    let h = b .before .before .before in
+    let g = h .before .args .t1 in
+    let e = p .inv .1 ∙ find.least-hit (wideAt g) (g .n) (p .i) (omega arith) (rw (← h .top-of .ensures) (lt-ltb _ _ (c .if2 .taken))) in
+    rw (head-wide g, ← h .top-of .ensures, le-ltb _ _ (b .before .if1 .left), e, lt-ltb (p .i) (g .n) (omega arith))
+
+add-i : tie.Need-add-i Inv-loop μ-loop
+add-i c = omega arith
+
+loop-less : tie.Need-loop-less Inv-loop μ-loop
+loop-less c = omega arith
+
+loop-again : tie.Need-loop-again Inv-loop μ-loop
+unfolding wideAt
+loop-again c =
+    let b = c .before .before .before .before in
+    let p = b .loop in
+    let h = b .before .before .before in
+    let g = h .before .args .t1 in
+    (omega arith, p .inv .1 ∙ find.least-next (wideAt g) (g .n) (p .i) (omega arith) (rw (← h .top-of .ensures) (le-ltb _ _ (c .if2 .left))))
+
+returns-3 : tie.Need-returns-3 Inv-loop μ-loop
 unfolding fitting
-returns-2 c = rw (head-wide _, ← c .before .before .before .before .top-of .ensures, le-ltb _ _ (c .before .before .if1 .left), ← c .before .first-too-wide .ensures, lt-ltb _ _ (c .if2 .taken))
-
-returns-3 : tie.Need-returns-3
-unfolding fitting
-returns-3 c = rw (head-wide _, ← c .before .before .before .before .top-of .ensures, le-ltb _ _ (c .before .before .if1 .left), ← c .before .first-too-wide .ensures, le-ltb _ _ (c .if2 .left))
+returns-3 c =
+    let b = c .before in
+    let p = b .loop in
+    let h = b .before .before .before in
+    let g = h .before .args .t1 in
+    let e = p .inv .1 ∙ find.least-end (wideAt g) (g .n) (p .i) (omega arith) in
+    rw (head-wide g, ← h .top-of .ensures, le-ltb _ _ (b .before .if1 .left), e, le-ltb (p .i) (g .n) (omega arith))
 
 pub fitting-of-spec : {M : Type 1} → statement M
 fitting-of-spec =
     tie.close
     (tie.spec
+    Inv-loop
+    μ-loop
     top-of-requires
     element-copy-out-h
-    cast-t13
+    cast-t14
     returns
     cast-n
-    first-too-wide-requires
-    cast-t15
+    loop-holds
+    mul-v
+    element-copy-out-v
+    cast-t20
     returns-2
+    add-i
+    loop-less
+    loop-again
     returns-3)

@@ -1,11 +1,12 @@
-use mathlib.Core.Path.{refl}
-use Rattle.image.specs.Form.{known}
+use Rattle.image.proofs.FormLaws as laws
 use Rattle.image.proofs.form.is_known.Statement.{statement}
 use Rattle.image.proofs.form.is_known.Tie as tie
 
 returns : tie.Need-returns
-unfolding known
-returns c = refl
+returns c = laws.known-one _ (c .if1 .taken)
+
+returns-2 : tie.Need-returns-2
+returns-2 c = laws.known-other _ (c .if1 .left)
 
 pub is-known-spec : {M : Type 1} → statement M
-is-known-spec = tie.close (tie.spec returns)
+is-known-spec = tie.close (tie.spec returns returns-2)

@@ -2,13 +2,14 @@ use mathlib.Core.Path.{_≡_, refl, sym, ap, _∙_}
 use Rattle.machine.specs.Laid.{refusedStart}
 use mathlib.Core.Bool.{true, false}
 use borrow.Author.Tests.{not-true, not-false}
-use Rattle.answer.specs.Answers.{told}
+use Rattle.answer.specs.Answers.{told, accepted}
 use Rattle.answer.specs.declared.Answer.the-variants.{Taken, Mark, Nodes, Threads}
 use Rattle.image.specs.Form.{known}
-use Rattle.image.specs.Refusals.{nodesFit, whole}
+use Rattle.image.specs.Refusals.{nodesFit, sound, fitting, whole}
 use Rattle.machine.specs.Start.{threadsFit}
 use Rattle.machine.specs.declared.Out.{Out}
 use Rattle.machine.proofs.AnswerLaws as answers
+use Rattle.image.proofs.SoundLaws.{whole-unsound, whole-sound, fitting-then}
 use borrow.Author.Needs.{needs}
 use Rattle.machine.proofs.start.start_from.Statement.{statement}
 use Rattle.machine.proofs.start.start_from.Tie as tie
@@ -58,19 +59,16 @@ returns-3 c =
     let e = c .refused3 .ensures ∙ sym (answers.start-refused (s .g) (s .t) Nodes (answers.answer-nodes (s .g) (s .t) yes form no) refl) in
     (ap (λ (o : Out). told (o .answer)) e, ap (λ (o : Out). o .machine) e)
 
-whole-of-requires : tie.Need-whole-of-requires
-whole-of-requires c κs =
+sound-of-requires : tie.Need-sound-of-requires
+sound-of-requires c κs =
     let s = c .before .before .before .before .before .before .args in
     answers.nodes-range (s .g .n) (sym (c .before .nodes-fit .ensures) ∙ not-false _ (c .if3 .left)) .1
 
-enum-told : tie.Need-enum-told
-enum-told c = search needs
+is-taken-requires : tie.Need-is-taken-requires
+is-taken-requires c κs = search needs
 
-start-requires : tie.Need-start-requires
-start-requires c κs =
-    let p = c .before .before .before in
-    let s = p .before .before .before .before .before .before .args in
-    answers.nodes-range (s .g .n) (sym (p .before .nodes-fit .ensures) ∙ not-false _ (p .if3 .left)) .1
+refused-requires-4 : tie.Need-refused-requires-4
+refused-requires-4 c κs = search needs
 
 returns-4 : tie.Need-returns-4
 returns-4 c =
@@ -82,16 +80,27 @@ returns-4 c =
     let yes : threadsFit (s .t) ≡ true = sym (q .before .threads-fit .ensures) ∙ not-false _ (q .if1 .left) in
     let form : known (s .g .form) ≡ true = sym (k .before .is-known .ensures) ∙ not-false _ (k .if2 .left) in
     let fit : nodesFit (s .g .n) ≡ true = sym (p .before .nodes-fit .ensures) ∙ not-false _ (p .if3 .left) in
-    let taken : whole (s .g) Taken ≡ Taken = sym (m .whole-of .ensures) ∙ c .before .enum-told .given .1 in
-    let e = answers.start-taken (s .g) (s .t) (answers.answer-whole (s .g) (s .t) yes form fit ∙ taken) in
-    (sym (ap (λ (o : Out). told (o .answer)) e), c .start .ensures ∙ sym (ap (λ (o : Out). o .machine) e))
+    let is = m .sound-of .ensures in
+    let no : accepted (sound (s .g) Taken) ≡ false = sym (ap accepted is) ∙ sym (c .before .before .is-taken .ensures) ∙ not-true _ (c .before .if4 .taken) in
+    let e = c .refused4 .ensures ∙ ap refusedStart is ∙ sym (answers.start-refused (s .g) (s .t) (sound (s .g) Taken) (answers.answer-whole (s .g) (s .t) yes form fit ∙ whole-unsound (s .g) no) no) in
+    (ap (λ (o : Out). told (o .answer)) e, ap (λ (o : Out). o .machine) e)
 
-refused-requires-4 : tie.Need-refused-requires-4
-refused-requires-4 c κs = search needs
+fitting-of-requires : tie.Need-fitting-of-requires
+fitting-of-requires c κs =
+    let p = c .before .before .before in
+    let s = p .before .before .before .before .before .before .args in
+    answers.nodes-range (s .g .n) (sym (p .before .nodes-fit .ensures) ∙ not-false _ (p .if3 .left)) .1
+
+is-taken-requires-2 : tie.Need-is-taken-requires-2
+is-taken-requires-2 c κs = search needs
+
+refused-requires-5 : tie.Need-refused-requires-5
+refused-requires-5 c κs = search needs
 
 returns-5 : tie.Need-returns-5
 returns-5 c =
-    let m = c .before .before in
+    let f = c .before .before .before in
+    let m = f .before .before .before in
     let p = m .before in
     let k = p .before .before in
     let q = k .before .before in
@@ -99,10 +108,33 @@ returns-5 c =
     let yes : threadsFit (s .t) ≡ true = sym (q .before .threads-fit .ensures) ∙ not-false _ (q .if1 .left) in
     let form : known (s .g .form) ≡ true = sym (k .before .is-known .ensures) ∙ not-false _ (k .if2 .left) in
     let fit : nodesFit (s .g .n) ≡ true = sym (p .before .nodes-fit .ensures) ∙ not-false _ (p .if3 .left) in
-    let no : whole (s .g) Taken ≡ Taken → ⊥ = λ e. answers.not-taken (m .whole-of .result) (c .before .match .keys2) (m .whole-of .ensures ∙ e) in
-    let r : c .refused4 .result ≡ refusedStart (whole (s .g) Taken) = c .refused4 .ensures ∙ ap refusedStart (m .whole-of .ensures) in
-    let e = r ∙ sym (answers.start-refused (s .g) (s .t) (whole (s .g) Taken) (answers.answer-whole (s .g) (s .t) yes form fit) (answers.whole-refused (s .g) no)) in
+    let ok : accepted (sound (s .g) Taken) ≡ true = sym (ap accepted (m .sound-of .ensures)) ∙ sym (f .before .before .is-taken .ensures) ∙ not-false _ (f .before .if4 .left) in
+    let is = f .fitting-of .ensures in
+    let no : accepted (fitting (s .g) Taken) ≡ false = sym (ap accepted is) ∙ sym (c .before .before .is-taken2 .ensures) ∙ not-true _ (c .before .if5 .taken) in
+    let e = c .refused5 .ensures ∙ ap refusedStart is ∙ sym (answers.start-refused (s .g) (s .t) (fitting (s .g) Taken) (answers.answer-whole (s .g) (s .t) yes form fit ∙ whole-sound (s .g) ok) no) in
     (ap (λ (o : Out). told (o .answer)) e, ap (λ (o : Out). o .machine) e)
+
+start-requires : tie.Need-start-requires
+start-requires c κs =
+    let p = c .before .before .before .before .before .before in
+    let s = p .before .before .before .before .before .before .args in
+    answers.nodes-range (s .g .n) (sym (p .before .nodes-fit .ensures) ∙ not-false _ (p .if3 .left)) .1
+
+returns-6 : tie.Need-returns-6
+returns-6 c =
+    let f = c .before .before .before in
+    let m = f .before .before .before in
+    let p = m .before in
+    let k = p .before .before in
+    let q = k .before .before in
+    let s = q .before .before .args in
+    let yes : threadsFit (s .t) ≡ true = sym (q .before .threads-fit .ensures) ∙ not-false _ (q .if1 .left) in
+    let form : known (s .g .form) ≡ true = sym (k .before .is-known .ensures) ∙ not-false _ (k .if2 .left) in
+    let fit : nodesFit (s .g .n) ≡ true = sym (p .before .nodes-fit .ensures) ∙ not-false _ (p .if3 .left) in
+    let ok : accepted (sound (s .g) Taken) ≡ true = sym (ap accepted (m .sound-of .ensures)) ∙ sym (f .before .before .is-taken .ensures) ∙ not-false _ (f .before .if4 .left) in
+    let yes2 : accepted (fitting (s .g) Taken) ≡ true = sym (ap accepted (f .fitting-of .ensures)) ∙ sym (c .before .before .is-taken2 .ensures) ∙ not-false _ (c .before .if5 .left) in
+    let e = answers.start-taken (s .g) (s .t) (answers.answer-whole (s .g) (s .t) yes form fit ∙ whole-sound (s .g) ok ∙ fitting-then (s .g) Taken yes2) in
+    (sym (ap (λ (o : Out). told (o .answer)) e), c .start .ensures ∙ sym (ap (λ (o : Out). o .machine) e))
 
 pub start-from-spec : {M : Type 1} → statement M
 start-from-spec =
@@ -117,9 +149,13 @@ start-from-spec =
     nodes-fit-requires
     refused-requires-3
     returns-3
-    whole-of-requires
-    enum-told
-    start-requires
-    returns-4
+    sound-of-requires
+    is-taken-requires
     refused-requires-4
-    returns-5)
+    returns-4
+    fitting-of-requires
+    is-taken-requires-2
+    refused-requires-5
+    returns-5
+    start-requires
+    returns-6)
