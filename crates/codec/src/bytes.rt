@@ -122,5 +122,8 @@ pub fn form_in(s: &[u8]) -> u8
     if is_marked(s, 85, 81, 73, 1) {
         return 1;
     }
+    if is_marked(s, 85, 81, 73, 2) {
+        return 2;
+    }
     0
 }

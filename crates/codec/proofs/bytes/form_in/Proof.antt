@@ -10,9 +10,16 @@ returns : tie.Need-returns
 unfolding formIn
 returns c = rw (← c .before .is-marked .ensures, c .if1 .taken)
 
+is-marked-requires-2 : tie.Need-is-marked-requires-2
+is-marked-requires-2 c κs = search needs
+
 returns-2 : tie.Need-returns-2
 unfolding formIn
-returns-2 c = rw (← c .before .is-marked .ensures, c .if1 .left)
+returns-2 c = rw (← c .before .before .before .is-marked .ensures, c .before .before .if1 .left, ← c .before .is-marked2 .ensures, c .if2 .taken)
+
+returns-3 : tie.Need-returns-3
+unfolding formIn
+returns-3 c = rw (← c .before .before .before .is-marked .ensures, c .before .before .if1 .left, ← c .before .is-marked2 .ensures, c .if2 .left)
 
 pub form-in-spec : {M : Type 1} → statement M
-form-in-spec = tie.close (tie.spec is-marked-requires returns returns-2)
+form-in-spec = tie.close (tie.spec is-marked-requires returns is-marked-requires-2 returns-2 returns-3)
