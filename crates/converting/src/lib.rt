@@ -33,9 +33,9 @@ fn convert(s: &[u8], b: &mut [u8], from: u8, to: u8) -> Answer
     }
     let mut g = image_in(s);
     g.form = to;
-    let a = fitting_of(g);
-    if !is_taken(a) {
-        return a;
+    let w = fitting_of(g);
+    if !is_taken(w) {
+        return w;
     }
     let n = g.n as usize;
     if b.len() < place_of(to, n) {
