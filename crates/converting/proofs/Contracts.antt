@@ -40,14 +40,13 @@ module _ (κs : Lfts 2) (s b z : RefT (List ℕ)) (r : Answer) where
 
 -- an image s, converted into a buffer that held b and now holds z; the image t that stands there, converted back into a buffer that held c and now holds w
 module _ (κs : Lfts 2) (s b z : RefT (List ℕ)) (r : Answer) (λs : Lfts 2) (t c w : RefT (List ℕ)) (q : Answer)
-  (bytes : Bytes (now s)) (taken : accepted r ≡ true) (room : length (now s) ≤ length (now c)) where
+    (bytes : Bytes (now s)) (taken : accepted r ≡ true) (room : length (now s) ≤ length (now c)) where
   pub widened-narrowed : Widens κs s b z r → now t ≡ take (14 + at1 (now s) 5 * 13) (now z) → Narrows λs t c w q
       → (q ≡ Taken) × (now w ≡ now s ++ drop (length (now s)) (now c))
   widened-narrowed p e p′ =
       let h = ap accepted (sym (widen-is κs s b z r p)) ∙ taken in
       let o = wide-and-back (now s) bytes (now b) (now c) h room in
-      let f = e ∙ ap (take (14 + at1 (now s) 5 * 13)) (p .1) in
-      (
+      let f = e ∙ ap (take (14 + at1 (now s) 5 * 13)) (p .1) in (
         narrow-is λs t c w q p′ ∙ ap (λ (l : List ℕ). narrowAnswer l (length (now c))) f ∙ o .0,
         p′ .1 ∙ ap (λ (l : List ℕ). narrowed l (now c)) f ∙ o .1,
       )
@@ -57,8 +56,7 @@ module _ (κs : Lfts 2) (s b z : RefT (List ℕ)) (r : Answer) (λs : Lfts 2) (t
   narrowed-widened p e p′ =
       let h = ap accepted (sym (narrow-is κs s b z r p)) ∙ taken in
       let o = narrow-and-back (now s) bytes (now b) (now c) h room in
-      let f = e ∙ ap (take (10 + at1 (now s) 5 * 9)) (p .1) in
-      (
+      let f = e ∙ ap (take (10 + at1 (now s) 5 * 9)) (p .1) in (
         widen-is λs t c w q p′ ∙ ap (λ (l : List ℕ). widenAnswer l (length (now c))) f ∙ o .0,
         p′ .1 ∙ ap (λ (l : List ℕ). widened l (now c)) f ∙ o .1,
       )

@@ -61,8 +61,7 @@ pub narrows-only : (s : List ℕ) (room : ℕ) → accepted (narrowAnswer s room
     → (formIn s ≡ 2) × (accepted (imageAnswer 0 s) ≡ true) × Narrow s × (10 + at1 s 5 * 9 ≤ room)
 unfolding imageIn
 narrows-only s room h =
-    let c = laws.taken-converts 2 1 s room h in
-    (
+    let c = laws.taken-converts 2 1 s room h in (
       c .form,
       c .image,
       record { head = omega (arith, c .fits .head, top-one); at = λ i p. omega (arith, c .fits .at i p, top-one) },

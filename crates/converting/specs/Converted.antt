@@ -24,8 +24,8 @@ convertAnswer f f′ s room =
     check (ltb (length s) 10) Length
     (check (not (eqb (formIn s) f)) Mark
     (pick (accepted (imageAnswer 0 s))
-      (fitting (inForm f′ (imageIn s)) (check (ltb room (nodePlace f′ (at1 s 5))) Room Taken))
-      (imageAnswer 0 s)))
+    (fitting (inForm f′ (imageIn s)) (check (ltb room (nodePlace f′ (at1 s 5))) Room Taken))
+    (imageAnswer 0 s)))
 
 -- what the lent buffer holds then: the image in its first bytes, the rest as it was; or all as it was
 unfoldable pub converted : ℕ → ℕ → List ℕ → List ℕ → List ℕ

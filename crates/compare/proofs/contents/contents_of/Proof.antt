@@ -1,5 +1,6 @@
 use Prim.Native.Nat.{_≤_, _-_}
 use native.Mathlib.Omega.{arith}
+use borrow.Author.Needs.{needs}
 use Rattle.compare.proofs.contents.contents_of.Statement.{statement}
 use Rattle.compare.proofs.contents.contents_of.Tie as tie
 
@@ -42,6 +43,9 @@ byte-requires c κs = tt
 word-requires : tie.Need-word-requires Inv-loop μ-loop
 word-requires c κs = omega arith
 
+cast-heads : tie.Need-cast-heads Inv-loop μ-loop
+cast-heads c = search needs
+
 array-write-heads : tie.Need-array-write-heads Inv-loop μ-loop
 array-write-heads c = omega arith
 
@@ -65,5 +69,6 @@ contents-of-spec =
     loop-again
     byte-requires
     word-requires
+    cast-heads
     array-write-heads
     returns)
