@@ -1,4 +1,5 @@
 pub mod Apart
+pub mod Conversions
 pub mod Laws
 pub mod Refused
 pub mod Unique
