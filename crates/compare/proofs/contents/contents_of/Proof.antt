@@ -1,6 +1,5 @@
 use Prim.Native.Nat.{_≤_, _-_}
 use native.Mathlib.Omega.{arith}
-use borrow.Author.Needs.{needs}
 use Rattle.compare.proofs.contents.contents_of.Statement.{statement}
 use Rattle.compare.proofs.contents.contents_of.Tie as tie
 
@@ -44,7 +43,7 @@ word-requires : tie.Need-word-requires Inv-loop μ-loop
 word-requires c κs = omega arith
 
 cast-heads : tie.Need-cast-heads Inv-loop μ-loop
-cast-heads c = search needs
+cast-heads c = omega arith
 
 array-write-heads : tie.Need-array-write-heads Inv-loop μ-loop
 array-write-heads c = omega arith
