@@ -280,7 +280,31 @@ static void history(void) {
     expect("answered before it began", uq_judge(bytes, length, order, sizeof order), refusal(UQ_NOT_ZERO, 1));
 }
 
+/* An image there and back (request 107); an index and a head of 33 bits, which have no place in version 1. */
+static void conversions(void) {
+    enum { WIDE = 14 + 13 * NODES };
+    uint8_t image[IMAGE], wide[UQ_MAX_IMAGE], back[IMAGE];
+    put_image(image, 5, 1, 4294967295u, 7);
+    for (int i = 0; i < UQ_MAX_IMAGE; i++) wide[i] = 99;
+    expect("nine bytes to be widened", uq_widen(image, 9, wide, sizeof wide), refusal(UQ_LENGTH, 0));
+    expect("widened, no room", uq_widen(image, IMAGE, wide, WIDE - 1), refusal(UQ_ROOM, 0));
+    expect("a byte after a refusal", wide[0], 99);
+    expect("widened", uq_widen(image, IMAGE, wide, sizeof wide), UQ_TAKEN);
+    expect("its version", wide[3], 2);
+    expect("the byte behind it", wide[WIDE], 99);
+    expect("version 2 is an image", uq_check_image(wide, WIDE), UQ_TAKEN);
+    expect("the other version", uq_narrow(image, IMAGE, back, IMAGE), refusal(UQ_MARK, 0));
+    expect("narrowed again", uq_narrow(wide, WIDE, back, IMAGE), UQ_TAKEN);
+    expect("there and back", same(back, image, IMAGE), 1);
+    wide[14 + 13 + 5] = 1;
+    expect("node 1's index of 33 bits", uq_narrow(wide, WIDE, back, IMAGE), refusal(UQ_NARROW, 1));
+    wide[10] = 1;
+    expect("a head of 33 bits, tested first", uq_narrow(wide, WIDE, back, 0), refusal(UQ_NARROW, NODES));
+    expect("bytes after a refusal", same(back, image, IMAGE), 1);
+}
+
 int main(void) {
+    conversions();
     history();
     endings();
     text();

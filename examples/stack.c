@@ -23,6 +23,15 @@ static void check_image(void) {
     result = uq_check_image(schedule + 8, 10 + 9 * (size_t)schedule[13]);
 }
 
+static void widen(void) {
+    result = uq_widen(schedule + 8, 10 + 9 * (size_t)schedule[13], text, sizeof text);
+}
+
+/* What was widened, back. */
+static void narrow(void) {
+    result = uq_narrow(text, 14 + 13 * (size_t)schedule[13], buffer, sizeof buffer);
+}
+
 static void check_schedule(void) {
     result = uq_check_schedule(schedule, length);
 }
@@ -150,6 +159,8 @@ int main(void) {
     while (length < sizeof schedule && (got = read(0, schedule + length, sizeof schedule - length)) > 0) length += (size_t)got;
     measure("(no call)", nothing);
     measure("uq_check_image", check_image);
+    measure("uq_widen", widen);
+    measure("uq_narrow", narrow);
     measure("uq_check_schedule", check_schedule);
     measure("uq_count_endings", count_endings);
     printf("(%lu endings)\n", count);

@@ -8,7 +8,7 @@
    bytes behind it, bytes that a call writes do not overlap those it reads, and no length is above 2^63 - 1. uq_count_endings,
    uq_ending and uq_page_lines touch up to 122 KB of stack, uq_judge up to 32 KB, the others up to 26 KB (measured by bench/stack, docs/PERFORMANCE.md).
 
-   Every call returns number + 256 * value. Number 0: taken. 1 to 18: refused, as document 01's table has it, and then the value is the
+   Every call returns number + 256 * value. Number 0: taken. Others: refused, as document 01's table and the requests after it have it, and then the value is the
    place and no lent byte is changed. uq_number, uq_value, uq_lines, uq_bytes, uq_reply, uq_item, uq_verdict, uq_tries
    and uq_order take a result apart. */
 #ifndef UQ_H
@@ -73,7 +73,8 @@ enum {
     UQ_ENDINGS = 15,   /* more than 65,536 endings */
     UQ_NO_ENDING = 16, /* no ending of that number */
     UQ_ROOM = 17,      /* lent buffer too short */
-    UQ_RANGE = 18      /* a machine record is outside its ranges */
+    UQ_RANGE = 18,     /* a machine record is outside its ranges */
+    UQ_NARROW = 20     /* an index does not fit the image's version */
 };
 
 /* Kinds of events. */
@@ -87,6 +88,17 @@ enum { UQ_NO_REPLY = 0, UQ_DONE = 1, UQ_FULL = 2, UQ_WORN_OUT = 3, UQ_ITEM = 4, 
    A refusal has number 1, 2, 3, 6, 7 or 8 and its place. */
 uint64_t uq_check_image(const uint8_t *image, size_t length);
 
+/* An image of version 1 as one of version 2, whose indices have 64 bits: the same contents. Value 0 where it is taken.
+   It is written into the first 14 + 13N bytes of `buffer`; the bytes after them stay.
+   A refusal has number 1, 2 (of version 2 too), 3, 6, 7, 8 or 17 and its place, and writes nothing. */
+uint64_t uq_widen(const uint8_t *image, size_t length, uint8_t *buffer, size_t room);
+
+/* An image of version 2 as one of version 1. Value 0 where it is taken. There and back, either way, gives the same bytes.
+   It is written into the first 10 + 9N bytes of `buffer`; the bytes after them stay.
+   A refusal has number 1, 2 (of version 1 too), 3, 6, 7, 8, 20 where an index is above 4,294,967,295, or 17, and its place: of 20 the first such node,
+   recovered or not, and N for the head, which is tested first. It writes nothing. */
+uint64_t uq_narrow(const uint8_t *image, size_t length, uint8_t *buffer, size_t room);
+
 /* Whether `schedule` is a schedule, looked at up to its events: those are tested by a run. Value 0 where it is taken.
    Nothing is written.
    A refusal has number 1 to 8 and its place. */
@@ -98,7 +110,7 @@ uint64_t uq_check_schedule(const uint8_t *schedule, size_t length);
 uint64_t uq_count_endings(const uint8_t *schedule, size_t length);
 
 /* Ending k of the schedule. Value 0 where it is taken.
-   Its image is written into the first 10 + 9N bytes of `buffer`; the bytes after them stay.
+   Its image, in the version of the schedule's, is written into the first 10 + 9N or 14 + 13N bytes of `buffer`; the bytes after them stay.
    A refusal has number 1 to 17 and its place, and writes nothing. */
 uint64_t uq_ending(const uint8_t *schedule, size_t length, uint64_t k, uint8_t *buffer, size_t room);
 
@@ -123,7 +135,8 @@ uint64_t uq_start(const uint8_t *image, size_t length, uint8_t threads, uint8_t 
 uint64_t uq_event(uint8_t *record, size_t length, uint8_t kind, uint8_t number, uint32_t item);
 
 /* What a crash would leave of a record: its persisted copies. Value 0 where it is taken.
-   They are written as an image into the first 10 + 9N bytes of `buffer`; the bytes after them stay.
+   They are written as an image, in the version of the image that the record started from, into the first 10 + 9N or 14 + 13N bytes of `buffer`;
+   the bytes after them stay.
    A refusal has number 1, 18, 7, 8 or 17 and its place, and writes nothing. */
 uint64_t uq_save(const uint8_t *record, size_t length, uint8_t *buffer, size_t room);
 

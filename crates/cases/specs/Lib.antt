@@ -1,5 +1,6 @@
 pub mod Inputs
 pub mod Starred
+pub mod Wide
 pub mod Instances
 pub mod Asked
 pub mod Same

@@ -9,6 +9,7 @@ mod reading;
 mod sound;
 mod writing;
 
+pub use bytes::form_in;
 pub use events::event_at;
 pub use images::image_in;
 pub use images::put_image;

@@ -3,6 +3,7 @@ ghost use Prim.Native.Nat.{_≤_};
 ghost use lib.ListN.{length};
 use answer::told_of;
 use compare::contents::contents_of;
+use compare::contents::wide_contents_of;
 use compare::text::put;
 use compare::text::put_front;
 use compare::text::put_pair;
@@ -24,6 +25,13 @@ fn put_written(out: &mut [u8; 65536], at: usize, g: Image, lent: &mut [u8], room
 pub(crate) fn answer_contents(s: &[u8], out: &mut [u8; 65536], at: usize) -> usize {
     let g = contents_of(s);
     let room = half(s, 581);
+    let mut lent = [0xaau8; 65536];
+    put_written(out, at, g, &mut lent, room as usize)
+}
+
+pub(crate) fn answer_wide_contents(s: &[u8], out: &mut [u8; 65536], at: usize) -> usize {
+    let g = wide_contents_of(s);
+    let room = half(s, 842);
     let mut lent = [0xaau8; 65536];
     put_written(out, at, g, &mut lent, room as usize)
 }

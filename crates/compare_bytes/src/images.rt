@@ -5,15 +5,23 @@ use compare::text::put_front;
 use compare::text::put_refusal;
 use image::Image;
 
+fn size_of(form: u8, n: u8) -> usize {
+    if form == 2 {
+        return 14 + (n as usize) * 13;
+    }
+    10 + (n as usize) * 9
+}
+
 // The image as write_image writes it, in hex.
 pub(crate) fn put_image(out: &mut [u8; 65536], at: usize, g: Image) -> usize {
-    let mut bytes = [0u8; 586];
+    let mut bytes = [0u8; 846];
     let a = codec::write_image(g, &mut bytes);
     let t = told_of(a);
     if t.number != 0 {
         return put_refusal(out, at, t);
     }
-    put_front(out, at, &bytes, 10 + (g.n as usize) * 9)
+    let size = size_of(g.form, g.n);
+    put_front(out, at, &bytes, size)
 }
 
 pub(crate) fn answer_image(s: &[u8], out: &mut [u8; 65536], at: usize) -> usize {

@@ -3,12 +3,18 @@
 //   i  an image:    `refused N at P`, or the image written again, in hex
 //   s  a schedule:  `refused N at P`, or `taken T COUNT IMAGE EVENTS`, the last two in hex
 //   c  contents to be written: `N P BUFFER`, the whole lent buffer in hex
+//   d  contents that say the version they are for, with indices of 8 bytes: the same
+//   w  an image to be widened, the buffer's room behind it: the same
+//   v  an image to be narrowed: the same
 mod contents;
+mod conversions;
 mod images;
 mod schedules;
 
 use compare::text::finish;
 use contents::answer_contents;
+use contents::answer_wide_contents;
+use conversions::answer_converted;
 use images::answer_image;
 use libc::STDIN_FILENO;
 use schedules::answer_schedule;
@@ -19,6 +25,9 @@ fn answer_one(mode: u8, s: &[u8], out: &mut [u8; 65536], at: usize) -> usize {
         b'i' => answer_image(s, out, at),
         b's' => answer_schedule(s, out, at),
         b'c' => answer_contents(s, out, at),
+        b'd' => answer_wide_contents(s, out, at),
+        b'w' => answer_converted(s, out, at, true),
+        b'v' => answer_converted(s, out, at, false),
         _ => at,
     }
 }

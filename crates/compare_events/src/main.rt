@@ -7,6 +7,7 @@
 //   p  the same: `N P QUEUE FREE WAITING HELD ENQUEUE DEQUEUE`; the event does not count
 //   k  the same: the record's persisted copies saved into a buffer, whose room the event's first two bytes give: `N P BUFFER`
 //   b  contents and T: `refused N at P`, or `0 0 RECORD` after a start
+//   e  contents that say the version they are for, with indices of 8 bytes, and T: the same
 //   f  N and T: the same for a fresh machine, with the record's sum
 //   v  N, T, a number and a count: that many events drawn from the number, on one record: `TAKEN ITEMS SUM`
 //   w  the same, by the call on a kept record
@@ -25,6 +26,7 @@ use records::answer_saved;
 use soak::answer_soak;
 use starts::answer_fresh;
 use starts::answer_start;
+use starts::answer_wide_start;
 use stream::next_item;
 use traces::answer_trace;
 
@@ -37,6 +39,7 @@ fn answer_one(mode: u8, s: &[u8], out: &mut [u8; 65536], at: usize) -> usize {
         b'p' => answer_places(s, out, at),
         b'k' => answer_saved(s, out, at),
         b'b' => answer_start(s, out, at),
+        b'e' => answer_wide_start(s, out, at),
         b'f' => answer_fresh(s, out, at),
         b'v' => answer_soak(s, out, at, false),
         b'w' => answer_soak(s, out, at, true),

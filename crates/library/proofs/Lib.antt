@@ -1,4 +1,5 @@
 pub mod Apart
+pub mod Converted
 pub mod Laws
 pub mod Refused
 pub mod Unique

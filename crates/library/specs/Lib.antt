@@ -1,4 +1,5 @@
 pub mod Packed
 pub mod Calls
+pub mod Conversions
 pub mod Texts
 pub mod Judging

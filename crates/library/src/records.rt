@@ -55,7 +55,7 @@ pub extern "C" fn uq_event(bytes: &mut [u8], kind: u8, number: u8, item: u32) ->
     packed_of(b, reply_of(b))
 }
 
-// The persisted image of a record into the buffer's first 10 + 9N bytes.
+// The persisted image of a record into the buffer's first 10 + 9N bytes, in version 2 14 + 13N.
 #[no_mangle]
 pub extern "C" fn uq_save(bytes: &[u8], buffer: &mut [u8]) -> u64
     ensures answers { λ r. ⌜ r ≡ savedBytes (now (bytes .entry)) (length (now (buffer .entry))) ⌝ }

@@ -34,7 +34,7 @@ pub extern "C" fn uq_count_endings(schedule: &[u8]) -> u64
     packed_of(c, count)
 }
 
-// Ending k as an image into the buffer's first 10 + 9N bytes.
+// Ending k as an image into the buffer's first 10 + 9N bytes, in version 2 14 + 13N.
 #[no_mangle]
 pub extern "C" fn uq_ending(schedule: &[u8], k: u64, buffer: &mut [u8]) -> u64
     ensures answers { λ r. ⌜ r ≡ endingGiven (now (schedule .entry)) k (length (now (buffer .entry))) ⌝ }

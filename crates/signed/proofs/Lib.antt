@@ -7,3 +7,4 @@ pub mod Endings
 pub mod There
 pub mod Refused
 pub mod AllRecover
+pub mod Forms

@@ -1,0 +1,20 @@
+-- Two results that a conversion's contract allows, as the source has it, are equal: the answer, and every byte of the lent buffer.
+use Prim.Native.Nat.{ℕ}
+use mathlib.Core.Path.{_≡_, sym, _∙_}
+use mathlib.Core.List.{List}
+use contract.Lifetimes.{Lfts}
+use denote.Ref.{RefT, now}
+use Rattle.answer.proofs.Injective.{told-injective}
+use Rattle.answer.specs.declared.Answer.{Answer}
+use Rattle.converting.proofs.widen.Reads as widening
+use Rattle.converting.proofs.narrow.Reads as narrowing
+
+pub widen-one :
+    (κs : Lfts 2) (s b z z′ : RefT (List ℕ)) (r r′ : Answer) →
+    widening.Post κs (s, (b, tt)) r (s, (z, tt)) → widening.Post κs (s, (b, tt)) r′ (s, (z′, tt)) → (r ≡ r′) × (now z ≡ now z′)
+widen-one κs s b z z′ r r′ p q = (told-injective r r′ (p .0 ∙ sym (q .0)), p .1 ∙ sym (q .1))
+
+pub narrow-one :
+    (κs : Lfts 2) (s b z z′ : RefT (List ℕ)) (r r′ : Answer) →
+    narrowing.Post κs (s, (b, tt)) r (s, (z, tt)) → narrowing.Post κs (s, (b, tt)) r′ (s, (z′, tt)) → (r ≡ r′) × (now z ≡ now z′)
+narrow-one κs s b z z′ r r′ p q = (told-injective r r′ (p .0 ∙ sym (q .0)), p .1 ∙ sym (q .1))

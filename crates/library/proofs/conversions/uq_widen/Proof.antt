@@ -1,0 +1,21 @@
+use mathlib.Core.Path.{_∙_}
+use borrow.Author.Needs.{needs}
+use Rattle.library.proofs.conversions.uq_widen.Statement.{statement}
+use Rattle.library.proofs.conversions.uq_widen.Tie as tie
+
+widen-requires : tie.Need-widen-requires
+widen-requires c κs = search needs
+
+packed-of-requires : tie.Need-packed-of-requires
+packed-of-requires c κs = search needs
+
+same-length : tie.Need-same-length
+same-length c = search needs
+
+returns : tie.Need-returns
+returns c =
+    let e = c .before .before .before .widen .ensures in
+    (c .packed-of .ensures ∙ rw (e .0), e .1)
+
+pub uq-widen-spec : {M : Type 1} → statement M
+uq-widen-spec = tie.close (tie.spec widen-requires packed-of-requires same-length returns)
