@@ -31,7 +31,7 @@ headOf v =
 
 -- the node, and the event, that a line says
 abbrev pub nodeSaid : ℕ → Act → List ℕ
-nodeSaid f a = nodeBytes f (record { linked = a .b % 256; index = a .c; item = a .d })
+nodeSaid f a = nodeBytes f (record { linked = a .b % 256; index = a .c; item = a .d % 4294967296 })
 
 abbrev pub eventSaid : Act → List ℕ
 eventSaid a = a .a % 256 ∷ a .b % 256 ∷ le4 (a .c)
