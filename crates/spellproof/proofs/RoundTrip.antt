@@ -35,16 +35,10 @@ use Rattle.spelling.specs.Writing.{imageForm, headIndex, nodeAt, isBlankNode, f
 use Rattle.spellproof.proofs.Acts as acts
 use Rattle.spellproof.proofs.Parts.{byte2, six, marks-of}
 use Rattle.spellproof.proofs.Runs as runs
+use Rattle.spellproof.proofs.Surveys as saying
 use Rattle.spellproof.proofs.Zeroed as zeroed
 
 -- ---- lines one after the other
-
-survey-also : (i : ℕ) (v : Survey) (a b : List Act) → surveyFrom i v (a ++ b) ≡ surveyFrom (i + length a) (surveyFrom i v a) b
-unfolding surveyFrom
-survey-also i v [] b = ap (λ k. surveyFrom k v b) (sym (add-zero i))
-survey-also i v (x ∷ a) b =
-    let e : suc i + length a ≡ i + suc (length a) = omega arith in
-    survey-also (suc i) (surveyed i v x) a b ∙ ap (λ k. surveyFrom k (surveyFrom (suc i) (surveyed i v x) a) b) e
 
 unfoldable pub reachAll : ℕ → ℕ → List Act → ℕ
 reachAll z p [] = p
@@ -65,32 +59,16 @@ blank-node : (f : ℕ) → known f ≡ true → nodeBytes f (record { linked = 0
 unfolding widthOf nodeSize
 blank-node f h = forms.by-form (λ f. nodeBytes f (record { linked = 0; index = 0; item = 0 }) ≡ replicate (nodeSize f) 0) f h refl refl
 
--- ---- the lines before the nodes
-
-abbrev pub begun : ℕ → ℕ → ℕ → ℕ → ℕ → Survey
-begun f n t x c = record { fault = 0; line = 0; begun = true; settled = true; form = f; n = n; t = t; head = x; count = c }
-
-heads-begin : (f n t x : ℕ) → known f ≡ true → n ≤ 255 → x ≤ topOf f
-    → surveyFrom 0 noSurvey (act 1 n 0 0 0 ∷ act 2 t 0 0 0 ∷ (acts.versionActs f ++ (act 3 x 0 0 0 ∷ []))) ≡ begun f n t x 0
-unfolding surveyFrom surveyed nodesSaid behindNodes versionSaid versionForm indexSaid topOf widthOf
-heads-begin f n t x h l =
-    forms.by-form (λ f. x ≤ topOf f → surveyFrom 0 noSurvey (act 1 n 0 0 0 ∷ act 2 t 0 0 0 ∷ (acts.versionActs f ++ (act 3 x 0 0 0 ∷ []))) ≡ begun f n t x 0) f h
-    (λ p. rw (le-ltb 255 n l, le-ltb 4294967295 x p))
-    (λ p. rw (le-ltb 255 n l, le-ltb 18446744073709551615 x p))
-
 module _ (s : List ℕ) (bs : num.Bytes s) (h : accepted (scheduleAnswer s) ≡ true) where
   abbrev taken : acc.ScheduleTaken s
   taken = acc.schedule-taken s h
-
-  few : nodesIn s ≤ 64
-  few = acc.nodes-most (nodesIn s) (taken .part .nodes)
 
   -- the image's form, and where its nodes stand in the schedule
   abbrev F : ℕ
   F = imageForm s
 
   kf : known F ≡ true
-  kf = taken .part .mark
+  kf = saying.kf s bs h
 
   abbrev at : ℕ → ℕ
   at i = nodeStart F i
@@ -99,98 +77,6 @@ module _ (s : List ℕ) (bs : num.Bytes s) (h : accepted (scheduleAnswer s) ≡ 
   size =
       let z : length (imagePart s) ≡ nodePlace F (nodesIn s) + countIn s * 6 = taken .part .size in
       omega (arith, taken .long, z, length-drop 8 s)
-
-  index-fits : (i : ℕ) → nodeAt s i .index ≤ topOf F
-  index-fits i = acts.index-small F (imagePart s) (nodePlace F i + 1) (acts.part-bytes s bs)
-
-  head-fits : headIndex s ≤ topOf F
-  unfolding headIndex
-  head-fits = acts.index-small F (imagePart s) (headsAt F) (acts.part-bytes s bs)
-
-  -- what the lines up to the events say, and c events
-  abbrev surveys : ℕ → Survey
-  surveys c = begun F (nodesIn s) (threadsIn s) (headIndex s) c
-
-  heads-say : surveyFrom 0 noSurvey (acts.headActs s) ≡ surveys 0
-  heads-say = heads-begin F (nodesIn s) (threadsIn s) (headIndex s) kf (omega (arith, few)) head-fits
-
-  node-says : (k i : ℕ) → i < nodesIn s → surveyFrom k (surveys 0) (acts.nodeActs s i) ≡ surveys 0
-  unfolding surveyFrom surveyed behindNodes indexSaid
-  node-says k i p = by (isBlankNode (nodeAt s i)) refl
-    where
-      by : (b : Bool) → isBlankNode (nodeAt s i) ≡ b → surveyFrom k (surveys 0) (acts.nodeActs s i) ≡ surveys 0
-      by true e = rw e refl
-      by false e = rw (e, le-ltb (topOf F) (nodeAt s i .index) (index-fits i), lt-ltb i (nodesIn s) p) refl
-
-  nodes-say : (k m : ℕ) → m ≤ nodesIn s → surveyFrom k (surveys 0) (joined (acts.nodeActs s) m) ≡ surveys 0
-  unfolding joined surveyFrom
-  nodes-say k zero p = refl
-  nodes-say k (suc m) p =
-      survey-also k (surveys 0) (joined (acts.nodeActs s) m) (acts.nodeActs s m)
-      ∙ ap (λ v. surveyFrom (k + length (joined (acts.nodeActs s) m)) v (acts.nodeActs s m)) (nodes-say k m (omega arith))
-      ∙ node-says (k + length (joined (acts.nodeActs s) m)) m (omega arith)
-
-  one-event : (k u d : ℕ) (a b c : ℕ) → u + d ≤ 65535 → surveyFrom k (surveys u) (act 5 a b c d ∷ []) ≡ surveys (u + d)
-  unfolding surveyFrom surveyed behindNodes eventsSaid indexSaid
-  one-event k u d a b c h = rw (le-ltb (topOf F) 0 (omega arith), le-leb (u + d) 65535 h)
-
-  none-says : (k : ℕ) (v : Survey) → surveyFrom k v [] ≡ v
-  unfolding surveyFrom
-  none-says k v = refl
-
-  leads : (j : ℕ) → follows s j ≡ false → acts.eventActs s j ≡ act 5 (eventIn s j .kind) (eventIn s j .number) (eventIn s j .item) (runEnd s j - j) ∷ []
-  leads j e = rw e
-
-  joins : (j : ℕ) → follows s j ≡ true → acts.eventActs s j ≡ []
-  joins j e = rw e
-
-  next : (j : ℕ) → j < countIn s → runs.upto s (suc j) ≡ runEnd s j
-  next j p = ap (runs.upto s) (sym (add-one j)) ∙ runs.upto-next s j p
-
-  event-says : (k j : ℕ) → j < countIn s → surveyFrom k (surveys (runs.upto s j)) (acts.eventActs s j) ≡ surveys (runs.upto s (suc j))
-  event-says k j p = by (follows s j) refl
-    where
-      by : (b : Bool) → follows s j ≡ b → surveyFrom k (surveys (runs.upto s j)) (acts.eventActs s j) ≡ surveys (runs.upto s (suc j))
-      by true e =
-          ap (surveyFrom k (surveys (runs.upto s j))) (joins j e) ∙ none-says k (surveys (runs.upto s j))
-          ∙ ap surveys (runs.upto-follows s j p e ∙ sym (next j p))
-      by false e =
-          let u = runs.upto-leads s j p e in
-          let q : runs.upto s j + (runEnd s j - j) ≡ runs.upto s (suc j) = omega (arith, u, next j p, runs.run-ge s j) in
-          let l : runs.upto s j + (runEnd s j - j) ≤ 65535 = omega (arith, u, runs.run-ge s j, runs.run-le s j p, taken .count) in
-          ap (surveyFrom k (surveys (runs.upto s j))) (leads j e)
-          ∙ one-event k (runs.upto s j) (runEnd s j - j) (eventIn s j .kind) (eventIn s j .number) (eventIn s j .item) l
-          ∙ ap surveys q
-
-  events-say : (k m : ℕ) → m ≤ countIn s → surveyFrom k (surveys 0) (joined (acts.eventActs s) m) ≡ surveys (runs.upto s m)
-  unfolding joined surveyFrom
-  events-say k zero p = ap surveys (sym (runs.upto-zero s))
-  events-say k (suc m) p =
-      survey-also k (surveys 0) (joined (acts.eventActs s) m) (acts.eventActs s m)
-      ∙ ap (λ v. surveyFrom (k + length (joined (acts.eventActs s) m)) v (acts.eventActs s m)) (events-say k m (omega arith))
-      ∙ event-says (k + length (joined (acts.eventActs s) m)) m (omega arith)
-
-  last-says : (k : ℕ) → surveyFrom k (surveys (countIn s)) (act 0 0 0 0 0 ∷ []) ≡ surveys (countIn s)
-  unfolding surveyFrom surveyed
-  last-says k = refl
-
-  -- the words say N, T, the head index and the event count of the schedule, with no fault
-  pub words-survey : surveyOf (wordsOf s) ≡ surveys (countIn s)
-  unfolding surveyOf
-  words-survey =
-      let a = acts.headActs s in
-      let b = joined (acts.nodeActs s) (nodesIn s) in
-      let c = joined (acts.eventActs s) (countIn s) in
-      let z = act 0 0 0 0 0 ∷ [] in
-      ap (surveyFrom 0 noSurvey) (acts.words-acts s bs few (taken .count))
-      ∙ survey-also 0 noSurvey (a ++ b ++ c) z
-      ∙ ap (λ v. surveyFrom (0 + length (a ++ b ++ c)) v z)
-      (survey-also 0 noSurvey (a ++ b) c
-      ∙ ap (λ v. surveyFrom (0 + length (a ++ b)) v c)
-      (survey-also 0 noSurvey a b ∙ ap (λ v. surveyFrom (0 + length a) v b) heads-say ∙ nodes-say (0 + length a) (nodesIn s) (omega arith))
-      ∙ events-say (0 + length (a ++ b)) (countIn s) (omega arith)
-      ∙ ap surveys (runs.upto-all s))
-      ∙ last-says (0 + length (a ++ b ++ c))
 
   -- ---- the bytes
 
@@ -208,7 +94,7 @@ module _ (s : List ℕ) (bs : num.Bytes s) (h : accepted (scheduleAnswer s) ≡ 
   image-head : headBytes F (nodesIn s % 256) (λ k. headIndex s) ≡ take (headerSize F) (imagePart s)
   unfolding headIndex
   image-head =
-      let n : nodesIn s % 256 ≡ nodesIn s = omega (arith, few) in
+      let n : nodesIn s % 256 ≡ nodesIn s = omega (arith, saying.few s bs h) in
       let e : headsAt F + 0 * widthOf F ≡ headsAt F = omega (arith, zero-mul (widthOf F)) in
       let l : headerSize F ≤ length (imagePart s) = omega (arith, size, taken .long, length-drop 8 s, forms.place-from F (nodesIn s)) in
       ap (λ n. headBytes F n (λ k. headIndex s)) n
@@ -218,14 +104,14 @@ module _ (s : List ℕ) (bs : num.Bytes s) (h : accepted (scheduleAnswer s) ≡ 
       ap (atW (widthOf F) (imagePart s)) (sym (ap (λ k. headsAt F + k * widthOf F) z ∙ e)))
       ∙ again.head-there (imagePart s) (acts.part-bytes s bs) kf l
 
-  head-there : headOf (surveys (countIn s)) ≡ take (at 0) s
+  head-there : headOf (saying.surveys s bs h (countIn s)) ≡ take (at 0) s
   unfolding headOf
   head-there =
       ap₂ (λ (a b : List ℕ). a ++ b) eight image-head
       ∙ sym (take-add 8 (headerSize F) s)
       ∙ ap (λ k. take (8 + k) s) (sym (forms.place-zero F))
 
-  blank-there : blankFile (surveys (countIn s)) ≡ zeroed.file s (at 0)
+  blank-there : blankFile (saying.surveys s bs h (countIn s)) ≡ zeroed.file s (at 0)
   unfolding blankFile
   blank-there =
       let e : nodesIn s * nodeSize F + countIn s * 6 ≡ length s - at 0 = omega (arith, size, forms.place-from F (nodesIn s), forms.place-zero F) in
@@ -362,15 +248,15 @@ module _ (s : List ℕ) (bs : num.Bytes s) (h : accepted (scheduleAnswer s) ≡ 
       by : (b : Bool) → follows s j ≡ b
           → putAll F Z (zeroed.file s (place (runs.upto s j))) (place (runs.upto s j)) (acts.eventActs s j) ≡ zeroed.file s (place (runs.upto s (suc j)))
       by true e =
-          ap (putAll F Z (zeroed.file s (place (runs.upto s j))) (place (runs.upto s j))) (joins j e)
+          ap (putAll F Z (zeroed.file s (place (runs.upto s j))) (place (runs.upto s j))) (saying.joins s bs h j e)
           ∙ none-put (zeroed.file s (place (runs.upto s j))) (place (runs.upto s j))
-          ∙ ap (λ u. zeroed.file s (place u)) (runs.upto-follows s j p e ∙ sym (next j p))
+          ∙ ap (λ u. zeroed.file s (place u)) (runs.upto-follows s j p e ∙ sym (saying.next s bs h j p))
       by false e =
           let g = runs.run-ge s j in
           let l = runs.run-le s j p in
-          let d : place j + (runEnd s j - j) * 6 ≡ place (runs.upto s (suc j)) = omega (arith, next j p, g) in
+          let d : place j + (runEnd s j - j) * 6 ≡ place (runs.upto s (suc j)) = omega (arith, saying.next s bs h j p, g) in
           ap (λ u. putAll F Z (zeroed.file s (place u)) (place u) (acts.eventActs s j)) (runs.upto-leads s j p e)
-          ∙ ap (putAll F Z (zeroed.file s (place j)) (place j)) (leads j e)
+          ∙ ap (putAll F Z (zeroed.file s (place j)) (place j)) (saying.leads s bs h j e)
           ∙ one-put (zeroed.file s (place j)) (place j) (eventIn s j .kind) (eventIn s j .number) (eventIn s j .item) (runEnd s j - j) (omega (arith, g, l))
           ∙ ap (over (zeroed.file s (place j)) (place j)) (run-bytes j (runEnd s j - j) (omega (arith, g)) p)
           ∙ zeroed.put-next s (place j) ((runEnd s j - j) * 6) (omega (arith, size, g, l))
@@ -381,12 +267,12 @@ module _ (s : List ℕ) (bs : num.Bytes s) (h : accepted (scheduleAnswer s) ≡ 
     where
       by : (b : Bool) → follows s j ≡ b → reachAll Z (place (runs.upto s j)) (acts.eventActs s j) ≡ place (runs.upto s (suc j))
       by true e =
-          ap (reachAll Z (place (runs.upto s j))) (joins j e) ∙ none-reach (place (runs.upto s j))
-          ∙ ap place (runs.upto-follows s j p e ∙ sym (next j p))
+          ap (reachAll Z (place (runs.upto s j))) (saying.joins s bs h j e) ∙ none-reach (place (runs.upto s j))
+          ∙ ap place (runs.upto-follows s j p e ∙ sym (saying.next s bs h j p))
       by false e =
-          let d : place j + (runEnd s j - j) * 6 ≡ place (runs.upto s (suc j)) = omega (arith, next j p, runs.run-ge s j) in
+          let d : place j + (runEnd s j - j) * 6 ≡ place (runs.upto s (suc j)) = omega (arith, saying.next s bs h j p, runs.run-ge s j) in
           ap (λ u. reachAll Z (place u) (acts.eventActs s j)) (runs.upto-leads s j p e)
-          ∙ ap (reachAll Z (place j)) (leads j e)
+          ∙ ap (reachAll Z (place j)) (saying.leads s bs h j e)
           ∙ one-reach (place j) (eventIn s j .kind) (eventIn s j .number) (eventIn s j .item) (runEnd s j - j) (omega (arith, runs.run-ge s j, runs.run-le s j p))
           ∙ d
 
@@ -439,8 +325,8 @@ module _ (s : List ℕ) (bs : num.Bytes s) (h : accepted (scheduleAnswer s) ≡ 
       let abc : putAll F Z f p (a ++ b ++ c) ≡ s =
       put-also F Z f p (a ++ b) c ∙ ap₂ (λ x q. putAll F Z x q c) ab r ∙ events-put (countIn s) (omega arith)
       ∙ ap (λ u. zeroed.file s (place u)) (runs.upto-all s) ∙ all-there in
-      ap (λ (v : Survey). putAll (v .form) (sizeOf v) (blankFile v) (eventsPlace v) (actsOf (wordsOf s))) words-survey
-      ∙ ap₂ (λ x l. putAll F Z x p l) blank-there (acts.words-acts s bs few (taken .count))
+      ap (λ (v : Survey). putAll (v .form) (sizeOf v) (blankFile v) (eventsPlace v) (actsOf (wordsOf s))) (saying.words-survey s bs h)
+      ∙ ap₂ (λ x l. putAll F Z x p l) blank-there (acts.words-acts s bs (saying.few s bs h) (taken .count))
       ∙ put-also F Z f p (a ++ b ++ c) z
       ∙ last-puts (putAll F Z f p (a ++ b ++ c)) (reachAll Z p (a ++ b ++ c))
       ∙ abc
@@ -448,4 +334,4 @@ module _ (s : List ℕ) (bs : num.Bytes s) (h : accepted (scheduleAnswer s) ≡ 
   -- and they are taken, where there is room for it
   pub words-taken : (room : ℕ) → length s ≤ room → readAnswer (wordsOf s) room ≡ Taken
   unfolding readAnswer
-  words-taken room q = rw words-survey (rw (le-ltb room (Z) (omega (arith, size))))
+  words-taken room q = rw (saying.words-survey s bs h) (rw (le-ltb room (Z) (omega (arith, size))))

@@ -30,7 +30,7 @@ fn print(b: &[u8], n: usize) {
 }
 
 fn main() {
-    // The longest schedule has 25,170 bytes: what is longer than this is refused as its first part is.
+    // The longest schedule has 25,430 bytes: what is longer than this is refused as its first part is.
     let mut s = [0u8; 32768];
     let got = io::read_full(STDIN_FILENO, &mut s);
     if got < 32768 && !stream::at_end() {
