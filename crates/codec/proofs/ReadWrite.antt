@@ -26,7 +26,7 @@ use Rattle.codec.proofs.Accepted as acc
 use Rattle.image.proofs.ByteLaws as num
 
 -- a node's bytes
-node-there : (f : ℕ) (s : List ℕ) (p : ℕ) → num.Bytes s → known f ≡ true → p + nodeSize f ≤ length s → im.nodeBytes f (im.readContent f s p) ≡ take (nodeSize f) (drop p s)
+pub node-there : (f : ℕ) (s : List ℕ) (p : ℕ) → num.Bytes s → known f ≡ true → p + nodeSize f ≤ length s → im.nodeBytes f (im.readContent f s p) ≡ take (nodeSize f) (drop p s)
 node-there f s p b k h =
     let w = widthOf f in
     let z = size-is f k in
@@ -42,7 +42,7 @@ node-there f s p b k h =
     ∙ all
     ∙ ap (λ (k : ℕ). take k (drop p s)) long
 
-head-there : (s : List ℕ) → num.Bytes s → im.isImage s ≡ true → headerSize (im.formIn s) ≤ length s
+pub head-there : (s : List ℕ) → num.Bytes s → im.isImage s ≡ true → headerSize (im.formIn s) ≤ length s
     → im.headBytes (im.formIn s) (at1 s 5) (λ k. atW (widthOf (im.formIn s)) s (headsAt (im.formIn s) + k * widthOf (im.formIn s))) ≡ take (headerSize (im.formIn s)) s
 unfolding im.marked im.headBytes im.headLines joined tab
 head-there s b m h =
@@ -65,7 +65,7 @@ head-there s b m h =
     ∙ ap (λ (k : ℕ). take k s) (sym z)
 
 -- the indices of the head lines that are read
-heads-there : (f n : ℕ) (x y : ℕ → ℕ) → ((k : ℕ) → k < im.headLines n → x k ≡ y k) → im.headBytes f n x ≡ im.headBytes f n y
+pub heads-there : (f n : ℕ) (x y : ℕ → ℕ) → ((k : ℕ) → k < im.headLines n → x k ≡ y k) → im.headBytes f n x ≡ im.headBytes f n y
 unfolding im.headBytes
 heads-there f n x y h = ap (λ (l : List ℕ). 85 ∷ 81 ∷ 73 ∷ f ∷ 0 ∷ n ∷ l) (tabs.joined-same (λ k. le (widthOf f) (x k)) (λ k. le (widthOf f) (y k)) (im.headLines n) (λ k p. ap (le (widthOf f)) (h k p)))
 

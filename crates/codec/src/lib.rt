@@ -10,9 +10,12 @@ mod sound;
 mod writing;
 
 pub use bytes::form_in;
+pub use bytes::put_index;
+pub use bytes::put_word;
 pub use events::event_at;
 pub use images::image_in;
 pub use images::put_image;
+pub use nodes::put_content;
 pub use opening::check_schedule;
 pub use opening::open_schedule;
 pub use reading::check_part;

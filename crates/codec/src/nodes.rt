@@ -44,7 +44,8 @@ pub fn nodes_in(s: &[u8], form: u8, n: usize) -> [Content; 64]
     nodes
 }
 
-fn put_content(b: &mut [u8], form: u8, at: usize, v: Content)
+// A node's bytes at a place.
+pub fn put_content(b: &mut [u8], form: u8, at: usize, v: Content)
     requires { ⌜ (known form ≡ true) × (at + nodeSize form ≤ length (now b)) ⌝ }
     ensures { λ _. ⌜ now (b .exit) ≡ over (now (b .entry)) at (nodeBytes form v) ⌝ }
 {

@@ -48,7 +48,7 @@ fn put_said(out: &mut [u8; 65536], at: usize, a: Said) -> usize {
 }
 
 fn answer_text(s: &[u8], out: &mut [u8; 65536], at: usize) -> usize {
-    let mut lent = [0u8; 395523];
+    let mut lent = [0u8; 396547];
     let r = desk::read_words(s, &mut lent);
     let a = r.answer;
     let first = put_said(out, at, a);

@@ -9,31 +9,59 @@ use lib.ListN.{length}
 use lib.Dec.{eqb, ltb, leb}
 use Rattle.lists.specs.Find.{pick}
 use Rattle.lists.specs.Tab.{over}
+use Rattle.image.specs.Form.{known, topOf}
 use Rattle.spelling.specs.declared.Act.{Act}
 use Rattle.spelling.specs.declared.Survey.{Survey}
 use Rattle.spelling.specs.declared.Said.{Said}
 use Rattle.spelling.specs.declared.Said.the-variants.{Taken, Strange, Large, Many, Room}
 use Rattle.spelling.specs.Lines.{actsOf}
 use Rattle.spelling.specs.Layout.{sizeOf, eventsPlace}
-use Rattle.spelling.specs.Reading.{noSurvey, faulted, withNodes, withThreads, withHead, withEvents, surveyed, surveyFrom, surveyOf, lastFrom, blankFile, putAll, fileOf, tells, isTaken, readAnswer, readBytes, readWritten}
+use Rattle.spelling.specs.Reading.{noSurvey, faulted, withNodes, withThreads, withHead, withNode, withForm, withEvents, versionForm, indexSaid, nodesSaid, versionSaid, eventsSaid, behindNodes, surveyed, surveyFrom, surveyOf, lastFrom, blankFile, putAll, fileOf, tells, isTaken, readAnswer, readBytes, readWritten}
 use Rattle.wordreader.proofs.PutLaws as puts
 
--- ---- N and the event count stay within their bounds
+-- ---- the form stays known, N and the event count stay within their bounds
 
 abbrev pub Within : Survey → Type 0
-Within v = (v .n ≤ 255) × (v .count ≤ 65535)
+Within v = (known (v .form) ≡ true) × (v .n ≤ 255) × (v .count ≤ 65535)
 
 either : (b : Bool) (x y : Survey) → Within x → Within y → Within (pick b x y)
 either true x y p q = p
 either false x y p q = q
 
-nodes-within : (v : Survey) (x i : ℕ) → Within v → (b : Bool) → ltb 255 x ≡ b → Within (pick b (faulted v 2 i) (withNodes v x))
-nodes-within v x i w true e = w
-nodes-within v x i w false e = (ltb-false 255 x e, w .1)
+nodes-within : (i : ℕ) (v : Survey) (x : ℕ) → Within v → Within (nodesSaid i v x)
+unfolding nodesSaid
+nodes-within i v x w = either (v .begun) (faulted v 1 i) _ w (by (ltb 255 x) refl)
+  where
+    by : (b : Bool) → ltb 255 x ≡ b → Within (pick b (faulted v 2 i) (withNodes v x))
+    by true e = w
+    by false e = (w .0, ltb-false 255 x e, w .2)
 
-events-within : (v : Survey) (d i : ℕ) → Within v → (b : Bool) → leb (v .count + d) 65535 ≡ b → Within (pick b (withEvents v d) (faulted v 3 i))
-events-within v d i w true e = (w .0, leb-true (v .count + d) 65535 e)
-events-within v d i w false e = w
+events-within : (i : ℕ) (v : Survey) (x : ℕ) → Within v → Within (eventsSaid i v x)
+unfolding eventsSaid
+events-within i v x w = by (leb (v .count + x) 65535) refl
+  where
+    by : (b : Bool) → leb (v .count + x) 65535 ≡ b → Within (pick b (withEvents v x) (faulted v 3 i))
+    by true e = (w .0, w .1, leb-true (v .count + x) 65535 e)
+    by false e = w
+
+-- a version that is known names a form that is
+version-within : (i : ℕ) (v : Survey) (x : ℕ) → Within v → Within (versionSaid i v x)
+unfolding versionSaid versionForm known
+version-within i v x w = either (v .settled) (faulted v 1 i) _ w (by (eqb x 1) (eqb x 2))
+  where
+    by : (a b : Bool) → Within (pick (eqb (pick a 1 (pick b 2 0)) 0) (faulted v 1 i) (withForm v (pick a 1 (pick b 2 0))))
+    by true b = (refl, w .1, w .2)
+    by false true = (refl, w .1, w .2)
+    by false false = w
+
+behind-within : (i : ℕ) (v : Survey) (a : Act) → Within v → Within (behindNodes i v a)
+unfolding behindNodes
+behind-within i v a w =
+    either (eqb (a .tag) 2) (withThreads v (a .a)) _ w
+    (either (eqb (a .tag) 3) (withHead v (a .a)) _ w
+    (either (eqb (a .tag) 4) _ _ (either (ltb (a .a) (v .n)) (withNode v) (faulted v 2 i) w w)
+    (either (eqb (a .tag) 5) _ _ (events-within i v (a .d) w)
+    (either (eqb (a .tag) 6) _ (faulted v 1 i) (version-within i v (a .a) w) w))))
 
 surveyed-within : (i : ℕ) (v : Survey) (a : Act) → Within v → Within (surveyed i v a)
 unfolding surveyed
@@ -41,12 +69,9 @@ surveyed-within i v a w =
     either (not (eqb (v .fault) 0)) v _ w
     (either (eqb (a .tag) 0) v _ w
     (either (eqb (a .tag) 9) (faulted v 2 i) _ w
-    (either (eqb (a .tag) 1) _ _ (either (v .begun) (faulted v 1 i) _ w (nodes-within v (a .a) i w (ltb 255 (a .a)) refl))
-    (either (not (v .begun)) (faulted v 1 i) _ w
-    (either (eqb (a .tag) 2) (withThreads v (a .a)) _ w
-    (either (eqb (a .tag) 3) (withHead v (a .a)) _ w
-    (either (eqb (a .tag) 4) _ _ (either (ltb (a .a) (v .n)) v (faulted v 2 i) w w)
-    (either (eqb (a .tag) 5) _ (faulted v 1 i) (events-within v (a .d) i w (leb (v .count + a .d) 65535) refl) w))))))))
+    (either (ltb (topOf (v .form)) (indexSaid a)) (faulted v 2 i) _ w
+    (either (eqb (a .tag) 1) _ _ (nodes-within i v (a .a) w)
+    (either (v .begun) _ (faulted v 1 i) (behind-within i v a w) w)))))
 
 from-within : (i : ℕ) (v : Survey) (l : List Act) → Within v → Within (surveyFrom i v l)
 unfolding surveyFrom
@@ -54,8 +79,8 @@ from-within i v [] w = w
 from-within i v (a ∷ l) w = from-within (suc i) (surveyed i v a) l (surveyed-within i v a w)
 
 pub survey-within : (t : List ℕ) → Within (surveyOf t)
-unfolding surveyOf
-survey-within t = from-within 0 noSurvey (actsOf t) (omega arith, omega arith)
+unfolding surveyOf known
+survey-within t = from-within 0 noSurvey (actsOf t) (refl, omega arith, omega arith)
 
 -- ---- the answer
 
@@ -102,9 +127,9 @@ pub written-some : (t b : List ℕ) → isTaken (readAnswer t (length b)) ≡ tr
 unfolding readWritten
 written-some t b h = rw h
 
-file-of : (t : List ℕ) (v : Survey) → v ≡ surveyOf t → putAll (sizeOf v) (blankFile v) (eventsPlace v) (actsOf t) ≡ fileOf t
+file-of : (t : List ℕ) (v : Survey) → v ≡ surveyOf t → putAll (v .form) (sizeOf v) (blankFile v) (eventsPlace v) (actsOf t) ≡ fileOf t
 unfolding fileOf
-file-of t v e = ap (λ (v : Survey). putAll (sizeOf v) (blankFile v) (eventsPlace v) (actsOf t)) e
+file-of t v e = ap (λ (v : Survey). putAll (v .form) (sizeOf v) (blankFile v) (eventsPlace v) (actsOf t)) e
 
 module _ (t b : List ℕ) where
   abbrev pub Gives : Said → ℕ → List ℕ → Type 0
@@ -119,14 +144,14 @@ module _ (t b : List ℕ) where
       none-written : isTaken (readAnswer t (length b)) ≡ false → b ≡ readWritten t b
       none-written h = sym (written-none t b h)
 
-  pub gives-some : (v : Survey) (m x : List ℕ) → v ≡ surveyOf t → readAnswer t (length b) ≡ Taken → sizeOf v ≤ length b
-      → x ≡ over b 0 (blankFile v) → m ≡ putAll (sizeOf v) x (eventsPlace v) (actsOf t) → Gives Taken (sizeOf v) m
-  gives-some v m x e h l p q = (
+  pub gives-some : (v : Survey) (m x : List ℕ) → v ≡ surveyOf t → known (v .form) ≡ true → readAnswer t (length b) ≡ Taken → sizeOf v ≤ length b
+      → x ≡ over b 0 (blankFile v) → m ≡ putAll (v .form) (sizeOf v) x (eventsPlace v) (actsOf t) → Gives Taken (sizeOf v) m
+  gives-some v m x e f h l p q = (
     ap tells (sym h),
     (
       ap sizeOf e ∙ sym (bytes-some t (length b) (ap isTaken h)),
-      q ∙ ap (λ y. putAll (sizeOf v) y (eventsPlace v) (actsOf t)) p
-          ∙ puts.all-front b (sizeOf v) (blankFile v) (eventsPlace v) (actsOf t) (puts.length-blank v) l
+      q ∙ ap (λ y. putAll (v .form) (sizeOf v) y (eventsPlace v) (actsOf t)) p
+          ∙ puts.all-front b (v .form) f (sizeOf v) (blankFile v) (eventsPlace v) (actsOf t) (puts.length-blank v f) l
           ∙ ap (over b 0) (file-of t v e)
           ∙ sym (written-some t b (ap isTaken h)),
     ),

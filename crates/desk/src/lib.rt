@@ -11,8 +11,7 @@ use spelling::Said;
 use spelling::Spelled;
 use spelling::Spelt;
 use wordreader::layout::EVENT;
-use wordreader::layout::HEADER;
-use wordreader::layout::NODE;
+use wordreader::layout::node_start;
 use wordreader::put_blank;
 use wordreader::put_text;
 use wordreader::survey_of;
@@ -90,15 +89,14 @@ pub fn read_words(t: &[u8], b: &mut [u8]) -> Spelt
     if !v.begun {
         return not_spelt(Said::Strange(s.last));
     }
-    let n = v.n as usize;
     let count = v.count as usize;
-    let from = HEADER + n * NODE;
+    let from = node_start(v.form, v.n as usize);
     let z = from + count * EVENT;
     if b.len() < z {
         return not_spelt(Said::Room);
     }
     put_blank(b, v);
-    put_text(t, b, z, from);
+    put_text(t, b, v.form, z, from);
     Spelt {
         answer: Said::Taken,
         bytes: z,

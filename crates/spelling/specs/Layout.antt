@@ -1,37 +1,37 @@
--- The one place where words meet the layout of a schedule whose image is of version 1: where its parts stand and how long they are.
+-- The one place where words meet the layout of a schedule: where its parts stand, how long they are, and their bytes, by the form of its image.
 use Prim.Native.Nat.{ℕ, _+_, _*_, _/_, _%_}
-use mathlib.Core.List.{List, _∷_, _++_}
+use mathlib.Core.List.{List, _∷_}
 use Rattle.image.specs.Bytes.{le4}
+use Rattle.image.specs.Form.{nodeSize}
+use Rattle.image.specs.Layout.{nodePlace, nodeBytes, headBytes}
 use Rattle.spelling.specs.declared.Act.{Act}
 use Rattle.spelling.specs.declared.Survey.{Survey}
-
--- the schedule's eight bytes and the image's ten stand before node 0; bytes of a node, of an event
-abbrev pub header : ℕ
-header = 18
-
-abbrev pub nodeSpan : ℕ
-nodeSpan = 9
 
 abbrev pub eventSpan : ℕ
 eventSpan = 6
 
-abbrev pub nodeStart : ℕ → ℕ
-nodeStart i = header + i * nodeSpan
+-- the schedule's eight bytes stand before the image
+abbrev pub nodeStart : ℕ → ℕ → ℕ
+nodeStart f i = 8 + nodePlace f i
 
 abbrev pub eventsPlace : Survey → ℕ
-eventsPlace v = nodeStart (v .n)
+eventsPlace v = nodeStart (v .form) (v .n)
 
 abbrev pub sizeOf : Survey → ℕ
 sizeOf v = eventsPlace v + v .count * eventSpan
 
+-- the bytes of all nodes and events
+abbrev pub restOf : Survey → ℕ
+restOf v = v .n * nodeSize (v .form) + v .count * eventSpan
+
 -- what stands before node 0
 unfoldable pub headOf : Survey → List ℕ
 headOf v =
-    85 ∷ 81 ∷ 83 ∷ 1 ∷ 0 ∷ v .t % 256 ∷ v .count % 256 ∷ v .count / 256 % 256 ∷ 85 ∷ 81 ∷ 73 ∷ 1 ∷ 0 ∷ v .n % 256 ∷ le4 (v .head)
+    85 ∷ 81 ∷ 83 ∷ 1 ∷ 0 ∷ v .t % 256 ∷ v .count % 256 ∷ v .count / 256 % 256 ∷ headBytes (v .form) (v .n % 256) (λ k. v .head)
 
 -- the node, and the event, that a line says
-abbrev pub nodeSaid : Act → List ℕ
-nodeSaid a = a .b % 256 ∷ (le4 (a .c) ++ le4 (a .d))
+abbrev pub nodeSaid : ℕ → Act → List ℕ
+nodeSaid f a = nodeBytes f (record { linked = a .b % 256; index = a .c; item = a .d % 4294967296 })
 
 abbrev pub eventSaid : Act → List ℕ
 eventSaid a = a .a % 256 ∷ a .b % 256 ∷ le4 (a .c)

@@ -57,9 +57,9 @@ saidBy shape u v w x y =
     pick (eqb shape 0) (act 0 0 0 0 0)
     (pick (eqb shape (firstIs "nodes" 2)) (graded (grade v wide) (act 1 (v .value) 0 0 0))
     (pick (eqb shape (firstIs "threads" 2)) (graded (grade v byte) (act 2 (v .value) 0 0 0))
-    (pick (eqb shape (firstIs "head" 2)) (graded (grade v word) (act 3 (v .value) 0 0 0))
+    (pick (eqb shape (firstIs "head" 2)) (graded (grade v wide) (act 3 (v .value) 0 0 0))
     (pick (eqb shape (firstIs "node" 5))
-    (graded (worse (worse (grade v wide) (grade w byte)) (worse (grade x word) (grade y word))) (act 4 (v .value) (w .value) (x .value) (y .value)))
+    (graded (worse (worse (grade v wide) (grade w byte)) (worse (grade x wide) (grade y word))) (act 4 (v .value) (w .value) (x .value) (y .value)))
     (pick (eqb shape (secondIs "enqueue" 3)) (graded (worse (grade u byte) (grade w word)) (act 5 1 (u .value) (w .value) 1))
     (pick (eqb shape (secondIs "dequeue" 2)) (graded (grade u byte) (act 5 2 (u .value) 0 1))
     (pick (eqb shape (secondIs "step" 2)) (graded (grade u byte) (act 5 3 (u .value) 0 1))
@@ -68,7 +68,8 @@ saidBy shape u v w x y =
     (pick (eqb shape (firstIs "crash" 1)) (act 5 5 0 0 1)
     (pick (eqb shape (firstIs "event" 4))
     (graded (worse (grade v byte) (worse (grade w byte) (grade x word))) (act 5 (v .value) (w .value) (x .value) 1))
-    (act 8 0 0 0 0))))))))))))
+    (pick (eqb shape (firstIs "version" 2)) (graded (grade v wide) (act 6 (v .value) 0 0 0))
+    (act 8 0 0 0 0)))))))))))))
 
 abbrev pub wordAt : Line → ℕ → Word
 wordAt l i = getD (l .words) i noWord

@@ -6,47 +6,80 @@ use lib.ListN.{length, replicate}
 use lib.Dec.{eqb, ltb, leb}
 use Rattle.lists.specs.Find.{pick}
 use Rattle.lists.specs.Tab.{joined, over}
+use Rattle.image.specs.Form.{topOf, nodeSize}
 use Rattle.spelling.specs.declared.Act.{Act}
 use Rattle.spelling.specs.declared.Survey.{Survey}
 use Rattle.spelling.specs.declared.Said.{Said}
 use Rattle.spelling.specs.declared.Said.the-variants.{Taken, Strange, Large, Many, Room}
 use Rattle.spelling.specs.Lines.{actsOf}
-use Rattle.spelling.specs.Layout.{nodeSpan, eventSpan, nodeStart, eventsPlace, sizeOf, headOf, nodeSaid, eventSaid}
+use Rattle.spelling.specs.Layout.{eventSpan, nodeStart, eventsPlace, sizeOf, restOf, headOf, nodeSaid, eventSaid}
 
 -- ---- what the lines say together
 
--- T is 1 and the head index 0 where no line says it
+-- the form of the image that a version's number names: "UQI" version 1 or 2; 0 where it names none
+unfoldable pub versionForm : ℕ → ℕ
+versionForm x = pick (eqb x 1) 1 (pick (eqb x 2) 2 0)
+
+-- T is 1, the head index 0 and the version 1 where no line says it
 abbrev pub noSurvey : Survey
-noSurvey = record { fault = 0; line = 0; begun = false; n = 0; t = 1; head = 0; count = 0 }
+noSurvey = record { fault = 0; line = 0; begun = false; settled = false; form = 1; n = 0; t = 1; head = 0; count = 0 }
 
 abbrev pub faulted : Survey → ℕ → ℕ → Survey
-faulted v f i = record { fault = f; line = i; begun = v .begun; n = v .n; t = v .t; head = v .head; count = v .count }
+faulted v f i = record { fault = f; line = i; begun = v .begun; settled = v .settled; form = v .form; n = v .n; t = v .t; head = v .head; count = v .count }
 
 abbrev pub withNodes : Survey → ℕ → Survey
-withNodes v x = record { fault = v .fault; line = v .line; begun = true; n = x; t = v .t; head = v .head; count = v .count }
+withNodes v x = record { fault = v .fault; line = v .line; begun = true; settled = v .settled; form = v .form; n = x; t = v .t; head = v .head; count = v .count }
 
 abbrev pub withThreads : Survey → ℕ → Survey
-withThreads v x = record { fault = v .fault; line = v .line; begun = v .begun; n = v .n; t = x; head = v .head; count = v .count }
+withThreads v x = record { fault = v .fault; line = v .line; begun = v .begun; settled = v .settled; form = v .form; n = v .n; t = x; head = v .head; count = v .count }
 
+-- what an index may be is known from here on
 abbrev pub withHead : Survey → ℕ → Survey
-withHead v x = record { fault = v .fault; line = v .line; begun = v .begun; n = v .n; t = v .t; head = x; count = v .count }
+withHead v x = record { fault = v .fault; line = v .line; begun = v .begun; settled = true; form = v .form; n = v .n; t = v .t; head = x; count = v .count }
+
+abbrev pub withNode : Survey → Survey
+withNode v = record { fault = v .fault; line = v .line; begun = v .begun; settled = true; form = v .form; n = v .n; t = v .t; head = v .head; count = v .count }
+
+abbrev pub withForm : Survey → ℕ → Survey
+withForm v x = record { fault = v .fault; line = v .line; begun = v .begun; settled = true; form = x; n = v .n; t = v .t; head = v .head; count = v .count }
 
 abbrev pub withEvents : Survey → ℕ → Survey
-withEvents v x = record { fault = v .fault; line = v .line; begun = v .begun; n = v .n; t = v .t; head = v .head; count = v .count + x }
+withEvents v x = record { fault = v .fault; line = v .line; begun = v .begun; settled = v .settled; form = v .form; n = v .n; t = v .t; head = v .head; count = v .count + x }
 
--- line i says a: `nodes` stands once and before all others, a node's number is below N, there are at most 65,535 events. The first fault stays
+-- the index that a line says; 0 where it says none
+unfoldable pub indexSaid : Act → ℕ
+indexSaid a = pick (eqb (a .tag) 3) (a .a) (pick (eqb (a .tag) 4) (a .c) 0)
+
+-- `nodes`: it stands once
+unfoldable pub nodesSaid : ℕ → Survey → ℕ → Survey
+nodesSaid i v x = pick (v .begun) (faulted v 1 i) (pick (ltb 255 x) (faulted v 2 i) (withNodes v x))
+
+-- `version`: one that is known, once, and before every index
+unfoldable pub versionSaid : ℕ → Survey → ℕ → Survey
+versionSaid i v x = pick (v .settled) (faulted v 1 i) (pick (eqb (versionForm x) 0) (faulted v 1 i) (withForm v (versionForm x)))
+
+-- x events more: there are at most 65,535
+unfoldable pub eventsSaid : ℕ → Survey → ℕ → Survey
+eventsSaid i v x = pick (leb (v .count + x) 65535) (withEvents v x) (faulted v 3 i)
+
+-- a line behind `nodes`: a node's number is below N
+unfoldable pub behindNodes : ℕ → Survey → Act → Survey
+behindNodes i v a =
+    pick (eqb (a .tag) 2) (withThreads v (a .a))
+    (pick (eqb (a .tag) 3) (withHead v (a .a))
+    (pick (eqb (a .tag) 4) (pick (ltb (a .a) (v .n)) (withNode v) (faulted v 2 i))
+    (pick (eqb (a .tag) 5) (eventsSaid i v (a .d))
+    (pick (eqb (a .tag) 6) (versionSaid i v (a .a)) (faulted v 1 i)))))
+
+-- line i says a: its index fits the form, `nodes` stands before all others. The first fault stays
 unfoldable pub surveyed : ℕ → Survey → Act → Survey
 surveyed i v a =
     pick (not (eqb (v .fault) 0)) v
     (pick (eqb (a .tag) 0) v
     (pick (eqb (a .tag) 9) (faulted v 2 i)
-    (pick (eqb (a .tag) 1) (pick (v .begun) (faulted v 1 i) (pick (ltb 255 (a .a)) (faulted v 2 i) (withNodes v (a .a))))
-    (pick (not (v .begun)) (faulted v 1 i)
-    (pick (eqb (a .tag) 2) (withThreads v (a .a))
-    (pick (eqb (a .tag) 3) (withHead v (a .a))
-    (pick (eqb (a .tag) 4) (pick (ltb (a .a) (v .n)) v (faulted v 2 i))
-    (pick (eqb (a .tag) 5) (pick (leb (v .count + a .d) 65535) (withEvents v (a .d)) (faulted v 3 i))
-    (faulted v 1 i)))))))))
+    (pick (ltb (topOf (v .form)) (indexSaid a)) (faulted v 2 i)
+    (pick (eqb (a .tag) 1) (nodesSaid i v (a .a))
+    (pick (v .begun) (behindNodes i v a) (faulted v 1 i))))))
 
 unfoldable pub surveyFrom : ℕ → Survey → List Act → Survey
 surveyFrom i v [] = v
@@ -65,28 +98,28 @@ surveyOf t = surveyFrom 0 noSurvey (actsOf t)
 
 -- the schedule with zeros for its nodes and events
 unfoldable pub blankFile : Survey → List ℕ
-blankFile v = headOf v ++ replicate (v .n * nodeSpan + v .count * eventSpan) 0
+blankFile v = headOf v ++ replicate (restOf v) 0
 
 unfoldable pub times : ℕ → List ℕ → List ℕ
 times d l = joined (λ i. l) d
 
--- what a line puts into a file of z bytes whose events reach up to p; and up to where they then reach. What does not fit is not put: where no line
--- is at fault everything fits
-unfoldable pub putBy : ℕ → List ℕ → ℕ → Act → List ℕ
-putBy z x p a =
-    pick (eqb (a .tag) 4) (pick (leb (nodeStart (a .a) + nodeSpan) z) (over x (nodeStart (a .a)) (nodeSaid a)) x)
+-- what a line puts into a file of z bytes, with an image in form f, whose events reach up to p; and up to where they then reach. What does not fit
+-- is not put: where no line is at fault everything fits
+unfoldable pub putBy : ℕ → ℕ → List ℕ → ℕ → Act → List ℕ
+putBy f z x p a =
+    pick (eqb (a .tag) 4) (pick (leb (nodeStart f (a .a) + nodeSize f) z) (over x (nodeStart f (a .a)) (nodeSaid f a)) x)
     (pick (eqb (a .tag) 5) (pick (leb (p + a .d * eventSpan) z) (over x p (times (a .d) (eventSaid a))) x) x)
 
 unfoldable pub reachBy : ℕ → ℕ → Act → ℕ
 reachBy z p a = pick (eqb (a .tag) 5) (pick (leb (p + a .d * eventSpan) z) (p + a .d * eventSpan) p) p
 
-unfoldable pub putAll : ℕ → List ℕ → ℕ → List Act → List ℕ
-putAll z x p [] = x
-putAll z x p (a ∷ l) = putAll z (putBy z x p a) (reachBy z p a) l
+unfoldable pub putAll : ℕ → ℕ → List ℕ → ℕ → List Act → List ℕ
+putAll f z x p [] = x
+putAll f z x p (a ∷ l) = putAll f z (putBy f z x p a) (reachBy z p a) l
 
 -- the schedule that a text says
 unfoldable pub fileOf : List ℕ → List ℕ
-fileOf t = let v = surveyOf t in putAll (sizeOf v) (blankFile v) (eventsPlace v) (actsOf t)
+fileOf t = let v = surveyOf t in putAll (v .form) (sizeOf v) (blankFile v) (eventsPlace v) (actsOf t)
 
 -- ---- answers
 

@@ -1,4 +1,5 @@
--- A schedule in words. Entry by entry: N, T, head index, each node, each event. An all-zero node has none, nor has a step like the one before it.
+-- A schedule in words. Entry by entry: N, T, version and head index, each node, each event. Version 1 has no line, nor has an all-zero node, nor a
+-- step like the one before it.
 use Prim.Native.Nat.{ℕ, suc, _+_, _-_}
 use mathlib.Core.Bool.{Bool, true, false, not}
 use mathlib.Core.List.{List, [], _++_}
@@ -10,8 +11,9 @@ use Rattle.lists.specs.Text.{text, decimal}
 use Rattle.answer.specs.Answers.{check, accepted}
 use Rattle.answer.specs.declared.Answer.{Answer}
 use Rattle.answer.specs.declared.Answer.the-variants.{Taken, NoEnding, Room}
-use Rattle.image.specs.Bytes.{at4}
-use Rattle.image.specs.Layout.{nodePlace, readContent}
+use Rattle.image.specs.Bytes.{atW}
+use Rattle.image.specs.Form.{widthOf, headsAt}
+use Rattle.image.specs.Layout.{formIn, nodePlace, readContent}
 use Rattle.image.specs.declared.Content.{Content}
 use Rattle.machine.specs.declared.Event.{Event}
 use Rattle.schedule.specs.Layout.{threadsIn, countIn, nodesIn, imagePart, eventIn, scheduleAnswer}
@@ -19,6 +21,13 @@ use Rattle.page.specs.Printed.{newline}
 use Rattle.page.specs.Filled.{linesOn, fitting}
 
 -- ---- lines
+
+-- the version of "UQI" is its form's number
+unfoldable pub versionLine : ℕ → List ℕ
+versionLine f = pick (eqb f 1) [] (text "version " ++ decimal f ++ newline)
+
+unfoldable pub headLine : ℕ → ℕ → List ℕ
+headLine f x = versionLine f ++ (text "head " ++ decimal x ++ newline)
 
 unfoldable pub nodeLine : ℕ → Content → List ℕ
 nodeLine i v = text "node " ++ decimal i ++ text " " ++ decimal (v .linked) ++ text " " ++ decimal (v .index) ++ text " " ++ decimal (v .item) ++ newline
@@ -35,8 +44,14 @@ eventLine e r =
 
 -- ---- entries
 
+abbrev pub imageForm : List ℕ → ℕ
+imageForm s = formIn (imagePart s)
+
+unfoldable pub headIndex : List ℕ → ℕ
+headIndex s = atW (widthOf (imageForm s)) (imagePart s) (headsAt (imageForm s))
+
 abbrev pub nodeAt : List ℕ → ℕ → Content
-nodeAt s i = readContent (imagePart s) (nodePlace i)
+nodeAt s i = readContent (imageForm s) (imagePart s) (nodePlace (imageForm s) i)
 
 abbrev pub isBlankNode : Content → Bool
 isBlankNode v = both (eqb (v .linked) 0) (both (eqb (v .index) 0) (eqb (v .item) 0))
@@ -62,7 +77,7 @@ unfoldable pub entryOf : List ℕ → ℕ → List ℕ
 entryOf s k =
     pick (eqb k 0) (text "nodes " ++ decimal (nodesIn s) ++ newline)
     (pick (eqb k 1) (text "threads " ++ decimal (threadsIn s) ++ newline)
-    (pick (eqb k 2) (text "head " ++ decimal (at4 (imagePart s) 6) ++ newline)
+    (pick (eqb k 2) (headLine (imageForm s) (headIndex s))
     (pick (ltb k (3 + nodesIn s)) (nodeEntry s (k - 3)) (eventEntry s (k - 3 - nodesIn s)))))
 
 abbrev pub entriesIn : List ℕ → ℕ

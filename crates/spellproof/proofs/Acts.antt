@@ -14,20 +14,23 @@ use Rattle.lists.specs.Tab.{joined}
 use Rattle.lists.specs.Text.{text, decimal}
 use Rattle.lists.proofs.BoolLaws.{both-true, no-way, false-true}
 use Rattle.answer.specs.Answers.{accepted}
-use Rattle.image.specs.Bytes.{at4}
+use Rattle.image.specs.Bytes.{at4, atW}
+use Rattle.image.specs.Form.{widthOf, topOf, headsAt}
+use Rattle.image.specs.Layout.{marked, formIn, nodePlace}
 use Rattle.image.specs.declared.Content.{Content}
 use Rattle.machine.specs.declared.Event.{Event}
 use Rattle.machine.specs.Start.{threadsFit}
-use Rattle.schedule.specs.Layout.{threadsIn, countIn, nodesIn, imagePart, eventIn, scheduleAnswer}
+use Rattle.schedule.specs.Layout.{threadsIn, countIn, nodesIn, imagePart, eventIn, eventPlace, scheduleAnswer}
 use Rattle.page.specs.Filled.{linesOn}
 use Rattle.page.specs.Printed.{newline}
 use Rattle.printing.proofs.Fittings as fits
 use Rattle.image.proofs.ByteLaws as num
+use Rattle.image.proofs.FormLaws as forms
 use Rattle.codec.proofs.Accepted as acc
 use Rattle.spelling.specs.declared.Act.{Act}
 use Rattle.spelling.specs.Words.{noLine, ended, wordOn, keyOf, grown, letterMore}
 use Rattle.spelling.specs.Lines.{act, keyIn, shapeOf, saidBy, said, actsFrom, actsOf}
-use Rattle.spelling.specs.Writing.{nodeLine, eventLine, nodeAt, isBlankNode, nodeEntry, isStep, follows, runEnd, eventEntry, entryOf, entriesIn, wordsOf}
+use Rattle.spelling.specs.Writing.{versionLine, headLine, nodeLine, eventLine, imageForm, headIndex, nodeAt, isBlankNode, nodeEntry, isStep, follows, runEnd, eventEntry, entryOf, entriesIn, wordsOf}
 use Rattle.spellproof.proofs.ReadBack as back
 use Rattle.spellproof.proofs.Runs as runs
 
@@ -118,6 +121,14 @@ module _ (e : Event) (r : ℕ) (hk : e .kind ≤ 255) (hn : e .number ≤ 255) (
 pub small4 : (s : List ℕ) (i : ℕ) → num.Bytes s → at4 s i ≤ 4294967295
 small4 s i b = let h : at4 s i < 4294967296 = num.at-small 4 s i b in omega (arith, h)
 
+-- an index is within its form's width, and so within 64 bits
+pub index-small : (f : ℕ) (s : List ℕ) (i : ℕ) → num.Bytes s → atW (widthOf f) s i ≤ topOf f
+unfolding topOf
+index-small f s i b = omega (arith, num.at-small (widthOf f) s i b)
+
+pub index-wide : (f : ℕ) (s : List ℕ) (i : ℕ) → num.Bytes s → atW (widthOf f) s i ≤ 18446744073709551615
+index-wide f s i b = omega (arith, index-small f s i b, forms.top-small f)
+
 pub part-bytes : (s : List ℕ) → num.Bytes s → num.Bytes (imagePart s)
 part-bytes s b i = omega (arith, getD-drop 8 s i 0, b (8 + i))
 
@@ -127,10 +138,34 @@ nodeActs s i = pick (isBlankNode (nodeAt s i)) [] (act 4 i (nodeAt s i .linked) 
 abbrev pub eventActs : List ℕ → ℕ → List Act
 eventActs s j = pick (follows s j) [] (act 5 (eventIn s j .kind) (eventIn s j .number) (eventIn s j .item) (runEnd s j - j) ∷ [])
 
+abbrev pub versionActs : ℕ → List Act
+versionActs f = pick (eqb f 1) [] (act 6 f 0 0 0 ∷ [])
+
 abbrev pub headActs : List ℕ → List Act
-headActs s = act 1 (nodesIn s) 0 0 0 ∷ act 2 (threadsIn s) 0 0 0 ∷ act 3 (at4 (imagePart s) 6) 0 0 0 ∷ []
+headActs s = act 1 (nodesIn s) 0 0 0 ∷ act 2 (threadsIn s) 0 0 0 ∷ (versionActs (imageForm s) ++ (act 3 (headIndex s) 0 0 0 ∷ []))
+
+version-says : (f : ℕ) → f ≤ 255 → Says (versionLine f) (versionActs f)
+unfolding versionLine
+version-says f h = by (eqb f 1)
+  where
+    by : (b : Bool) → Says (pick b [] (text "version " ++ decimal f ++ newline)) (pick b [] (act 6 f 0 0 0 ∷ []))
+    by true = says-none
+    by false = record { on = λ r. back.version-said f r (omega arith) }
 
 module _ (s : List ℕ) (bs : num.Bytes s) (few : nodesIn s ≤ 64) (short : countIn s ≤ 4096) where
+  pub form-small : imageForm s ≤ 255
+  unfolding formIn
+  form-small = by (marked 85 81 73 1 (imagePart s)) (marked 85 81 73 2 (imagePart s))
+    where
+      by : (a b : Bool) → pick a 1 (pick b 2 0) ≤ 255
+      by true b = omega arith
+      by false true = omega arith
+      by false false = omega arith
+
+  pub head-wide : headIndex s ≤ 18446744073709551615
+  unfolding headIndex
+  head-wide = index-wide (imageForm s) (imagePart s) (headsAt (imageForm s)) (part-bytes s bs)
+
   node-says : (i : ℕ) → i < nodesIn s → Says (nodeEntry s i) (nodeActs s i)
   unfolding nodeEntry nodeLine
   node-says i h = by (isBlankNode (nodeAt s i)) refl
@@ -140,8 +175,11 @@ module _ (s : List ℕ) (bs : num.Bytes s) (few : nodesIn s ≤ 64) (short : cou
       by false e =
           rw e
           (record {
-            on = λ r. back.node-said i (nodeAt s i .linked) (nodeAt s i .index) (nodeAt s i .item) r (omega arith) (omega (arith, part-bytes s bs (10 + i * 9)))
-                (small4 (imagePart s) (10 + i * 9 + 1) (part-bytes s bs)) (small4 (imagePart s) (10 + i * 9 + 5) (part-bytes s bs));
+            on = λ r.
+                let f = imageForm s in
+                let p = nodePlace f i in
+                back.node-said i (nodeAt s i .linked) (nodeAt s i .index) (nodeAt s i .item) r (omega arith) (omega (arith, part-bytes s bs p))
+                (index-wide f (imagePart s) (p + 1) (part-bytes s bs)) (small4 (imagePart s) (p + 1 + widthOf f) (part-bytes s bs));
           })
 
   event-says : (j : ℕ) → j < countIn s → Says (eventEntry s j) (eventActs s j)
@@ -152,8 +190,8 @@ module _ (s : List ℕ) (bs : num.Bytes s) (few : nodesIn s ≤ 64) (short : cou
       by true e = rw e says-none
       by false e =
           rw e
-          (line-says (eventIn s j) (runEnd s j - j) (omega (arith, bs (8 + (10 + nodesIn s * 9) + j * 6))) (omega (arith, bs (8 + (10 + nodesIn s * 9) + j * 6 + 1)))
-          (small4 s (8 + (10 + nodesIn s * 9) + j * 6 + 2) bs) (omega (arith, runs.run-le s j h)) (λ q. omega (arith, runs.run-one s j h q)))
+          (line-says (eventIn s j) (runEnd s j - j) (omega (arith, bs (eventPlace (imageForm s) (nodesIn s) j))) (omega (arith, bs (eventPlace (imageForm s) (nodesIn s) j + 1)))
+          (small4 s (eventPlace (imageForm s) (nodesIn s) j + 2) bs) (omega (arith, runs.run-le s j h)) (λ q. omega (arith, runs.run-one s j h q)))
 
   nodes-at : (i : ℕ) → i < nodesIn s → entryOf s (3 + i) ≡ nodeEntry s i
   unfolding entryOf
@@ -176,8 +214,9 @@ module _ (s : List ℕ) (bs : num.Bytes s) (few : nodesIn s ≤ 64) (short : cou
   says-1 : Says (text "threads " ++ decimal (threadsIn s) ++ newline) (act 2 (threadsIn s) 0 0 0 ∷ [])
   says-1 = record { on = λ r. back.threads-said (threadsIn s) r (omega (arith, bs 5)) }
 
-  says-2 : Says (text "head " ++ decimal (at4 (imagePart s) 6) ++ newline) (act 3 (at4 (imagePart s) 6) 0 0 0 ∷ [])
-  says-2 = record { on = λ r. back.head-said (at4 (imagePart s) 6) r (small4 (imagePart s) 6 (part-bytes s bs)) }
+  says-2 : Says (headLine (imageForm s) (headIndex s)) (versionActs (imageForm s) ++ (act 3 (headIndex s) 0 0 0 ∷ []))
+  unfolding headLine
+  says-2 = says-also (version-says (imageForm s) form-small) (record { on = λ r. back.head-said (headIndex s) r head-wide })
 
   first-says : Says (linesOn (entryOf s) 0 3) (headActs s)
   unfolding linesOn joined entryOf

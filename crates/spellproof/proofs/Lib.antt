@@ -4,6 +4,7 @@ pub mod Feeding
 pub mod ReadBack
 pub mod Acts
 pub mod Parts
+pub mod Surveys
 pub mod RoundTrip
 pub mod Keys
 pub mod Whole

@@ -1,8 +1,8 @@
--- Bytes of a schedule: numbers, an event, a node and a mark, as the bytes that they stand in.
+-- Bytes of a schedule: numbers, an event and its mark, as the bytes that they stand in.
 use Prim.Native.Nat.{ℕ, _+_, _/_, _%_, _≤_}
-use mathlib.Core.Path.{_≡_, sym, ap, ap₂, _∙_}
+use mathlib.Core.Path.{_≡_, sym, ap, _∙_}
 use mathlib.Core.Bool.{true}
-use mathlib.Core.List.{List, [], _∷_, _++_}
+use mathlib.Core.List.{List, [], _∷_}
 use native.Mathlib.Omega.{arith}
 use native.Mathlib.Nat.{add-zero, add-assoc}
 use borrow.Author.Tests.{eqb-true}
@@ -21,7 +21,7 @@ byte4 s i b l = num.le-at 4 s i b l ∙ num.four-at s i l
 pub byte2 : (s : List ℕ) (i : ℕ) → num.Bytes s → i + 2 ≤ length s → at2 s i % 256 ∷ at2 s i / 256 % 256 ∷ [] ≡ getD s i 0 ∷ getD s (i + 1) 0 ∷ []
 byte2 s i b l = num.le-at 2 s i b l ∙ num.two-at s i l
 
--- six bytes of an event, nine of a node
+-- six bytes of an event
 pub six : (s : List ℕ) (p : ℕ) → num.Bytes s → p + 6 ≤ length s → getD s p 0 % 256 ∷ getD s (p + 1) 0 % 256 ∷ le4 (at4 s (p + 2)) ≡ take 6 (drop p s)
 unfolding tab
 six s p b h =
@@ -31,14 +31,6 @@ six s p b h =
     let y : getD s (p + 1) 0 % 256 ≡ getD s (p + 1) 0 = omega (arith, b (p + 1)) in
     rw (x, y) (ap (λ (u : List ℕ). getD s p 0 ∷ getD s (p + 1) 0 ∷ u) (byte4 s (p + 2) b (omega arith)) ∙ simp add-assoc (sym t))
 
-pub nine : (s : List ℕ) (p : ℕ) → num.Bytes s → p + 9 ≤ length s → getD s p 0 % 256 ∷ (le4 (at4 s (p + 1)) ++ le4 (at4 s (p + 5))) ≡ take 9 (drop p s)
-unfolding tab
-nine s p b h =
-    let t : take 9 (drop p s) ≡ getD s p 0 ∷ getD s (p + 1) 0 ∷ getD s (p + 2) 0 ∷ getD s (p + 3) 0 ∷ getD s (p + 4) 0 ∷ getD s (p + 5) 0 ∷ getD s (p + 6) 0 ∷ getD s (p + 7) 0 ∷ getD s (p + 8) 0 ∷ [] =
-    tabs.take-drop-tab s 0 p 9 h ∙ simp add-zero in
-    let x : getD s p 0 % 256 ≡ getD s p 0 = omega (arith, b p) in
-    rw x (ap₂ (λ (u v : List ℕ). getD s p 0 ∷ (u ++ v)) (byte4 s (p + 1) b (omega arith)) (byte4 s (p + 5) b (omega arith)) ∙ simp add-assoc (sym t))
-
 -- a mark's five bytes
 pub record Marks (s : List ℕ) (c : ℕ) : Type 0 where
   pub m0 : getD s 0 0 ≡ 85
@@ -47,7 +39,7 @@ pub record Marks (s : List ℕ) (c : ℕ) : Type 0 where
   pub m3 : getD s 3 0 ≡ 1
   pub m4 : getD s 4 0 ≡ 0
 
-pub marks-of : (s : List ℕ) (c : ℕ) → marked 85 81 c s ≡ true → Marks s c
+pub marks-of : (s : List ℕ) (c : ℕ) → marked 85 81 c 1 s ≡ true → Marks s c
 unfolding marked
 marks-of s c m =
     let a = both-true (eqb (getD s 0 0) 85) _ m in

@@ -47,6 +47,10 @@ head-word : Feeds (noLine) (text "head ") (line 1 (begins (letters (keyOf "head"
 unfolding text digitMore letterMore grown ended lineByte wordOn keyOf actsFrom
 head-word = record { on = λ r. refl }
 
+version-word : Feeds (noLine) (text "version ") (line 1 (begins (letters (keyOf "version"))) noWord)
+unfolding text digitMore letterMore grown ended lineByte wordOn keyOf actsFrom
+version-word = record { on = λ r. refl }
+
 node-word : Feeds (noLine) (text "node ") (line 1 (begins (letters (keyOf "node"))) noWord)
 unfolding text digitMore letterMore grown ended lineByte wordOn keyOf actsFrom
 node-word = record { on = λ r. refl }
@@ -101,12 +105,17 @@ pub threads-said : (x : ℕ) (r : List ℕ) → x ≤ 255
 unfolding said ended keyIn shapeOf saidBy keyOf wordOn text grown letterMore graded
 threads-said x r h = ends (also threads-word (numbered 1 (begins (letters (keyOf "threads"))) x (omega arith))) r ∙ rw (graded-good x 255 h)
 
-pub head-said : (x : ℕ) (r : List ℕ) → x ≤ 4294967295
+pub version-said : (x : ℕ) (r : List ℕ) → x ≤ 18446744073709551615
+    → actsFrom noLine (text "version " ++ decimal x ++ newline ++ r) ≡ act 6 x 0 0 0 ∷ actsFrom noLine r
+unfolding said ended keyIn shapeOf saidBy keyOf wordOn text grown letterMore graded
+version-said x r h = ends (also version-word (numbered 1 (begins (letters (keyOf "version"))) x (omega arith))) r ∙ rw (graded-good x 18446744073709551615 h)
+
+pub head-said : (x : ℕ) (r : List ℕ) → x ≤ 18446744073709551615
     → actsFrom noLine (text "head " ++ decimal x ++ newline ++ r) ≡ act 3 x 0 0 0 ∷ actsFrom noLine r
 unfolding said ended keyIn shapeOf saidBy keyOf wordOn text grown letterMore graded
-head-said x r h = ends (also head-word (numbered 1 (begins (letters (keyOf "head"))) x (omega arith))) r ∙ rw (graded-good x 4294967295 h)
+head-said x r h = ends (also head-word (numbered 1 (begins (letters (keyOf "head"))) x (omega arith))) r ∙ rw (graded-good x 18446744073709551615 h)
 
-pub node-said : (i l x v : ℕ) (r : List ℕ) → i ≤ 255 → l ≤ 255 → x ≤ 4294967295 → v ≤ 4294967295
+pub node-said : (i l x v : ℕ) (r : List ℕ) → i ≤ 255 → l ≤ 255 → x ≤ 18446744073709551615 → v ≤ 4294967295
     → actsFrom noLine (text "node " ++ decimal i ++ text " " ++ decimal l ++ text " " ++ decimal x ++ text " " ++ decimal v ++ newline ++ r) ≡ act 4 i l x v ∷ actsFrom noLine r
 unfolding said ended keyIn shapeOf saidBy keyOf wordOn text grown letterMore graded
 node-said i l x v r hi hl hx hv =
@@ -115,7 +124,7 @@ node-said i l x v r hi hl hx hv =
     (numbered 2 (two u (number i)) l (omega arith))) (blank-2 u (number i) l))
     (numbered 3 (three u (number i) (number l)) x (omega arith))) (blank-3 u (number i) (number l) x))
     (numbered 4 (four u (number i) (number l) (number x)) v (omega arith))) r
-    ∙ rw (graded-good i 18446744073709551615 (omega arith), graded-good l 255 hl, graded-good x 4294967295 hx, graded-good v 4294967295 hv)
+    ∙ rw (graded-good i 18446744073709551615 (omega arith), graded-good l 255 hl, graded-good x 18446744073709551615 hx, graded-good v 4294967295 hv)
 
 pub event-said : (k n v : ℕ) (r : List ℕ) → k ≤ 255 → n ≤ 255 → v ≤ 4294967295
     → actsFrom noLine (text "event " ++ decimal k ++ text " " ++ decimal n ++ text " " ++ decimal v ++ newline ++ r) ≡ act 5 k n v 1 ∷ actsFrom noLine r

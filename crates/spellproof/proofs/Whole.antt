@@ -11,7 +11,7 @@ use Rattle.lists.specs.Find.{pick, both}
 use Rattle.lists.specs.Text.{text, decimal}
 use Rattle.lists.proofs.BoolLaws.{no-of}
 use Rattle.answer.specs.Answers.{accepted}
-use Rattle.image.specs.Bytes.{at4}
+use Rattle.image.specs.Form.{widthOf}
 use Rattle.image.specs.Layout.{nodePlace}
 use Rattle.image.specs.declared.Content.{Content}
 use Rattle.image.proofs.ByteLaws as num
@@ -21,14 +21,33 @@ use Rattle.page.specs.Filled.{fitting}
 use Rattle.page.specs.Printed.{newline}
 use Rattle.printing.proofs.Short as short
 use Rattle.codec.proofs.Accepted as acc
-use Rattle.spelling.specs.Writing.{nodeLine, eventLine, nodeAt, isBlankNode, nodeEntry, follows, runEnd, eventEntry, entryOf, entriesIn}
+use Rattle.spelling.specs.Writing.{versionLine, headLine, nodeLine, eventLine, imageForm, headIndex, nodeAt, isBlankNode, nodeEntry, follows, runEnd, eventEntry, entryOf, entriesIn}
 use Rattle.spellproof.proofs.Acts as acts
 use Rattle.spellproof.proofs.Runs as runs
 
 ten : (n : ℕ) → n ≤ 4294967295 → length (decimal n) ≤ 10
 ten n h = short.decimal-short 10 n (omega arith) (omega arith)
 
+twenty : (n : ℕ) → n ≤ 18446744073709551615 → length (decimal n) ≤ 20
+twenty n h = short.decimal-short 20 n (omega arith) (omega arith)
+
 -- ---- lines
+
+either : (b : Bool) (x y : List ℕ) → length x ≤ 64 → length y ≤ 64 → length (pick b x y) ≤ 64
+either true x y p q = p
+either false x y p q = q
+
+version-short : (f : ℕ) → f ≤ 255 → length (versionLine f) ≤ 20
+unfolding versionLine text
+version-short f h = by (eqb f 1)
+  where
+    by : (b : Bool) → length (pick b [] (text "version " ++ decimal f ++ newline)) ≤ 20
+    by true = omega arith
+    by false = simp length-append (omega (arith, ten f (omega arith)))
+
+head-short : (f x : ℕ) → f ≤ 255 → x ≤ 18446744073709551615 → length (headLine f x) ≤ 64
+unfolding headLine text
+head-short f x p h = simp length-append (omega (arith, version-short f p, twenty x h))
 
 one-short : (a c : List ℕ) (n : ℕ) → length a ≤ 12 → length c ≤ 12 → n ≤ 4294967295 → length (a ++ decimal n ++ c) ≤ 64
 one-short a c n p q h = simp length-append (omega (arith, ten n h))
@@ -39,13 +58,9 @@ two-short a c n m p q h g = simp length-append (omega (arith, ten n h, ten m g))
 last-short : (a c : List ℕ) (n : ℕ) → length a ≤ 12 → length c ≤ 12 → n ≤ 4294967295 → length (decimal n ++ a ++ c) ≤ 64
 last-short a c n p q h = simp length-append (omega (arith, ten n h))
 
-node-short : (i : ℕ) (v : Content) → i ≤ 4294967295 → v .linked ≤ 4294967295 → v .index ≤ 4294967295 → v .item ≤ 4294967295 → length (nodeLine i v) ≤ 64
+node-short : (i : ℕ) (v : Content) → i ≤ 4294967295 → v .linked ≤ 4294967295 → v .index ≤ 18446744073709551615 → v .item ≤ 4294967295 → length (nodeLine i v) ≤ 64
 unfolding nodeLine text
-node-short i v p q r h = simp length-append (omega (arith, ten i p, ten (v .linked) q, ten (v .index) r, ten (v .item) h))
-
-either : (b : Bool) (x y : List ℕ) → length x ≤ 64 → length y ≤ 64 → length (pick b x y) ≤ 64
-either true x y p q = p
-either false x y p q = q
+node-short i v p q r h = simp length-append (omega (arith, ten i p, ten (v .linked) q, twenty (v .index) r, ten (v .item) h))
 
 module _ (e : Event) (r : ℕ) (k : e .kind ≤ 4294967295) (n : e .number ≤ 4294967295) (i : e .item ≤ 4294967295) (c : r ≤ 4294967295) where
   abbrev plain : List ℕ
@@ -73,14 +88,15 @@ module _ (s : List ℕ) (bs : num.Bytes s) (few : nodesIn s ≤ 64) (many : coun
   node-entry : (i : ℕ) → i ≤ 5000 → length (nodeEntry s i) ≤ 64
   unfolding nodeEntry
   node-entry i p =
-      let at = nodePlace i in
+      let f = imageForm s in
+      let at = nodePlace f i in
       either (isBlankNode (nodeAt s i)) [] (nodeLine i (nodeAt s i)) (omega arith)
-      (node-short i (nodeAt s i) (omega arith) (omega (arith, part at)) (acts.small4 (imagePart s) (at + 1) part) (acts.small4 (imagePart s) (at + 5) part))
+      (node-short i (nodeAt s i) (omega arith) (omega (arith, part at)) (acts.index-wide f (imagePart s) (at + 1) part) (acts.small4 (imagePart s) (at + 1 + widthOf f) part))
 
   event-entry : (j : ℕ) → j < countIn s → length (eventEntry s j) ≤ 64
   unfolding eventEntry
   event-entry j p =
-      let at = eventPlace (nodesIn s) j in
+      let at = eventPlace (imageForm s) (nodesIn s) j in
       either (follows s j) [] (eventLine (eventIn s j) (runEnd s j - j)) (omega arith)
       (event-short (eventIn s j) (runEnd s j - j) (omega (arith, bs at)) (omega (arith, bs (at + 1))) (acts.small4 s (at + 2) bs) (omega (arith, runs.run-le s j p)))
 
@@ -88,7 +104,7 @@ module _ (s : List ℕ) (bs : num.Bytes s) (few : nodesIn s ≤ 64) (many : coun
   from3 k = pick (ltb k (3 + nodesIn s)) (nodeEntry s (k - 3)) (eventEntry s (k - 3 - nodesIn s))
 
   abbrev from2 : ℕ → List ℕ
-  from2 k = pick (eqb k 2) (text "head " ++ decimal (at4 (imagePart s) 6) ++ newline) (from3 k)
+  from2 k = pick (eqb k 2) (headLine (imageForm s) (headIndex s)) (from3 k)
 
   abbrev from1 : ℕ → List ℕ
   from1 k = pick (eqb k 1) (text "threads " ++ decimal (threadsIn s) ++ newline) (from2 k)
@@ -102,7 +118,8 @@ module _ (s : List ℕ) (bs : num.Bytes s) (few : nodesIn s ≤ 64) (many : coun
   entry-short k p =
       either (eqb k 0) (text "nodes " ++ decimal (nodesIn s) ++ newline) (from1 k) (one-short (text "nodes ") newline (nodesIn s) (omega arith) (omega arith) (omega arith))
       (either (eqb k 1) (text "threads " ++ decimal (threadsIn s) ++ newline) (from2 k) (one-short (text "threads ") newline (threadsIn s) (omega arith) (omega arith) (omega (arith, bs 5)))
-      (either (eqb k 2) (text "head " ++ decimal (at4 (imagePart s) 6) ++ newline) (from3 k) (one-short (text "head ") newline (at4 (imagePart s) 6) (omega arith) (omega arith) (acts.small4 (imagePart s) 6 part))
+      (either (eqb k 2) (headLine (imageForm s) (headIndex s)) (from3 k)
+      (head-short (imageForm s) (headIndex s) (acts.form-small s bs few many) (acts.head-wide s bs few many))
       (third k p (ltb k (3 + nodesIn s)) refl)))
 
 -- ---- the whole text

@@ -51,8 +51,8 @@ fn answer_into(t: &[u8], b: &mut [u8]) {
 }
 
 fn answer(t: &[u8]) {
-    // 255 nodes and 65,535 events have no more.
-    let mut b = [0u8; 395523];
+    // 255 nodes of version 2 and 65,535 events have no more.
+    let mut b = [0u8; 396547];
     answer_into(t, &mut b);
 }
 
@@ -81,7 +81,7 @@ fn read_and_answer(t: &mut [u8]) {
 }
 
 fn main() {
-    // The longest text that `words` writes has 104,473 bytes.
+    // The longest text that `words` writes has 105,133 bytes.
     let mut t = [0u8; 131072];
     read_and_answer(&mut t);
 }

@@ -1,10 +1,12 @@
 -- Bytes put one behind the other, and a file in the front of a longer buffer.
-use Prim.Native.Nat.{ℕ, zero, suc, _+_, _*_, _%_, _/_, _≤_, _<_}
-use mathlib.Core.Path.{_≡_, refl, sym, ap, _∙_}
+use Prim.Native.Nat.{ℕ, zero, suc, _+_, _-_, _*_, _%_, _/_, _≤_, _<_}
+use mathlib.Core.Path.{_≡_, refl, sym, ap, ap₂, _∙_}
 use mathlib.Core.Bool.{Bool, true, false}
+use mathlib.Core.Logic.{_≢_}
 use mathlib.Core.List.{List, [], _∷_, _++_}
 use native.Mathlib.Omega.{arith}
 use native.Mathlib.Numerals.{add-one, add-two}
+use native.Mathlib.Nat.{zero-add}
 use native.Mathlib.Decide.{decLt, ℕ-discrete}
 use borrow.Author.Tests.{eq-eqb, ne-eqb, le-leb, lt-leb}
 use lib.ListN.{length, set, drop, replicate, length-append, length-set, length-replicate, replicate-append-replicate}
@@ -12,12 +14,16 @@ use lib.Seq.{set-append-left, sets, length-sets}
 use Rattle.lists.specs.Find.{pick}
 use Rattle.lists.specs.Tab.{joined, over}
 use Rattle.lists.proofs.TabLaws as tabs
-use Rattle.image.specs.Bytes.{le4}
+use Rattle.image.specs.Bytes.{le, le4}
+use Rattle.image.specs.Form.{known, widthOf, nodeSize}
+use Rattle.image.specs.Layout.{headLines, headBytes}
+use Rattle.image.proofs.FormLaws as forms
+use Rattle.codec.proofs.Laws as image
 use Rattle.codec.proofs.ReadWrite as again
 use Rattle.printing.proofs.Written as written
 use Rattle.spelling.specs.declared.Act.{Act}
 use Rattle.spelling.specs.declared.Survey.{Survey}
-use Rattle.spelling.specs.Layout.{headOf, nodeSaid, eventSaid}
+use Rattle.spelling.specs.Layout.{nodeStart, sizeOf, restOf, headOf, nodeSaid, eventSaid}
 use Rattle.spelling.specs.Reading.{blankFile, times, putBy, reachBy, putAll}
 
 pub event-over : (b : List ℕ) (at x y z : ℕ) → over (set (set b at x) (at + 1) y) (at + 2) (le4 z) ≡ over b at (x ∷ y ∷ le4 z)
@@ -26,9 +32,40 @@ event-over b at x y z = simp (add-one, add-two)
 
 pub header-over : (b : List ℕ) (v : Survey)
     → over (over (over (over (over (over (over b 0 (85 ∷ 81 ∷ 83 ∷ 1 ∷ 0 ∷ [])) 5 (v .t % 256 ∷ [])) 6 (v .count % 256 ∷ [])) 7 (v .count / 256 % 256 ∷ []))
-    8 (85 ∷ 81 ∷ 73 ∷ 1 ∷ 0 ∷ [])) 13 (v .n % 256 ∷ [])) 14 (le4 (v .head)) ≡ over b 0 (headOf v)
-unfolding over headOf
+    8 (85 ∷ 81 ∷ 73 ∷ v .form ∷ 0 ∷ [])) 13 (v .n % 256 ∷ [])) 14 (le (widthOf (v .form)) (v .head)) ≡ over b 0 (headOf v)
+unfolding over headOf headBytes headLines joined
 header-over b v = refl
+
+pub length-head : (v : Survey) → known (v .form) ≡ true → length (headOf v) ≡ nodeStart (v .form) 0
+unfolding headOf
+length-head v h = omega (arith, image.head-length (v .form) (v .n % 256) (λ k. v .head) h, forms.place-zero (v .form))
+
+-- ---- the places of nodes, in a schedule
+
+pub start-wide : (f i : ℕ) → f ≡ 2 → 22 + i * 13 ≡ nodeStart f i
+start-wide f i e = omega (arith, forms.place-wide f i e)
+
+pub start-plain : (f i : ℕ) → known f ≡ true → f ≢ 2 → 18 + i * 9 ≡ nodeStart f i
+start-plain f i h e = omega (arith, forms.place-plain f i h e)
+
+pub span-wide : (f : ℕ) → f ≡ 2 → 13 ≡ nodeSize f
+unfolding nodeSize widthOf
+span-wide f e = rw e
+
+pub span-plain : (f : ℕ) → known f ≡ true → f ≢ 2 → 9 ≡ nodeSize f
+unfolding nodeSize widthOf
+span-plain f h e = rw (forms.form-plain f h e)
+
+pub start-big : (f i : ℕ) → known f ≡ true → 65535 < i → 500000 < nodeStart f i
+unfolding known
+start-big f i h l = forms.by-form (λ f. 500000 < nodeStart f i) f h (omega (arith, forms.place-plain 1 i refl (λ e. omega arith))) (omega (arith, forms.place-wide 2 i refl))
+
+pub start-most : (f i : ℕ) → known f ≡ true → i ≤ 65535 → nodeStart f i ≤ 851977
+unfolding known
+start-most f i h l = forms.by-form (λ f. nodeStart f i ≤ 851977) f h (omega (arith, forms.place-plain 1 i refl (λ e. omega arith))) (omega (arith, forms.place-wide 2 i refl))
+
+pub span-most : (f : ℕ) → known f ≡ true → nodeSize f ≤ 13
+span-most f h = omega (arith, forms.size-is f h, forms.width-few f h .1)
 
 -- ---- an event d times
 
@@ -63,30 +100,41 @@ zeros-next b at i =
     ∙ written.byte-more b at (replicate i 0) 0
     ∙ ap (over b at) (replicate-append-replicate {A = ℕ} i 1 0)
 
-pub blank-over : (b : List ℕ) (v : Survey) → over (over b 0 (headOf v)) 18 (replicate (v .n * 9 + v .count * 6) 0) ≡ over b 0 (blankFile v)
-unfolding blankFile headOf
-blank-over b v = tabs.over-append b 0 (headOf v) (replicate (v .n * 9 + v .count * 6) 0)
+rest-is : (v : Survey) → nodeStart (v .form) (v .n) + v .count * 6 - nodeStart (v .form) 0 ≡ restOf v
+rest-is v = omega (arith, forms.place-from (v .form) (v .n), forms.place-zero (v .form))
+
+pub blank-over : (b : List ℕ) (v : Survey) → known (v .form) ≡ true
+    → over (over b 0 (headOf v)) (nodeStart (v .form) 0) (replicate (nodeStart (v .form) (v .n) + v .count * 6 - nodeStart (v .form) 0) 0) ≡ over b 0 (blankFile v)
+unfolding blankFile
+blank-over b v h =
+    ap₂ (λ k n. over (over b 0 (headOf v)) k (replicate n 0)) (sym (length-head v h) ∙ sym (zero-add (length (headOf v)))) (rest-is v)
+    ∙ tabs.over-append b 0 (headOf v) (replicate (restOf v) 0)
 
 -- ---- what a line puts
 
-module _ (z : ℕ) (x : List ℕ) (p : ℕ) (a : Act) where
-  pub put-node : a .tag ≡ 4 → 18 + a .a * 9 + 9 ≤ z → putBy z x p a ≡ over x (18 + a .a * 9) (nodeSaid a)
+module _ (f z : ℕ) (x : List ℕ) (p : ℕ) (a : Act) where
+  pub put-node : a .tag ≡ 4 → nodeStart f (a .a) + nodeSize f ≤ z → putBy f z x p a ≡ over x (nodeStart f (a .a)) (nodeSaid f a)
   unfolding putBy
-  put-node k h = rw (eq-eqb (a .tag) 4 k, le-leb (18 + a .a * 9 + 9) z h)
+  put-node k h = rw (eq-eqb (a .tag) 4 k, le-leb (nodeStart f (a .a) + nodeSize f) z h)
 
-  pub put-no-node : a .tag ≡ 4 → z < 18 + a .a * 9 + 9 → putBy z x p a ≡ x
+  pub put-no-node : a .tag ≡ 4 → z < nodeStart f (a .a) + nodeSize f → putBy f z x p a ≡ x
   unfolding putBy
-  put-no-node k h = rw (eq-eqb (a .tag) 4 k, lt-leb (18 + a .a * 9 + 9) z h)
+  put-no-node k h = rw (eq-eqb (a .tag) 4 k, lt-leb (nodeStart f (a .a) + nodeSize f) z h)
 
-  pub put-events : a .tag ≡ 5 → p + a .d * 6 ≤ z → putBy z x p a ≡ over x p (times (a .d) (eventSaid a))
+  -- a node does not go by the events
+  pub put-any-node : a .tag ≡ 4 → putBy f z x 0 a ≡ putBy f z x p a
+  unfolding putBy
+  put-any-node k = rw (eq-eqb (a .tag) 4 k)
+
+  pub put-events : a .tag ≡ 5 → p + a .d * 6 ≤ z → putBy f z x p a ≡ over x p (times (a .d) (eventSaid a))
   unfolding putBy
   put-events k h = rw (ne-eqb (a .tag) 4 (λ q. omega arith), eq-eqb (a .tag) 5 k, le-leb (p + a .d * 6) z h)
 
-  pub put-no-events : a .tag ≡ 5 → z < p + a .d * 6 → putBy z x p a ≡ x
+  pub put-no-events : a .tag ≡ 5 → z < p + a .d * 6 → putBy f z x p a ≡ x
   unfolding putBy
   put-no-events k h = rw (ne-eqb (a .tag) 4 (λ q. omega arith), eq-eqb (a .tag) 5 k, lt-leb (p + a .d * 6) z h)
 
-  pub put-nothing : (a .tag ≡ 4 → ⊥) → (a .tag ≡ 5 → ⊥) → putBy z x p a ≡ x
+  pub put-nothing : (a .tag ≡ 4 → ⊥) → (a .tag ≡ 5 → ⊥) → putBy f z x p a ≡ x
   unfolding putBy
   put-nothing k h = rw (ne-eqb (a .tag) 4 k, ne-eqb (a .tag) 5 h)
 
@@ -120,37 +168,51 @@ module _ (b : List ℕ) where
       ap (λ l. sets l (suc i) y) (front-set x i v h (omega arith))
       ∙ front-over y (set x i v) (suc i) (omega (arith, length-set x i v)) (omega (arith, length-set x i v))
 
-  pub length-put : (z : ℕ) (x : List ℕ) (p : ℕ) (a : Act) → length (putBy z x p a) ≡ length x
-  length-put z x p a = by (decLt z (18 + a .a * 9 + 9)) (decLt z (p + a .d * 6)) (ℕ-discrete (a .tag) 4) (ℕ-discrete (a .tag) 5)
+  pub length-put : (f z : ℕ) (x : List ℕ) (p : ℕ) (a : Act) → length (putBy f z x p a) ≡ length x
+  length-put f z x p a = by (decLt z (nodeStart f (a .a) + nodeSize f)) (decLt z (p + a .d * 6)) (ℕ-discrete (a .tag) 4) (ℕ-discrete (a .tag) 5)
     where
-      by : Dec (z < 18 + a .a * 9 + 9) → Dec (z < p + a .d * 6) → Dec (a .tag ≡ 4) → Dec (a .tag ≡ 5) → length (putBy z x p a) ≡ length x
-      by (yes l) e (yes k) f = ap length (put-no-node z x p a k l)
-      by (no l) e (yes k) f = ap length (put-node z x p a k (omega arith)) ∙ tabs.length-over x (18 + a .a * 9) (nodeSaid a)
-      by d (yes l) (no k) (yes f) = ap length (put-no-events z x p a f l)
-      by d (no l) (no k) (yes f) = ap length (put-events z x p a f (omega arith)) ∙ tabs.length-over x p (times (a .d) (eventSaid a))
-      by d e (no k) (no f) = ap length (put-nothing z x p a k f)
+      by : Dec (z < nodeStart f (a .a) + nodeSize f) → Dec (z < p + a .d * 6) → Dec (a .tag ≡ 4) → Dec (a .tag ≡ 5) → length (putBy f z x p a) ≡ length x
+      by (yes l) e (yes k) g = ap length (put-no-node f z x p a k l)
+      by (no l) e (yes k) g = ap length (put-node f z x p a k (omega arith)) ∙ tabs.length-over x (nodeStart f (a .a)) (nodeSaid f a)
+      by d (yes l) (no k) (yes g) = ap length (put-no-events f z x p a g l)
+      by d (no l) (no k) (yes g) = ap length (put-events f z x p a g (omega arith)) ∙ tabs.length-over x p (times (a .d) (eventSaid a))
+      by d e (no k) (no g) = ap length (put-nothing f z x p a k g)
 
-  put-front : (z : ℕ) (x : List ℕ) (p : ℕ) (a : Act) → length x ≡ z → z ≤ length b → putBy z (over b 0 x) p a ≡ over b 0 (putBy z x p a)
-  put-front z x p a h g = by (decLt z (18 + a .a * 9 + 9)) (decLt z (p + a .d * 6)) (ℕ-discrete (a .tag) 4) (ℕ-discrete (a .tag) 5)
+module _ (b : List ℕ) (f : ℕ) (known-f : known f ≡ true) where
+  length-node : (a : Act) → length (nodeSaid f a) ≡ nodeSize f
+  length-node a = image.node-length f (record { linked = a .b % 256; index = a .c; item = a .d % 4294967296 }) known-f
+
+  put-front : (z : ℕ) (x : List ℕ) (p : ℕ) (a : Act) → length x ≡ z → z ≤ length b → putBy f z (over b 0 x) p a ≡ over b 0 (putBy f z x p a)
+  put-front z x p a h g = by (decLt z (nodeStart f (a .a) + nodeSize f)) (decLt z (p + a .d * 6)) (ℕ-discrete (a .tag) 4) (ℕ-discrete (a .tag) 5)
     where
-      by : Dec (z < 18 + a .a * 9 + 9) → Dec (z < p + a .d * 6) → Dec (a .tag ≡ 4) → Dec (a .tag ≡ 5) → putBy z (over b 0 x) p a ≡ over b 0 (putBy z x p a)
-      by (yes l) e (yes k) f = put-no-node z (over b 0 x) p a k l ∙ ap (over b 0) (sym (put-no-node z x p a k l))
-      by (no l) e (yes k) f =
-          let q : 18 + a .a * 9 + 9 ≤ z = omega arith in
-          put-node z (over b 0 x) p a k q ∙ front-over (nodeSaid a) x (18 + a .a * 9) (omega arith) (omega arith) ∙ ap (over b 0) (sym (put-node z x p a k q))
-      by d (yes l) (no k) (yes f) = put-no-events z (over b 0 x) p a f l ∙ ap (over b 0) (sym (put-no-events z x p a f l))
-      by d (no l) (no k) (yes f) =
+      by : Dec (z < nodeStart f (a .a) + nodeSize f) → Dec (z < p + a .d * 6) → Dec (a .tag ≡ 4) → Dec (a .tag ≡ 5) → putBy f z (over b 0 x) p a ≡ over b 0 (putBy f z x p a)
+      by (yes l) e (yes k) m = put-no-node f z (over b 0 x) p a k l ∙ ap (over b 0) (sym (put-no-node f z x p a k l))
+      by (no l) e (yes k) m =
+          let q : nodeStart f (a .a) + nodeSize f ≤ z = omega arith in
+          put-node f z (over b 0 x) p a k q ∙ front-over b (nodeSaid f a) x (nodeStart f (a .a)) (omega arith) (omega (arith, length-node a))
+          ∙ ap (over b 0) (sym (put-node f z x p a k q))
+      by d (yes l) (no k) (yes m) = put-no-events f z (over b 0 x) p a m l ∙ ap (over b 0) (sym (put-no-events f z x p a m l))
+      by d (no l) (no k) (yes m) =
           let q : p + a .d * 6 ≤ z = omega arith in
-          put-events z (over b 0 x) p a f q ∙ front-over (times (a .d) (eventSaid a)) x p (omega arith) (omega (arith, length-times (a .d) a))
-          ∙ ap (over b 0) (sym (put-events z x p a f q))
-      by d e (no k) (no f) = put-nothing z (over b 0 x) p a k f ∙ ap (over b 0) (sym (put-nothing z x p a k f))
+          put-events f z (over b 0 x) p a m q ∙ front-over b (times (a .d) (eventSaid a)) x p (omega arith) (omega (arith, length-times (a .d) a))
+          ∙ ap (over b 0) (sym (put-events f z x p a m q))
+      by d e (no k) (no m) = put-nothing f z (over b 0 x) p a k m ∙ ap (over b 0) (sym (put-nothing f z x p a k m))
 
-  pub all-front : (z : ℕ) (x : List ℕ) (p : ℕ) (l : List Act) → length x ≡ z → z ≤ length b → putAll z (over b 0 x) p l ≡ over b 0 (putAll z x p l)
+  pub all-front : (z : ℕ) (x : List ℕ) (p : ℕ) (l : List Act) → length x ≡ z → z ≤ length b → putAll f z (over b 0 x) p l ≡ over b 0 (putAll f z x p l)
   unfolding putAll
   all-front z x p [] h g = refl
   all-front z x p (a ∷ l) h g =
-      ap (λ y. putAll z y (reachBy z p a) l) (put-front z x p a h g) ∙ all-front z (putBy z x p a) (reachBy z p a) l (length-put z x p a ∙ h) g
+      ap (λ y. putAll f z y (reachBy z p a) l) (put-front z x p a h g)
+      ∙ all-front z (putBy f z x p a) (reachBy z p a) l (length-put b f z x p a ∙ h) g
 
-pub length-blank : (v : Survey) → length (blankFile v) ≡ 18 + v .n * 9 + v .count * 6
-unfolding blankFile headOf
-length-blank v = omega (arith, length-append (headOf v) (replicate {A = ℕ} (v .n * 9 + v .count * 6) 0), length-replicate {A = ℕ} (v .n * 9 + v .count * 6) 0)
+pub length-blank : (v : Survey) → known (v .form) ≡ true → length (blankFile v) ≡ sizeOf v
+unfolding blankFile
+length-blank v h =
+    omega (
+      arith,
+      length-append (headOf v) (replicate {A = ℕ} (restOf v) 0),
+      length-replicate {A = ℕ} (restOf v) 0,
+      length-head v h,
+      forms.place-from (v .form) (v .n),
+      forms.place-zero (v .form),
+    )

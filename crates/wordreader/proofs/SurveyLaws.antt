@@ -1,14 +1,16 @@
--- The line `nodes`, by what stood before it.
+-- What a line says, by what stood before it.
 use Prim.Native.Nat.{ℕ, _≤_, _<_}
 use mathlib.Core.Path.{_≡_, refl, sym, ap, _∙_}
 use mathlib.Core.Bool.{Bool, true, false, not}
-use borrow.Author.Tests.{eq-eqb, lt-ltb, le-ltb}
-use lib.Dec.{ltb}
+use mathlib.Core.Logic.{_≢_}
+use borrow.Author.Tests.{eq-eqb, ne-eqb, lt-ltb, le-ltb}
+use lib.Dec.{eqb, ltb}
 use Rattle.lists.specs.Find.{pick}
 use Rattle.lists.proofs.BoolLaws.{no-way}
+use Rattle.image.specs.Form.{topOf}
 use Rattle.spelling.specs.declared.Act.{Act}
 use Rattle.spelling.specs.declared.Survey.{Survey}
-use Rattle.spelling.specs.Reading.{faulted, withNodes, surveyed}
+use Rattle.spelling.specs.Reading.{faulted, withNodes, withForm, versionForm, indexSaid, nodesSaid, versionSaid, behindNodes, surveyed}
 
 taken : (b : Bool) (l m : Survey) → b ≡ true → pick b l m ≡ l
 taken true l m e = refl
@@ -18,16 +20,54 @@ left : (b : Bool) (l m : Survey) → b ≡ false → pick b l m ≡ m
 left true l m e = no-way e
 left false l m e = refl
 
-module _ (i : ℕ) (v : Survey) (a : Act) (h : v .fault ≡ 0) (k : a .tag ≡ 1) where
-  first : surveyed i v a ≡ pick (v .begun) (faulted v 1 i) (pick (ltb 255 (a .a)) (faulted v 2 i) (withNodes v (a .a)))
+module _ (i : ℕ) (v : Survey) (x : ℕ) where
+  -- `nodes`
+  pub nodes-twice : v .begun ≡ true → nodesSaid i v x ≡ faulted v 1 i
+  unfolding nodesSaid
+  nodes-twice b = taken (v .begun) (faulted v 1 i) _ b
+
+  pub nodes-large : v .begun ≡ false → 255 < x → nodesSaid i v x ≡ faulted v 2 i
+  unfolding nodesSaid
+  nodes-large b l = left (v .begun) (faulted v 1 i) _ b ∙ taken (ltb 255 x) (faulted v 2 i) _ (lt-ltb 255 x l)
+
+  pub nodes-first : v .begun ≡ false → x ≤ 255 → nodesSaid i v x ≡ withNodes v x
+  unfolding nodesSaid
+  nodes-first b l = left (v .begun) (faulted v 1 i) _ b ∙ left (ltb 255 x) (faulted v 2 i) _ (le-ltb 255 x l)
+
+  -- `version`
+  pub version-late : v .settled ≡ true → versionSaid i v x ≡ faulted v 1 i
+  unfolding versionSaid
+  version-late b = taken (v .settled) (faulted v 1 i) _ b
+
+  pub version-unknown : v .settled ≡ false → versionForm x ≡ 0 → versionSaid i v x ≡ faulted v 1 i
+  unfolding versionSaid
+  version-unknown b e = left (v .settled) (faulted v 1 i) _ b ∙ taken (eqb (versionForm x) 0) (faulted v 1 i) _ (eq-eqb (versionForm x) 0 e)
+
+  pub version-known : v .settled ≡ false → versionForm x ≢ 0 → versionSaid i v x ≡ withForm v (versionForm x)
+  unfolding versionSaid
+  version-known b e = left (v .settled) (faulted v 1 i) _ b ∙ left (eqb (versionForm x) 0) (faulted v 1 i) _ (ne-eqb (versionForm x) 0 e)
+
+module _ (i : ℕ) (v : Survey) (a : Act) (h : v .fault ≡ 0) (z : a .tag ≢ 0) (n : a .tag ≢ 9) where
+  tried : surveyed i v a
+      ≡ pick (ltb (topOf (v .form)) (indexSaid a)) (faulted v 2 i) (pick (eqb (a .tag) 1) (nodesSaid i v (a .a)) (pick (v .begun) (behindNodes i v a) (faulted v 1 i)))
   unfolding surveyed
-  first = left _ v _ (ap not (eq-eqb (v .fault) 0 h)) ∙ rw k refl
+  tried =
+      left (not (eqb (v .fault) 0)) v _ (ap not (eq-eqb (v .fault) 0 h))
+      ∙ left (eqb (a .tag) 0) v _ (ne-eqb (a .tag) 0 z)
+      ∙ left (eqb (a .tag) 9) (faulted v 2 i) _ (ne-eqb (a .tag) 9 n)
 
-  pub nodes-twice : v .begun ≡ true → surveyed i v a ≡ faulted v 1 i
-  nodes-twice b = first ∙ taken (v .begun) (faulted v 1 i) _ b
+  pub too-wide : topOf (v .form) < indexSaid a → surveyed i v a ≡ faulted v 2 i
+  too-wide l = tried ∙ taken (ltb (topOf (v .form)) (indexSaid a)) (faulted v 2 i) _ (lt-ltb (topOf (v .form)) (indexSaid a) l)
 
-  pub nodes-large : v .begun ≡ false → 255 < a .a → surveyed i v a ≡ faulted v 2 i
-  nodes-large b l = first ∙ left (v .begun) (faulted v 1 i) _ b ∙ taken (ltb 255 (a .a)) (faulted v 2 i) _ (lt-ltb 255 (a .a) l)
+  module _ (l : indexSaid a ≤ topOf (v .form)) where
+    fits : surveyed i v a ≡ pick (eqb (a .tag) 1) (nodesSaid i v (a .a)) (pick (v .begun) (behindNodes i v a) (faulted v 1 i))
+    fits = tried ∙ left (ltb (topOf (v .form)) (indexSaid a)) (faulted v 2 i) _ (le-ltb (topOf (v .form)) (indexSaid a) l)
 
-  pub nodes-first : v .begun ≡ false → a .a ≤ 255 → surveyed i v a ≡ withNodes v (a .a)
-  nodes-first b l = first ∙ left (v .begun) (faulted v 1 i) _ b ∙ left (ltb 255 (a .a)) (faulted v 2 i) _ (le-ltb 255 (a .a) l)
+    pub at-nodes : a .tag ≡ 1 → surveyed i v a ≡ nodesSaid i v (a .a)
+    at-nodes k = fits ∙ taken (eqb (a .tag) 1) (nodesSaid i v (a .a)) _ (eq-eqb (a .tag) 1 k)
+
+    pub after-nodes : a .tag ≢ 1 → v .begun ≡ true → surveyed i v a ≡ behindNodes i v a
+    after-nodes k b = fits ∙ left (eqb (a .tag) 1) (nodesSaid i v (a .a)) _ (ne-eqb (a .tag) 1 k) ∙ taken (v .begun) (behindNodes i v a) _ b
+
+    pub before-nodes : a .tag ≢ 1 → v .begun ≡ false → surveyed i v a ≡ faulted v 1 i
+    before-nodes k b = fits ∙ left (eqb (a .tag) 1) (nodesSaid i v (a .a)) _ (ne-eqb (a .tag) 1 k) ∙ left (v .begun) (behindNodes i v a) _ b

@@ -87,27 +87,27 @@ number-le i x k h = by (eqb x 10)
 
 -- ---- what the lines put
 
-module _ (z : ℕ) (b : List ℕ) (p : ℕ) (l : Line) (x : ℕ) (t : List ℕ) where
-  put-byte : putAll z b p (actsFrom l (x ∷ t)) ≡ putAll z (putNext z b p l x) (reachNext z p l x) (actsFrom (lineNext l x) t)
+module _ (f z : ℕ) (b : List ℕ) (p : ℕ) (l : Line) (x : ℕ) (t : List ℕ) where
+  put-byte : putAll f z b p (actsFrom l (x ∷ t)) ≡ putAll f z (putNext f z b p l x) (reachNext z p l x) (actsFrom (lineNext l x) t)
   unfolding actsFrom putAll lineNext putNext reachNext
   put-byte = by (eqb x 10)
     where
-      by : (c : Bool) → putAll z b p (elim c as (λ _. List Act) [ true ↦ said l ∷ actsFrom noLine t | false ↦ actsFrom (lineByte l x) t ])
-          ≡ putAll z (pick c (putBy z b p (said l)) b) (pick c (reachBy z p (said l)) p) (actsFrom (pick c noLine (lineByte l x)) t)
+      by : (c : Bool) → putAll f z b p (elim c as (λ _. List Act) [ true ↦ said l ∷ actsFrom noLine t | false ↦ actsFrom (lineByte l x) t ])
+          ≡ putAll f z (pick c (putBy f z b p (said l)) b) (pick c (reachBy z p (said l)) p) (actsFrom (pick c noLine (lineByte l x)) t)
       by true = refl
       by false = refl
 
-module _ (t : List ℕ) (k z : ℕ) (b : List ℕ) (p : ℕ) (l : Line) where
-  pub put-turn : k < length t → putAll z b p (actsFrom l (drop k t))
-      ≡ putAll z (putNext z b p l (getD t k 0)) (reachNext z p l (getD t k 0)) (actsFrom (lineNext l (getD t k 0)) (drop (k + 1) t))
+module _ (t : List ℕ) (k f z : ℕ) (b : List ℕ) (p : ℕ) (l : Line) where
+  pub put-turn : k < length t → putAll f z b p (actsFrom l (drop k t))
+      ≡ putAll f z (putNext f z b p l (getD t k 0)) (reachNext z p l (getD t k 0)) (actsFrom (lineNext l (getD t k 0)) (drop (k + 1) t))
   put-turn h =
-      ap (λ r. putAll z b p (actsFrom l r)) (drop-cons t k 0 h ∙ ap (λ n. getD t k 0 ∷ drop n t) (sym (add-one k)))
-      ∙ put-byte z b p l (getD t k 0) (drop (k + 1) t)
+      ap (λ r. putAll f z b p (actsFrom l r)) (drop-cons t k 0 h ∙ ap (λ n. getD t k 0 ∷ drop n t) (sym (add-one k)))
+      ∙ put-byte f z b p l (getD t k 0) (drop (k + 1) t)
 
-  pub put-end : length t ≤ k → putAll z b p (actsFrom l (drop k t)) ≡ putBy z b p (said l)
+  pub put-end : length t ≤ k → putAll f z b p (actsFrom l (drop k t)) ≡ putBy f z b p (said l)
   unfolding actsFrom putAll
-  put-end h = ap (λ r. putAll z b p (actsFrom l r)) (ln.drop-of-length-le t h)
+  put-end h = ap (λ r. putAll f z b p (actsFrom l r)) (ln.drop-of-length-le t h)
 
-pub put-start : (t : List ℕ) (z : ℕ) (b : List ℕ) (p : ℕ) → putAll z b p (actsOf t) ≡ putAll z b p (actsFrom noLine (drop 0 t))
+pub put-start : (t : List ℕ) (f z : ℕ) (b : List ℕ) (p : ℕ) → putAll f z b p (actsOf t) ≡ putAll f z b p (actsFrom noLine (drop 0 t))
 unfolding actsOf
-put-start t z b p = refl
+put-start t f z b p = refl

@@ -19,8 +19,8 @@ unfoldable pub surveyNext : ℕ → Survey → Line → ℕ → Survey
 surveyNext i v l x = pick (eqb x 10) (surveyed i v (said l)) v
 
 -- what the line that is being read puts into the file, where it ends
-unfoldable pub putNext : ℕ → List ℕ → ℕ → Line → ℕ → List ℕ
-putNext z b p l x = pick (eqb x 10) (putBy z b p (said l)) b
+unfoldable pub putNext : ℕ → ℕ → List ℕ → ℕ → Line → ℕ → List ℕ
+putNext f z b p l x = pick (eqb x 10) (putBy f z b p (said l)) b
 
 unfoldable pub reachNext : ℕ → ℕ → Line → ℕ → ℕ
 reachNext z p l x = pick (eqb x 10) (reachBy z p (said l)) p

@@ -1,38 +1,53 @@
-// The layout of a schedule whose image is of version 1: where its parts stand, how long they are, and their bytes.
+// The layout of a schedule by the form of its image: where its parts stand, how long they are, and their bytes.
 ghost use mathlib.Core.Path.{_≡_};
+ghost use mathlib.Core.Bool.{true};
 ghost use mathlib.Core.List.{[], _∷_};
 ghost use Prim.Native.Nat.{_+_, _%_, _≤_};
 ghost use lib.ListN.{length};
 ghost use Rattle.lists.specs.Tab.{over};
-ghost use Rattle.image.specs.Bytes.{le4};
-ghost use Rattle.spelling.specs.Layout.{headOf, nodeSaid, eventSaid};
+ghost use Rattle.image.specs.Form.{known, nodeSize};
+ghost use Rattle.spelling.specs.Layout.{nodeStart, headOf, nodeSaid, eventSaid};
+use codec::put_content;
+use codec::put_index;
+use codec::put_word;
+use image::Content;
 use spelling::Act;
 use spelling::Survey;
 
-// Before node 0; a node; an event.
-pub const HEADER: usize = 18;
-
-pub const NODE: usize = 9;
-
+// An event.
 pub const EVENT: usize = 6;
 
-fn put_word(b: &mut [u8], at: usize, x: u64)
-    requires { ⌜ at + 4 ≤ length (now b) ⌝ }
-    ensures { λ _. ⌜ now (b .exit) ≡ over (now (b .entry)) at (le4 x) ⌝ }
+// Where node i begins.
+pub fn node_start(form: u8, i: usize) -> usize
+    requires { ⌜ (known form ≡ true) × (i ≤ 65535) ⌝ }
+    ensures { λ r. ⌜ r ≡ nodeStart form i ⌝ }
 {
-    b[at] = (x % 256) as u8;
-    b[at + 1] = (x / 256 % 256) as u8;
-    b[at + 2] = (x / 256 / 256 % 256) as u8;
-    b[at + 3] = (x / 256 / 256 / 256 % 256) as u8;
+    if form == 2 {
+        return 22 + i * 13;
+    }
+    18 + i * 9
 }
 
-pub fn put_node_at(b: &mut [u8], at: usize, a: Act)
-    requires { ⌜ at + 9 ≤ length (now b) ⌝ }
-    ensures { λ _. ⌜ now (b .exit) ≡ over (now (b .entry)) at (nodeSaid a) ⌝ }
+pub fn node_span(form: u8) -> usize
+    requires { ⌜ known form ≡ true ⌝ }
+    ensures { λ r. ⌜ r ≡ nodeSize form ⌝ }
 {
-    b[at] = (a.b % 256) as u8;
-    put_word(b, at + 1, a.c);
-    put_word(b, at + 5, a.d);
+    if form == 2 {
+        return 13;
+    }
+    9
+}
+
+pub fn put_node_at(b: &mut [u8], form: u8, at: usize, a: Act)
+    requires { ⌜ (known form ≡ true) × (at + nodeSize form ≤ length (now b)) ⌝ }
+    ensures { λ _. ⌜ now (b .exit) ≡ over (now (b .entry)) at (nodeSaid form a) ⌝ }
+{
+    let v = Content {
+        index: a.c,
+        item: (a.d % 4294967296) as u32,
+        linked: (a.b % 256) as u8,
+    };
+    put_content(b, form, at, v);
 }
 
 pub fn put_event_at(b: &mut [u8], at: usize, a: Act)
@@ -44,15 +59,15 @@ pub fn put_event_at(b: &mut [u8], at: usize, a: Act)
     put_word(b, at + 2, a.c);
 }
 
-// Three letters and version 1.
-fn put_mark(b: &mut [u8], at: usize, c: u8)
+// Three letters and a version.
+fn put_mark(b: &mut [u8], at: usize, c: u8, version: u8)
     requires { ⌜ at + 5 ≤ length (now b) ⌝ }
-    ensures { λ _. ⌜ now (b .exit) ≡ over (now (b .entry)) at (85 ∷ 81 ∷ c ∷ 1 ∷ 0 ∷ []) ⌝ }
+    ensures { λ _. ⌜ now (b .exit) ≡ over (now (b .entry)) at (85 ∷ 81 ∷ c ∷ version ∷ 0 ∷ []) ⌝ }
 {
     b[at] = 85;
     b[at + 1] = 81;
     b[at + 2] = c;
-    b[at + 3] = 1;
+    b[at + 3] = version;
     b[at + 4] = 0;
 }
 
@@ -64,14 +79,14 @@ fn put_low(b: &mut [u8], at: usize, x: u64)
 }
 
 pub fn put_header(b: &mut [u8], v: Survey)
-    requires { ⌜ 18 ≤ length (now b) ⌝ }
+    requires { ⌜ (known (v .form) ≡ true) × (nodeStart (v .form) 0 ≤ length (now b)) ⌝ }
     ensures { λ _. ⌜ now (b .exit) ≡ over (now (b .entry)) 0 (headOf v) ⌝ }
 {
-    put_mark(b, 0, 83);
+    put_mark(b, 0, 83, 1);
     put_low(b, 5, v.t);
     put_low(b, 6, v.count);
     put_low(b, 7, v.count / 256);
-    put_mark(b, 8, 73);
+    put_mark(b, 8, 73, v.form);
     put_low(b, 13, v.n);
-    put_word(b, 14, v.head);
+    put_index(b, v.form, 14, v.head);
 }

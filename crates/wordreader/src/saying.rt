@@ -95,11 +95,11 @@ fn said_by(shape: u64, u: Word, v: Word, w: Word, x: Word, y: Word) -> Act
         return graded_act(grade_of(v, BYTE), an_act(2, v.value, 0, 0, 0));
     }
     if shape == 4276802 {
-        return graded_act(grade_of(v, WORD), an_act(3, v.value, 0, 0, 0));
+        return graded_act(grade_of(v, WIDE), an_act(3, v.value, 0, 0, 0));
     }
     if shape == 7587925 {
         let g = worse_of(grade_of(v, WIDE), grade_of(w, BYTE));
-        let h = worse_of(grade_of(x, WORD), grade_of(y, WORD));
+        let h = worse_of(grade_of(x, WIDE), grade_of(y, WORD));
         return graded_act(
             worse_of(g, h),
             an_act(4, v.value, w.value, x.value, y.value),
@@ -129,6 +129,9 @@ fn said_by(shape: u64, u: Word, v: Word, w: Word, x: Word, y: Word) -> Act
         let g = worse_of(grade_of(w, BYTE), grade_of(x, WORD));
         let h = worse_of(grade_of(v, BYTE), g);
         return graded_act(h, an_act(5, v.value, w.value, x.value, 1));
+    }
+    if shape == 380953583330 {
+        return graded_act(grade_of(v, WIDE), an_act(6, v.value, 0, 0, 0));
     }
     an_act(8, 0, 0, 0, 0)
 }

@@ -2,11 +2,12 @@
 ghost use mathlib.Core.Path.{_≡_};
 ghost use Prim.Native.Nat.{_<_, _≤_};
 ghost use Rattle.spelling.specs.Lines.{actsOf};
-ghost use Rattle.spelling.specs.Reading.{noSurvey, surveyed, surveyOf, lastFrom};
+ghost use Rattle.spelling.specs.Reading.{noSurvey, faulted, versionForm, indexSaid, nodesSaid, versionSaid, eventsSaid, behindNodes, surveyed, surveyOf, lastFrom};
 ghost use Rattle.wordreader.specs.Turns.{lineNext, numberNext, surveyNext};
 use crate::saying::said_of;
 use crate::words::line_byte;
 use crate::words::no_line;
+use image::top_of;
 use spelling::Act;
 use spelling::Line;
 use spelling::Survey;
@@ -24,6 +25,8 @@ pub fn no_survey() -> Survey
         fault: 0,
         line: 0,
         begun: false,
+        settled: false,
+        form: 1,
         n: 0,
         t: 1,
         head: 0,
@@ -31,13 +34,117 @@ pub fn no_survey() -> Survey
     }
 }
 
-fn faulted(v: Survey, f: u8, i: u64) -> Survey
-    ensures { λ r. ⌜ r ≡ record { fault = f; line = i; begun = v .begun; n = v .n; t = v .t; head = v .head; count = v .count } ⌝ }
+fn fault_at(v: Survey, f: u8, i: u64) -> Survey
+    ensures { λ r. ⌜ r ≡ faulted v f i ⌝ }
 {
     let mut r = v;
     r.fault = f;
     r.line = i;
     r
+}
+
+// The form of the image that a version's number names; 0 where it names none.
+fn version_form(x: u64) -> u8
+    ensures { λ r. ⌜ r ≡ versionForm x ⌝ }
+{
+    if x == 1 {
+        return 1;
+    }
+    if x == 2 {
+        return 2;
+    }
+    0
+}
+
+fn index_said(a: Act) -> u64
+    ensures { λ r. ⌜ r ≡ indexSaid a ⌝ }
+{
+    let k = a.tag;
+    if k == 3 {
+        return a.a;
+    }
+    if k == 4 {
+        return a.c;
+    }
+    0
+}
+
+fn nodes_said(i: u64, v: Survey, x: u64) -> Survey
+    ensures { λ r. ⌜ r ≡ nodesSaid i v x ⌝ }
+{
+    if v.begun {
+        return fault_at(v, 1, i);
+    }
+    if 255 < x {
+        return fault_at(v, 2, i);
+    }
+    let mut r = v;
+    r.begun = true;
+    r.n = x;
+    r
+}
+
+fn version_said(i: u64, v: Survey, x: u64) -> Survey
+    ensures { λ r. ⌜ r ≡ versionSaid i v x ⌝ }
+{
+    if v.settled {
+        return fault_at(v, 1, i);
+    }
+    let form = version_form(x);
+    if form == 0 {
+        return fault_at(v, 1, i);
+    }
+    let mut r = v;
+    r.settled = true;
+    r.form = form;
+    r
+}
+
+fn events_said(i: u64, v: Survey, x: u64) -> Survey
+    ensures { λ r. ⌜ r ≡ eventsSaid i v x ⌝ }
+{
+    if 65535 < x {
+        return fault_at(v, 3, i);
+    }
+    if 65535 - x < v.count {
+        return fault_at(v, 3, i);
+    }
+    let mut r = v;
+    r.count = v.count + x;
+    r
+}
+
+// A line behind `nodes`.
+fn behind_nodes(i: u64, v: Survey, a: Act) -> Survey
+    ensures { λ r. ⌜ r ≡ behindNodes i v a ⌝ }
+{
+    let k = a.tag;
+    if k == 2 {
+        let mut r = v;
+        r.t = a.a;
+        return r;
+    }
+    if k == 3 {
+        let mut r = v;
+        r.settled = true;
+        r.head = a.a;
+        return r;
+    }
+    if k == 4 {
+        if v.n <= a.a {
+            return fault_at(v, 2, i);
+        }
+        let mut r = v;
+        r.settled = true;
+        return r;
+    }
+    if k == 5 {
+        return events_said(i, v, a.d);
+    }
+    if k == 6 {
+        return version_said(i, v, a.a);
+    }
+    fault_at(v, 1, i)
 }
 
 // Line i says a.
@@ -52,52 +159,18 @@ pub fn survey_act(i: u64, v: Survey, a: Act) -> Survey
         return v;
     }
     if k == 9 {
-        return faulted(v, 2, i);
+        return fault_at(v, 2, i);
+    }
+    if top_of(v.form) < index_said(a) {
+        return fault_at(v, 2, i);
     }
     if k == 1 {
-        if v.begun {
-            return faulted(v, 1, i);
-        }
-        if 255 < a.a {
-            return faulted(v, 2, i);
-        }
-        let mut r = v;
-        r.begun = true;
-        r.n = a.a;
-        return r;
+        return nodes_said(i, v, a.a);
     }
-    if !v.begun {
-        return faulted(v, 1, i);
+    if v.begun {
+        return behind_nodes(i, v, a);
     }
-    if k == 2 {
-        let mut r = v;
-        r.t = a.a;
-        return r;
-    }
-    if k == 3 {
-        let mut r = v;
-        r.head = a.a;
-        return r;
-    }
-    if k == 4 {
-        if a.a < v.n {
-            return v;
-        }
-        return faulted(v, 2, i);
-    }
-    if k == 5 {
-        let d = a.d;
-        if d <= 65535 {
-            if v.count <= 65535 - d {
-                let mut r = v;
-                r.count = v.count + d;
-                return r;
-            }
-            return faulted(v, 3, i);
-        }
-        return faulted(v, 3, i);
-    }
-    faulted(v, 1, i)
+    fault_at(v, 1, i)
 }
 
 pub fn next_line(l: Line, x: u8) -> Line

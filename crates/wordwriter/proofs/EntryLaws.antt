@@ -4,6 +4,7 @@ use mathlib.Core.Path.{_≡_, refl, sym, ap, ap₂, _∙_}
 use mathlib.Core.Bool.{Bool, true, false, not}
 use mathlib.Core.List.{List, [], _++_, append-assoc}
 use native.Mathlib.Omega.{arith}
+use native.Mathlib.Nat.{zero-mul}
 use borrow.Author.Tests.{eq-eqb, ne-eqb, lt-ltb, le-ltb}
 use lib.ListN.{length, length-drop}
 use lib.Dec.{eqb, ltb}
@@ -13,16 +14,17 @@ use Rattle.lists.specs.Text.{text, decimal}
 use Rattle.lists.proofs.FindLaws.{least-next, least-hit, least-end}
 use Rattle.lists.proofs.TabLaws as tabs
 use Rattle.answer.specs.Answers.{accepted}
-use Rattle.image.specs.Bytes.{at4}
+use Rattle.image.specs.Bytes.{atW}
+use Rattle.image.specs.Form.{known, widthOf, headsAt}
 use Rattle.image.specs.declared.Content.{Content}
 use Rattle.image.specs.Layout.{noContents, noContent, contentAt, nodePlace, readContent, readNodes, headIn, readHeads, imageIn}
 use Rattle.image.proofs.HeadLaws.{heads-at, one-head}
 use Rattle.machine.specs.declared.Event.{Event}
-use Rattle.schedule.specs.Layout.{threadsIn, countIn, nodesIn, imagePart, eventIn, eventPlace, scheduleIn, scheduleAnswer}
+use Rattle.schedule.specs.Layout.{threadsIn, countIn, nodesIn, imagePart, eventFrom, eventIn, eventPlace, scheduleIn, scheduleAnswer}
 use Rattle.schedule.specs.declared.Schedule.{Schedule}
 use Rattle.page.specs.Printed.{newline}
 use Rattle.codec.proofs.Accepted as acc
-use Rattle.spelling.specs.Writing.{nodeLine, eventLine, isBlankNode, isStep, follows, runEnd, nodeAt, nodeEntry, eventEntry, entryOf, entriesIn}
+use Rattle.spelling.specs.Writing.{versionLine, headLine, nodeLine, eventLine, imageForm, headIndex, isBlankNode, isStep, follows, runEnd, nodeAt, nodeEntry, eventEntry, entryOf, entriesIn}
 
 -- ---- an event's line
 
@@ -68,6 +70,21 @@ module _ (e : Event) (r : ℕ) where
   unfolding eventLine
   line-other a b c d f = rw (ne-eqb (e .kind) 1 a, ne-eqb (e .kind) 2 b, ne-eqb (e .kind) 3 c, ne-eqb (e .kind) 4 d, ne-eqb (e .kind) 5 f)
 
+-- ---- the version's line
+
+pub version-none : (f : ℕ) → f ≡ 1 → versionLine f ≡ []
+unfolding versionLine
+version-none f e = rw e
+
+pub version-some : (f : ℕ) → (f ≡ 1 → ⊥) → versionLine f ≡ text "version " ++ decimal f ++ newline
+unfolding versionLine
+version-some f e = rw (ne-eqb f 1 e)
+
+-- the head's line behind it
+pub head-line : (f x : ℕ) → headLine f x ≡ versionLine f ++ (text "head " ++ decimal x) ++ newline
+unfolding headLine
+head-line f x = sym (append-assoc (versionLine f) (text "head " ++ decimal x) newline)
+
 -- ---- whether an event follows
 
 module _ (s : List ℕ) (j : ℕ) where
@@ -87,6 +104,10 @@ module _ (s : List ℕ) (j : ℕ) where
       → eqb (eventIn s j .number) (eventIn s (j - 1) .number) ≡ follows s j
   unfolding follows
   follows-last h e f = rw (lt-ltb 0 j h, e, f)
+
+-- the event that the code reads, by the form and N that the schedule has
+pub event-is : (s : List ℕ) (f n j : ℕ) → f ≡ imageForm s → n ≡ nodesIn s → eventFrom s (eventPlace f n j) ≡ eventIn s j
+event-is s f n j p q = ap₂ (λ f n. eventFrom s (eventPlace f n j)) p q
 
 -- ---- where a run ends: one turn of the search
 
@@ -116,11 +137,14 @@ module _ (s : List ℕ) (h : accepted (scheduleAnswer s) ≡ true) where
   pub short : countIn s ≤ 4096
   short = acc.schedule-taken s h .count
 
-  pub size : length s ≡ 18 + nodesIn s * 9 + countIn s * 6
-  size = let t = acc.schedule-taken s h in omega (arith, t .long, t .part .size, length-drop 8 s)
+  pub form : known (imageForm s) ≡ true
+  form = acc.schedule-taken s h .part .mark
 
-  pub events-fit : eventPlace (nodesIn s) (countIn s) ≤ length s
-  events-fit = omega (arith, size)
+  pub events-fit : eventPlace (imageForm s) (nodesIn s) (countIn s) ≤ length s
+  events-fit =
+      let t = acc.schedule-taken s h in
+      let z : length (imagePart s) ≡ nodePlace (imageForm s) (nodesIn s) + countIn s * 6 = t .part .size in
+      omega (arith, t .long, z, length-drop 8 s)
 
 module _ (s : List ℕ) (d : Schedule) (e : d ≡ scheduleIn s) where
   pub threads-is : d .t ≡ threadsIn s
@@ -135,17 +159,24 @@ module _ (s : List ℕ) (d : Schedule) (e : d ≡ scheduleIn s) where
   unfolding scheduleIn imageIn
   nodes-is = ap (λ (z : Schedule). z .image .n) e
 
-  pub head-is : headIn (d .image) 0 ≡ at4 (imagePart s) 6
-  unfolding scheduleIn imageIn readHeads
+  pub form-is : d .image .form ≡ imageForm s
+  unfolding scheduleIn imageIn
+  form-is = ap (λ (z : Schedule). z .image .form) e
+
+  pub head-is : headIn (d .image) 0 ≡ headIndex s
+  unfolding scheduleIn imageIn readHeads headIndex
   head-is =
+      let w = widthOf (imageForm s) in
+      let p : headsAt (imageForm s) + 0 * w ≡ headsAt (imageForm s) = omega (arith, zero-mul w) in
       ap (λ (z : Schedule). headIn (z .image) 0) e
-      ∙ heads-at (nodesIn s) (λ k. at4 (imagePart s) (6 + k * 4)) 0 (omega (arith, one-head (nodesIn s)))
+      ∙ heads-at (nodesIn s) (λ k. atW w (imagePart s) (headsAt (imageForm s) + k * w)) 0 (omega (arith, one-head (nodesIn s)))
+      ∙ ap (atW w (imagePart s)) p
 
   pub node-is : (i : ℕ) → i < nodesIn s → contentAt (d .image .nodes) i ≡ nodeAt s i
   unfolding scheduleIn imageIn readNodes
   node-is i p =
       ap (λ (z : Schedule). contentAt (z .image .nodes) i) e
-      ∙ tabs.front-at (λ k. readContent (imagePart s) (nodePlace k)) (nodesIn s) noContents i noContent p
+      ∙ tabs.front-at (λ k. readContent (imageForm s) (imagePart s) (nodePlace (imageForm s) k)) (nodesIn s) noContents i noContent p
 
 module _ (s : List ℕ) (j : ℕ) where
   pub entry-follows : follows s j ≡ true → eventEntry s j ≡ []
@@ -165,9 +196,9 @@ module _ (s : List ℕ) (k : ℕ) where
   unfolding entryOf
   entry-threads n e h = rw h (ap (λ z. text "threads " ++ decimal z ++ newline) (sym e))
 
-  pub entry-head : (n : ℕ) → n ≡ at4 (imagePart s) 6 → k ≡ 2 → entryOf s k ≡ text "head " ++ decimal n ++ newline
+  pub entry-head : (f x : ℕ) → f ≡ imageForm s → x ≡ headIndex s → k ≡ 2 → entryOf s k ≡ headLine f x
   unfolding entryOf
-  entry-head n e h = rw h (ap (λ z. text "head " ++ decimal z ++ newline) (sym e))
+  entry-head f x e g h = rw h (ap₂ headLine (sym e) (sym g))
 
   pub entry-node : (v : Content) → v ≡ nodeAt s (k - 3) → (k ≡ 0 → ⊥) → (k ≡ 1 → ⊥) → (k ≡ 2 → ⊥) → k < 3 + nodesIn s
       → entryOf s k ≡ pick (isBlankNode v) [] (nodeLine (k - 3) v)

@@ -1,17 +1,16 @@
 // The entries of a schedule in words, each into the front of a buffer that has room for the longest line.
 ghost use mathlib.Core.Path.{_≡_};
 ghost use mathlib.Core.Bool.{true};
-ghost use mathlib.Core.List.{[], _++_};
+ghost use mathlib.Core.List.{[]};
 ghost use Prim.Native.Nat.{_+_, _≤_, _<_};
 ghost use lib.ListN.{length};
 ghost use Rattle.lists.specs.Find.{pick};
 ghost use Rattle.lists.specs.Tab.{over};
-ghost use Rattle.lists.specs.Text.{text, decimal};
 ghost use Rattle.answer.specs.Answers.{accepted};
+ghost use Rattle.image.specs.Form.{known};
 ghost use Rattle.image.specs.Layout.{headIn};
 ghost use Rattle.schedule.specs.Layout.{nodesIn, countIn, eventPlace, scheduleIn, scheduleAnswer};
-ghost use Rattle.page.specs.Printed.{newline};
-ghost use Rattle.spelling.specs.Writing.{nodeLine, isBlankNode, follows, runEnd, eventEntry, entryOf, entriesIn};
+ghost use Rattle.spelling.specs.Writing.{headLine, nodeLine, imageForm, isBlankNode, follows, runEnd, eventEntry, entryOf, entriesIn};
 use crate::texts::is_step;
 use crate::texts::put_event;
 use crate::texts::put_head;
@@ -24,18 +23,18 @@ use image::Image;
 use schedule::Schedule;
 
 // Whether event j is a step like the one before it.
-fn is_following(s: &[u8], n: usize, j: usize) -> bool
-    requires { ⌜ (n ≡ nodesIn (now s)) × (n ≤ 64) × (j ≤ 4096) × (eventPlace n j + 6 ≤ length (now s)) ⌝ }
+fn is_following(s: &[u8], form: u8, n: usize, j: usize) -> bool
+    requires { ⌜ (form ≡ imageForm (now s)) × (n ≡ nodesIn (now s)) × (known form ≡ true) × (n ≤ 64) × (j ≤ 4096) × (eventPlace form n j + 6 ≤ length (now s)) ⌝ }
     ensures { λ r. ⌜ r ≡ follows (now (s .entry)) j ⌝ }
 {
     if j == 0 {
         return false;
     }
-    let e = event_at(s, n, j);
+    let e = event_at(s, form, n, j);
     if !is_step(e) {
         return false;
     }
-    let f = event_at(s, n, j - 1);
+    let f = event_at(s, form, n, j - 1);
     if !is_step(f) {
         return false;
     }
@@ -43,14 +42,15 @@ fn is_following(s: &[u8], n: usize, j: usize) -> bool
 }
 
 // Where the run of steps that event j begins ends.
-fn run_end(s: &[u8], n: usize, count: usize, j: usize) -> usize
-    requires { ⌜ (n ≡ nodesIn (now s)) × (count ≡ countIn (now s)) × (n ≤ 64) × (count ≤ 4096) × (j < count) × (eventPlace n count ≤ length (now s)) ⌝ }
+fn run_end(s: &[u8], form: u8, n: usize, count: usize, j: usize) -> usize
+    requires { ⌜ (form ≡ imageForm (now s)) × (n ≡ nodesIn (now s)) × (count ≡ countIn (now s)) × (known form ≡ true) × (n ≤ 64) × (count ≤ 4096) × (j < count)
+        × (eventPlace form n count ≤ length (now s)) ⌝ }
     ensures run { λ r. ⌜ r ≡ runEnd (now (s .entry)) j ⌝ }
     ensures within { λ r. ⌜ (j < r) × (r ≤ 4096) ⌝ }
 {
     let mut i = j + 1;
     while i < count {
-        if !is_following(s, n, i) {
+        if !is_following(s, form, n, i) {
             return i;
         }
         i += 1;
@@ -70,14 +70,14 @@ fn is_blank(v: Content) -> bool
     v.item == 0
 }
 
-// The head index.
+// The version and the head index.
 fn put_heads(b: &mut [u8], g: Image) -> usize
     requires { ⌜ 64 ≤ length (now b) ⌝ }
-    ensures put { λ r. ⌜ (r ≡ length (text "head " ++ decimal (headIn g 0) ++ newline)) × (now (b .exit) ≡ over (now (b .entry)) 0 (text "head " ++ decimal (headIn g 0) ++ newline)) ⌝ }
+    ensures put { λ r. ⌜ (r ≡ length (headLine (g .form) (headIn g 0))) × (now (b .exit) ≡ over (now (b .entry)) 0 (headLine (g .form) (headIn g 0))) ⌝ }
     ensures room { λ r. ⌜ r ≤ 64 ⌝ }
 {
     let heads = g.heads;
-    put_head(b, heads[0])
+    put_head(b, g.form, heads[0])
 }
 
 // Node i, unless all of it is zero.
@@ -93,16 +93,17 @@ fn put_node_entry(b: &mut [u8], i: usize, v: Content) -> usize
 }
 
 // Event j with the steps like it behind it, unless it stands behind one like it.
-fn put_event_entry(s: &[u8], n: usize, count: usize, j: usize, b: &mut [u8]) -> usize
-    requires { ⌜ (n ≡ nodesIn (now s)) × (count ≡ countIn (now s)) × (n ≤ 64) × (count ≤ 4096) × (j < count) × (eventPlace n count ≤ length (now s)) × (64 ≤ length (now b)) ⌝ }
+fn put_event_entry(s: &[u8], form: u8, n: usize, count: usize, j: usize, b: &mut [u8]) -> usize
+    requires { ⌜ (form ≡ imageForm (now s)) × (n ≡ nodesIn (now s)) × (count ≡ countIn (now s)) × (known form ≡ true) × (n ≤ 64) × (count ≤ 4096) × (j < count)
+        × (eventPlace form n count ≤ length (now s)) × (64 ≤ length (now b)) ⌝ }
     ensures put { λ r. ⌜ (r ≡ length (eventEntry (now (s .entry)) j)) × (now (b .exit) ≡ over (now (b .entry)) 0 (eventEntry (now (s .entry)) j)) ⌝ }
     ensures room { λ r. ⌜ r ≤ 64 ⌝ }
 {
-    if is_following(s, n, j) {
+    if is_following(s, form, n, j) {
         return 0;
     }
-    let e = event_at(s, n, j);
-    let r = run_end(s, n, count, j);
+    let e = event_at(s, form, n, j);
+    let r = run_end(s, form, n, count, j);
     put_event(b, e, (r - j) as u32)
 }
 
@@ -129,5 +130,5 @@ pub fn put_entry(s: &[u8], d: Schedule, k: usize, b: &mut [u8]) -> usize
         let v = g.nodes[i];
         return put_node_entry(b, i, v);
     }
-    put_event_entry(s, m, d.count as usize, k - 3 - m, b)
+    put_event_entry(s, g.form, m, d.count as usize, k - 3 - m, b)
 }

@@ -6,7 +6,7 @@ ghost use lib.ListN.{length};
 ghost use Rattle.lists.specs.Tab.{over};
 ghost use Rattle.lists.specs.Text.{text, decimal};
 ghost use Rattle.page.specs.Printed.{newline};
-ghost use Rattle.spelling.specs.Writing.{nodeLine, eventLine, isStep};
+ghost use Rattle.spelling.specs.Writing.{versionLine, headLine, nodeLine, eventLine, isStep};
 use image::Content;
 use machine::Event;
 use printing::put;
@@ -20,6 +20,16 @@ fn put_named(b: &mut [u8], at: usize, word: &[u8], x: u32) -> usize
 {
     let p = put(b, at, word);
     put_decimal(b, p, x as u64)
+}
+
+// The same with a number of up to 64 bits.
+fn put_far(b: &mut [u8], at: usize, word: &[u8], x: u64) -> usize
+    requires { ⌜ (at ≤ 64) × (length (now word) ≤ 64) × (at + length (now word) + 20 ≤ length (now b)) ⌝ }
+    ensures put { λ r. ⌜ (r ≡ at + length (now (word .entry) ++ decimal x)) × (now (b .exit) ≡ over (now (b .entry)) at (now (word .entry) ++ decimal x)) ⌝ }
+    ensures room { λ r. ⌜ r ≤ at + length (now (word .entry)) + 20 ⌝ }
+{
+    let p = put(b, at, word);
+    put_decimal(b, p, x)
 }
 
 // A number between two words.
@@ -59,12 +69,28 @@ pub fn put_threads(b: &mut [u8], t: u8) -> usize
     put_one(b, b"threads ", t as u32, b"\n")
 }
 
-pub fn put_head(b: &mut [u8], h: u32) -> usize
+// The version, unless it is 1; gives the place behind it.
+fn put_version(b: &mut [u8], form: u8) -> usize
     requires { ⌜ 64 ≤ length (now b) ⌝ }
-    ensures put { λ r. ⌜ (r ≡ length (text "head " ++ decimal h ++ newline)) × (now (b .exit) ≡ over (now (b .entry)) 0 (text "head " ++ decimal h ++ newline)) ⌝ }
+    ensures put { λ r. ⌜ (r ≡ length (versionLine form)) × (now (b .exit) ≡ over (now (b .entry)) 0 (versionLine form)) ⌝ }
+    ensures room { λ r. ⌜ r ≤ 20 ⌝ }
+{
+    if form == 1 {
+        return 0;
+    }
+    let p = put_named(b, 0, b"version ", form as u32);
+    put(b, p, b"\n")
+}
+
+// The version and the head index.
+pub fn put_head(b: &mut [u8], form: u8, h: u64) -> usize
+    requires { ⌜ 64 ≤ length (now b) ⌝ }
+    ensures put { λ r. ⌜ (r ≡ length (headLine form h)) × (now (b .exit) ≡ over (now (b .entry)) 0 (headLine form h)) ⌝ }
     ensures room { λ r. ⌜ r ≤ 64 ⌝ }
 {
-    put_one(b, b"head ", h, b"\n")
+    let p = put_version(b, form);
+    let q = put_far(b, p, b"head ", h);
+    put(b, q, b"\n")
 }
 
 // Node i with its content.
@@ -75,7 +101,7 @@ pub fn put_node(b: &mut [u8], i: u32, v: Content) -> usize
 {
     let p = put_named(b, 0, b"node ", i);
     let q = put_named(b, p, b" ", v.linked as u32);
-    let s = put_named(b, q, b" ", v.index);
+    let s = put_far(b, q, b" ", v.index);
     let u = put_named(b, s, b" ", v.item);
     put(b, u, b"\n")
 }

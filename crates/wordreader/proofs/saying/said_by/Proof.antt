@@ -193,12 +193,25 @@ returns-12 : tie.Need-returns-12
 unfolding saidBy keyOf wordOn text grown letterMore digitMore
 returns-12 c = rw (c .before .before .before .before .before .before .before .if12 .taken) (c .graded-act10 .ensures ∙ ap₂ graded (c .before .before .worse-of7 .ensures ∙ ap₂ worse (c .before .before .before .grade-of17 .ensures) (c .before .before .before .before .worse-of6 .ensures ∙ ap₂ worse (c .before .before .before .before .before .before .grade-of15 .ensures) (c .before .before .before .before .before .grade-of16 .ensures))) (c .before .an-act12 .ensures))
 
+grade-of-requires-18 : tie.Need-grade-of-requires-18
+grade-of-requires-18 c κs = search needs
+
 an-act-requires-13 : tie.Need-an-act-requires-13
 an-act-requires-13 c κs = search needs
 
+graded-act-requires-11 : tie.Need-graded-act-requires-11
+graded-act-requires-11 c κs = search needs
+
 returns-13 : tie.Need-returns-13
 unfolding saidBy keyOf wordOn text grown letterMore digitMore
-returns-13 c = rw (ne-eqb _ _ (c .before .before .before .before .before .before .before .before .before .before .before .before .if1 .left), ne-eqb _ _ (c .before .before .before .before .before .before .before .before .before .before .before .if2 .left), ne-eqb _ _ (c .before .before .before .before .before .before .before .before .before .before .if3 .left), ne-eqb _ _ (c .before .before .before .before .before .before .before .before .before .if4 .left), ne-eqb _ _ (c .before .before .before .before .before .before .before .before .if5 .left), ne-eqb _ _ (c .before .before .before .before .before .before .before .if6 .left), ne-eqb _ _ (c .before .before .before .before .before .before .if7 .left), ne-eqb _ _ (c .before .before .before .before .before .if8 .left), ne-eqb _ _ (c .before .before .before .before .if9 .left), ne-eqb _ _ (c .before .before .before .if10 .left), ne-eqb _ _ (c .before .before .if11 .left), ne-eqb _ _ (c .before .if12 .left)) (c .an-act13 .ensures)
+returns-13 c = rw (c .before .before .before .if13 .taken) (c .graded-act11 .ensures ∙ ap₂ graded (c .before .before .grade-of18 .ensures) (c .before .an-act13 .ensures))
+
+an-act-requires-14 : tie.Need-an-act-requires-14
+an-act-requires-14 c κs = search needs
+
+returns-14 : tie.Need-returns-14
+unfolding saidBy keyOf wordOn text grown letterMore digitMore
+returns-14 c = rw (ne-eqb _ _ (c .before .before .before .before .before .before .before .before .before .before .before .before .before .if1 .left), ne-eqb _ _ (c .before .before .before .before .before .before .before .before .before .before .before .before .if2 .left), ne-eqb _ _ (c .before .before .before .before .before .before .before .before .before .before .before .if3 .left), ne-eqb _ _ (c .before .before .before .before .before .before .before .before .before .before .if4 .left), ne-eqb _ _ (c .before .before .before .before .before .before .before .before .before .if5 .left), ne-eqb _ _ (c .before .before .before .before .before .before .before .before .if6 .left), ne-eqb _ _ (c .before .before .before .before .before .before .before .if7 .left), ne-eqb _ _ (c .before .before .before .before .before .before .if8 .left), ne-eqb _ _ (c .before .before .before .before .before .if9 .left), ne-eqb _ _ (c .before .before .before .before .if10 .left), ne-eqb _ _ (c .before .before .before .if11 .left), ne-eqb _ _ (c .before .before .if12 .left), ne-eqb _ _ (c .before .if13 .left)) (c .an-act14 .ensures)
 
 pub said-by-spec : {M : Type 1} → statement M
 said-by-spec =
@@ -262,5 +275,9 @@ said-by-spec =
     an-act-requires-12
     graded-act-requires-10
     returns-12
+    grade-of-requires-18
     an-act-requires-13
-    returns-13)
+    graded-act-requires-11
+    returns-13
+    an-act-requires-14
+    returns-14)

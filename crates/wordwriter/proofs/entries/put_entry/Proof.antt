@@ -1,8 +1,9 @@
 use Rattle.wordwriter.proofs.EntryLaws as entries
 use native.Mathlib.Omega.{arith}
-use mathlib.Core.Path.{_≡_, refl, sym, ap, subst, _∙_}
+use mathlib.Core.Path.{_≡_, refl, sym, ap, ap₂, _∙_}
 use Prim.Native.Nat.{_-_}
 use Rattle.image.specs.Layout.{contentAt, headIn}
+use Rattle.schedule.specs.Layout.{eventPlace, countIn, nodesIn}
 use borrow.Author.Needs.{needs}
 use Rattle.wordwriter.proofs.entries.put_entry.Statement.{statement}
 use Rattle.wordwriter.proofs.entries.put_entry.Tie as tie
@@ -14,10 +15,7 @@ same-length : tie.Need-same-length
 same-length c = search needs
 
 returns : tie.Need-returns
-returns c = let a = c .before .before .before .before .before .before .before .before .args in
-    let h = c .before .before .before .before .before .before .before .before .pre .0 in
-    let e = c .before .before .before .before .before .before .before .before .pre .1 in
-    rw (entries.entry-nodes (a .s .now) (a .k) (a .d .image .n) (entries.nodes-is (a .s .now) (a .d) e) (c .before .before .before .before .if1 .taken)) (c .before .before .put-nodes .ensures)
+returns c = rw (entries.entry-nodes (c .before .before .before .before .before .before .before .before .args .s .now) (c .before .before .before .before .before .before .before .before .args .k) (c .before .before .before .before .before .before .before .before .args .d .image .n) (entries.nodes-is (c .before .before .before .before .before .before .before .before .args .s .now) (c .before .before .before .before .before .before .before .before .args .d) (c .before .before .before .before .before .before .before .before .pre .1)) (c .before .before .before .before .if1 .taken)) (c .before .before .put-nodes .ensures)
 
 put-threads-requires : tie.Need-put-threads-requires
 put-threads-requires c κs = search needs
@@ -26,10 +24,7 @@ same-length-2 : tie.Need-same-length-2
 same-length-2 c = search needs
 
 returns-2 : tie.Need-returns-2
-returns-2 c = let a = c .before .before .before .before .before .before .before .before .before .args in
-    let h = c .before .before .before .before .before .before .before .before .before .pre .0 in
-    let e = c .before .before .before .before .before .before .before .before .before .pre .1 in
-    rw (entries.entry-threads (a .s .now) (a .k) (a .d .t) (entries.threads-is (a .s .now) (a .d) e) (c .before .before .before .before .if2 .taken)) (c .before .before .put-threads .ensures)
+returns-2 c = rw (entries.entry-threads (c .before .before .before .before .before .before .before .before .before .args .s .now) (c .before .before .before .before .before .before .before .before .before .args .k) (c .before .before .before .before .before .before .before .before .before .args .d .t) (entries.threads-is (c .before .before .before .before .before .before .before .before .before .args .s .now) (c .before .before .before .before .before .before .before .before .before .args .d) (c .before .before .before .before .before .before .before .before .before .pre .1)) (c .before .before .before .before .if2 .taken)) (c .before .before .put-threads .ensures)
 
 put-heads-requires : tie.Need-put-heads-requires
 put-heads-requires c κs = search needs
@@ -38,10 +33,7 @@ same-length-3 : tie.Need-same-length-3
 same-length-3 c = search needs
 
 returns-3 : tie.Need-returns-3
-returns-3 c = let a = c .before .before .before .before .before .before .before .before .before .before .args in
-    let h = c .before .before .before .before .before .before .before .before .before .before .pre .0 in
-    let e = c .before .before .before .before .before .before .before .before .before .before .pre .1 in
-    rw (entries.entry-head (a .s .now) (a .k) (headIn (a .d .image) 0) (entries.head-is (a .s .now) (a .d) e) (c .before .before .before .before .if3 .taken)) (c .before .before .put-heads .ensures)
+returns-3 c = rw (entries.entry-head (c .before .before .before .before .before .before .before .before .before .before .args .s .now) (c .before .before .before .before .before .before .before .before .before .before .args .k) (c .before .before .before .before .before .before .before .before .before .before .args .d .image .form) (headIn (c .before .before .before .before .before .before .before .before .before .before .args .d .image) 0) (entries.form-is (c .before .before .before .before .before .before .before .before .before .before .args .s .now) (c .before .before .before .before .before .before .before .before .before .before .args .d) (c .before .before .before .before .before .before .before .before .before .before .pre .1)) (entries.head-is (c .before .before .before .before .before .before .before .before .before .before .args .s .now) (c .before .before .before .before .before .before .before .before .before .before .args .d) (c .before .before .before .before .before .before .before .before .before .before .pre .1)) (c .before .before .before .before .if3 .taken)) (c .before .before .put-heads .ensures)
 
 cast-m : tie.Need-cast-m
 cast-m c = search needs
@@ -56,26 +48,16 @@ mul-v : tie.Need-mul-v
 mul-v c = search needs
 
 element-copy-out-v : tie.Need-element-copy-out-v
-element-copy-out-v c = let a = c .before .before .before .before .before .before .before .args in
-    let h = c .before .before .before .before .before .before .before .pre .0 in
-    let e = c .before .before .before .before .before .before .before .pre .1 in
-    omega (arith, entries.nodes-is (a .s .now) (a .d) e, entries.few (a .s .now) h)
+element-copy-out-v c = omega (arith, entries.nodes-is (c .before .before .before .before .before .before .before .args .s .now) (c .before .before .before .before .before .before .before .args .d) (c .before .before .before .before .before .before .before .pre .1), entries.few (c .before .before .before .before .before .before .before .args .s .now) (c .before .before .before .before .before .before .before .pre .0))
 
 put-node-entry-requires : tie.Need-put-node-entry-requires
-put-node-entry-requires c κs = let a = c .before .before .before .before .before .before .before .before .before .args in
-    let h = c .before .before .before .before .before .before .before .before .before .pre .0 in
-    let e = c .before .before .before .before .before .before .before .before .before .pre .1 in
-    (omega (arith, entries.nodes-is (a .s .now) (a .d) e, entries.few (a .s .now) h), omega arith)
+put-node-entry-requires c κs = (omega (arith, entries.nodes-is (c .before .before .before .before .before .before .before .before .before .args .s .now) (c .before .before .before .before .before .before .before .before .before .args .d) (c .before .before .before .before .before .before .before .before .before .pre .1), entries.few (c .before .before .before .before .before .before .before .before .before .args .s .now) (c .before .before .before .before .before .before .before .before .before .pre .0)), omega arith)
 
 same-length-4 : tie.Need-same-length-4
 same-length-4 c = search needs
 
 returns-4 : tie.Need-returns-4
-returns-4 c = let a = c .before .before .before .before .before .before .before .before .before .before .before .before .args in
-    let h = c .before .before .before .before .before .before .before .before .before .before .before .before .pre .0 in
-    let e = c .before .before .before .before .before .before .before .before .before .before .before .before .pre .1 in
-    let n = entries.nodes-is (a .s .now) (a .d) e in
-    rw (entries.entry-node (a .s .now) (a .k) (contentAt (a .d .image .nodes) (a .k - 3)) (entries.node-is (a .s .now) (a .d) e (a .k - 3) (omega (arith, n))) (c .before .before .before .before .before .before .before .before .if1 .left) (c .before .before .before .before .before .before .before .if2 .left) (c .before .before .before .before .before .before .if3 .left) (omega (arith, n))) (c .before .before .put-node-entry .ensures)
+returns-4 c = let n = entries.nodes-is (c .before .before .before .before .before .before .before .before .before .before .before .before .args .s .now) (c .before .before .before .before .before .before .before .before .before .before .before .before .args .d) (c .before .before .before .before .before .before .before .before .before .before .before .before .pre .1) in rw (entries.entry-node (c .before .before .before .before .before .before .before .before .before .before .before .before .args .s .now) (c .before .before .before .before .before .before .before .before .before .before .before .before .args .k) (contentAt (c .before .before .before .before .before .before .before .before .before .before .before .before .args .d .image .nodes) (c .before .before .before .before .before .before .before .before .before .before .before .before .args .k - 3)) (entries.node-is (c .before .before .before .before .before .before .before .before .before .before .before .before .args .s .now) (c .before .before .before .before .before .before .before .before .before .before .before .before .args .d) (c .before .before .before .before .before .before .before .before .before .before .before .before .pre .1) (c .before .before .before .before .before .before .before .before .before .before .before .before .args .k - 3) (omega (arith, n))) (c .before .before .before .before .before .before .before .before .if1 .left) (c .before .before .before .before .before .before .before .if2 .left) (c .before .before .before .before .before .before .if3 .left) (omega (arith, n))) (c .before .before .put-node-entry .ensures)
 
 cast-put-event-entry : tie.Need-cast-put-event-entry
 cast-put-event-entry c = search needs
@@ -87,46 +69,13 @@ sub-put-event-entry-2 : tie.Need-sub-put-event-entry-2
 sub-put-event-entry-2 c = search needs
 
 put-event-entry-requires : tie.Need-put-event-entry-requires
-put-event-entry-requires c κs = let a = c .before .before .before .before .before .before .before .before .before .args in
-    let h = c .before .before .before .before .before .before .before .before .before .pre .0 in
-    let e = c .before .before .before .before .before .before .before .before .before .pre .1 in
-    let n = entries.nodes-is (a .s .now) (a .d) e in
-    let c′ = entries.count-is (a .s .now) (a .d) e in
-    (n, c′, omega (arith, n, entries.few (a .s .now) h), omega (arith, c′, entries.short (a .s .now) h), omega (arith, n, c′, c .before .before .before .before .before .before .before .before .before .pre .2), omega (arith, n, c′, entries.size (a .s .now) h), omega arith)
+put-event-entry-requires c κs = let n = entries.nodes-is (c .before .before .before .before .before .before .before .before .before .args .s .now) (c .before .before .before .before .before .before .before .before .before .args .d) (c .before .before .before .before .before .before .before .before .before .pre .1) in let q = entries.count-is (c .before .before .before .before .before .before .before .before .before .args .s .now) (c .before .before .before .before .before .before .before .before .before .args .d) (c .before .before .before .before .before .before .before .before .before .pre .1) in let f = entries.form-is (c .before .before .before .before .before .before .before .before .before .args .s .now) (c .before .before .before .before .before .before .before .before .before .args .d) (c .before .before .before .before .before .before .before .before .before .pre .1) in (f, n, q, rw f (entries.form (c .before .before .before .before .before .before .before .before .before .args .s .now) (c .before .before .before .before .before .before .before .before .before .pre .0)), omega (arith, n, entries.few (c .before .before .before .before .before .before .before .before .before .args .s .now) (c .before .before .before .before .before .before .before .before .before .pre .0)), omega (arith, q, entries.short (c .before .before .before .before .before .before .before .before .before .args .s .now) (c .before .before .before .before .before .before .before .before .before .pre .0)), omega (arith, n, q, c .before .before .before .before .before .before .before .before .before .pre .2), rw (f, n, q) (entries.events-fit (c .before .before .before .before .before .before .before .before .before .args .s .now) (c .before .before .before .before .before .before .before .before .before .pre .0)), omega arith)
 
 same-length-5 : tie.Need-same-length-5
 same-length-5 c = search needs
 
 returns-5 : tie.Need-returns-5
-returns-5 c = let a = c .before .before .before .before .before .before .before .before .before .before .before .before .args in
-    let h = c .before .before .before .before .before .before .before .before .before .before .before .before .pre .0 in
-    let e = c .before .before .before .before .before .before .before .before .before .before .before .before .pre .1 in
-    rw (entries.entry-event (a .s .now) (a .k) (a .d .image .n) (entries.nodes-is (a .s .now) (a .d) e) (c .before .before .before .before .before .before .before .before .if1 .left) (c .before .before .before .before .before .before .before .if2 .left) (c .before .before .before .before .before .before .if3 .left) (omega arith)) (c .before .before .put-event-entry .ensures)
+returns-5 c = rw (entries.entry-event (c .before .before .before .before .before .before .before .before .before .before .before .before .args .s .now) (c .before .before .before .before .before .before .before .before .before .before .before .before .args .k) (c .before .before .before .before .before .before .before .before .before .before .before .before .args .d .image .n) (entries.nodes-is (c .before .before .before .before .before .before .before .before .before .before .before .before .args .s .now) (c .before .before .before .before .before .before .before .before .before .before .before .before .args .d) (c .before .before .before .before .before .before .before .before .before .before .before .before .pre .1)) (c .before .before .before .before .before .before .before .before .if1 .left) (c .before .before .before .before .before .before .before .if2 .left) (c .before .before .before .before .before .before .if3 .left) (omega arith)) (c .before .before .put-event-entry .ensures)
 
 pub put-entry-spec : {M : Type 1} → statement M
-put-entry-spec =
-    tie.close
-    (tie.spec
-    put-nodes-requires
-    same-length
-    returns
-    put-threads-requires
-    same-length-2
-    returns-2
-    put-heads-requires
-    same-length-3
-    returns-3
-    cast-m
-    add-if4
-    sub-i
-    mul-v
-    element-copy-out-v
-    put-node-entry-requires
-    same-length-4
-    returns-4
-    cast-put-event-entry
-    sub-put-event-entry
-    sub-put-event-entry-2
-    put-event-entry-requires
-    same-length-5
-    returns-5)
+put-entry-spec = tie.close (tie.spec put-nodes-requires same-length returns put-threads-requires same-length-2 returns-2 put-heads-requires same-length-3 returns-3 cast-m add-if4 sub-i mul-v element-copy-out-v put-node-entry-requires same-length-4 returns-4 cast-put-event-entry sub-put-event-entry sub-put-event-entry-2 put-event-entry-requires same-length-5 returns-5)
