@@ -276,7 +276,7 @@ unfolding around
 around-left n w i h f k p =
     let g = behind-lt n (suc i) w h f in
     let e : least (has w) (n - suc i) (suc i) ≡ trailingZeros 64 (w / 2 ^ suc i) + suc i =
-      least-behind (suc i) (n - suc i) w ∙ ap (λ (x : ℕ). x + suc i) (sym (trailing-lowest (n - suc i) (w / 2 ^ suc i) p g (omega arith))) in
+    least-behind (suc i) (n - suc i) w ∙ ap (λ (x : ℕ). x + suc i) (sym (trailing-lowest (n - suc i) (w / 2 ^ suc i) p g (omega arith))) in
     let l = least-lt (n - suc i) (w / 2 ^ suc i) p g in
     rw (lt-ltb (least (has w) (n - suc i) (suc i)) n (omega (arith, least-behind (suc i) (n - suc i) w, l))) e
 
