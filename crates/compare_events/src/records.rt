@@ -1,4 +1,4 @@
-// Records that are handed in. An item is a record (1,970 bytes) and an event (6).
+// Records that are handed in. An item is a record (1,971 bytes) and an event (6).
 ghost use Prim.Native.Nat.{_≤_};
 ghost use lib.ListN.{length};
 use crate::kept::event_by;
@@ -16,18 +16,18 @@ use stream::word;
 
 // The record in front of the item. One that is too short for a record reads as the blank machine.
 fn record_of(s: &[u8]) -> Machine {
-    if s.len() < 1970 {
+    if s.len() < 1971 {
         let r = record::read_record(s);
         return r.machine;
     }
-    let r = record::read_record(&s[..1970]);
+    let r = record::read_record(&s[..1971]);
     r.machine
 }
 
 fn event_of(s: &[u8]) -> Event {
-    let kind = byte(s, 1970);
-    let number = byte(s, 1971);
-    let item = word(s, 1972);
+    let kind = byte(s, 1971);
+    let number = byte(s, 1972);
+    let item = word(s, 1973);
     Event { kind, number, item }
 }
 
@@ -76,7 +76,7 @@ fn put_saved(out: &mut [u8; 65536], at: usize, m: Machine, lent: &mut [u8], room
 
 pub(crate) fn answer_saved(s: &[u8], out: &mut [u8; 65536], at: usize) -> usize {
     let m = record_of(s);
-    let room = half(s, 1970);
+    let room = half(s, 1971);
     let mut lent = [0xaau8; 65536];
     put_saved(out, at, m, &mut lent, room as usize)
 }
