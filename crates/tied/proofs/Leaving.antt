@@ -166,6 +166,7 @@ module _ (p : memory.Line → Content) (m : Machine) (c : Core) (d : Tied p m c)
     narrow = s .narrow;
     heads = s .heads;
     tail = s .tail;
+    last = s .last;
     nodes = s .nodes;
     free = s .free;
     kept = s .kept;
