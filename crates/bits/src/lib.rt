@@ -1,7 +1,7 @@
 // Sets of numbers as words: a number is in the set where its bit is set.
 ghost use mathlib.Core.Path.{_≡_};
 ghost use Prim.Native.Nat.{ℕ, _<_};
-ghost use Rattle.lists.specs.Find.{least, count};
+ghost use Rattle.lists.specs.Find.{least, around, count};
 ghost use Rattle.lists.specs.Word.{has, with, without};
 
 // The lowest number in the set, 64 where there is none.
@@ -9,6 +9,18 @@ pub fn lowest(w: u64) -> u32
     ensures { λ r. ⌜ r ≡ least (has w) 64 0 ⌝ }
 {
     u64::trailing_zeros(w)
+}
+
+// The next number of the set after i, going round: the lowest of those behind i, where there is one, else the lowest of all; 64 where there is none.
+pub fn after(w: u64, i: u32) -> u32
+    requires { ⌜ i < 64 ⌝ }
+    ensures { λ r. ⌜ r ≡ around (has w) 64 i ⌝ }
+{
+    let behind = (w >> i) / 2;
+    if behind == 0 {
+        return lowest(w);
+    }
+    u64::trailing_zeros(behind) + (i + 1)
 }
 
 // How many numbers are in the set.

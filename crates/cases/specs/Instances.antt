@@ -5,7 +5,7 @@ use mathlib.Core.Bool.{Bool, true, false}
 use mathlib.Core.List.{List, [], _∷_, _++_}
 use mathlib.Core.Logic.{_⊎_, inl, inr}
 use native.Mathlib.Omega.{arith}
-use Rattle.lists.specs.Find.{least, any}
+use Rattle.lists.specs.Find.{least, around, any}
 use Rattle.lists.specs.Tab.{tab, front}
 use Rattle.lists.specs.Word.{has, with, without, wordOf}
 use Rattle.image.specs.Bytes.{atW}
@@ -84,7 +84,7 @@ lawful-five-six = record { order = 0 ∷ 1 ∷ []; within = within; once = (diff
 
 -- every ending of P6
 pub P6-recovers : (k : ℕ) → k < 3 → Recovers P6 (endingIn P6 k)
-unfolding P6 P7 p6 four enqueue step zeroNodes schedule least any tab front has with without wordOf noContents atW known widthOf topOf headsAt nodeSize headerSize marked formIn nodePlace readNodes imageIn
+unfolding P6 P7 p6 four enqueue step zeroNodes schedule least around any tab front has with without wordOf noContents atW known widthOf topOf headsAt nodeSize headerSize marked formIn nodePlace readNodes imageIn
     recovered twins hasTwin firstTwin dummyOf firstUnclear startable sound headTooWide firstTooWide fitting whole blankNodes idleThreads insert risen behind lastOf startWith startAnswer
     nextFree releasedAt released others retired eventAt scheduleIn eventsIn run ran headLines noHeads headsOf readHeads largest headOf lineAt putLine sameContent joins gathered contentsOf tableOf
     choices imageOf ending tableIn endingIn operations serveAll itemsFrom
@@ -95,7 +95,7 @@ P6-recovers (suc (suc (suc k))) h = absurd (omega arith)
 
 -- and of P7, whose fourth has both items
 pub P7-recovers : (k : ℕ) → k < 4 → Recovers P7 (endingIn P7 k)
-unfolding P6 P7 p6 four enqueue step zeroNodes schedule least any tab front has with without wordOf noContents atW known widthOf topOf headsAt nodeSize headerSize marked formIn nodePlace readNodes imageIn
+unfolding P6 P7 p6 four enqueue step zeroNodes schedule least around any tab front has with without wordOf noContents atW known widthOf topOf headsAt nodeSize headerSize marked formIn nodePlace readNodes imageIn
     recovered twins hasTwin firstTwin dummyOf firstUnclear startable sound headTooWide firstTooWide fitting whole blankNodes idleThreads insert risen behind lastOf startWith startAnswer
     nextFree releasedAt released others retired eventAt scheduleIn eventsIn run ran headLines noHeads headsOf readHeads largest headOf lineAt putLine sameContent joins gathered contentsOf tableOf
     choices imageOf ending tableIn endingIn operations serveAll itemsFrom

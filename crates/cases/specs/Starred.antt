@@ -7,7 +7,7 @@ use mathlib.Core.Bool.{Bool, true, false}
 use mathlib.Core.List.{List, [], _∷_, _++_, map}
 use lib.ListN.{length, getD}
 use lib.Dec.{eqb}
-use Rattle.lists.specs.Find.{pick, both, least, any, count}
+use Rattle.lists.specs.Find.{pick, both, least, around, any, count}
 use Rattle.lists.specs.Tab.{tab, joined, over, front}
 use Rattle.lists.specs.Text.{text, digitsOf, decimal}
 use Rattle.lists.specs.Word.{has, with, without, wordOf}
@@ -173,7 +173,7 @@ allRight (c ∷ l) = elim (right c) [ true ↦ allRight l | false ↦ false ]
 
 pub starred-hold : allRight starred ≡ true
 unfolding allRight right starred p1 p3 p6 sameBytes lastAnswer sixPlaces heldBelow four enqueue dequeue step zeroNodes schedule
-    least any count tab joined over front text digitsOf decimal has with without wordOf
+    least around any count tab joined over front text digitsOf decimal has with without wordOf
     noContents atW known widthOf topOf headsAt nodeSize headerSize marked formIn nodePlace readNodes imageIn recovered twins hasTwin firstTwin dummyOf firstUnclear startable sound imageAnswer
     blankNodes idleThreads insert risen behind lastOf startWith nextFree releasedAt released others retired eventAt
     reached isHeld inEnqueue inDequeue scheduleIn eventsIn scheduleAnswer run ran

@@ -11,9 +11,9 @@ ghost use Prim.Native.Nat.{ℕ, _<_, _≤_, _^_};
 ghost use Rattle.machine.specs.Record.{thread};
 ghost use Rattle.machine.specs.Enqueue.{stepA1, stepA2, stepA3, stepA4, stepA5, stepA6, stepA7, stepA8, stepA9, stepA10, stepA11, stepA12};
 
-// A1 takes the lowest-numbered free node; if none is free the answer is Full.
+// A1 takes the first free node after the one last handed out, going round; if none is free the answer is Full.
 pub fn a1(m: Machine, k: usize) -> Acted
-    requires { ⌜ (k < 8) × (m .n ≤ 64) × (m .free < 2 ^ m .n) ⌝ }
+    requires { ⌜ (k < 8) × (m .n ≤ 64) × (m .free < 2 ^ m .n) × (m .last < m .n) ⌝ }
     ensures { λ r. ⌜ r ≡ stepA1 m k ⌝ }
 {
     let mut th = m.threads[k];
@@ -26,11 +26,13 @@ pub fn a1(m: Machine, k: usize) -> Acted
             touch: Touch::Nothing,
         };
     }
-    let i = bits::lowest(f);
+    let i = bits::after(f, m.last as u32);
     let taken = bits::without_bit(f, i);
+    let x = i as u8;
     let mut r = m;
     r.free = taken;
-    th.node = i as u8;
+    r.last = x;
+    th.node = x;
     th.step = Machine::A2;
     r.threads[k] = th;
     Acted {

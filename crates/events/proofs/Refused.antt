@@ -5,14 +5,13 @@ use mathlib.Core.Bool.{Bool, true, false}
 use native.Mathlib.Omega.{arith}
 use lib.Dec.{eqb, leb}
 use Rattle.lists.specs.Find.{pick, both}
-use Rattle.lists.specs.Word.{without}
 use Rattle.answer.specs.Answers.{accepted}
 use Rattle.answer.specs.declared.Answer.{Answer}
 use Rattle.answer.specs.declared.Answer.the-variants.{Full, WornOut, Record}
 use Rattle.image.specs.Form.{topOf}
-use Rattle.machine.specs.Record.{none, node, thread, ownNode, withNext, withIndex, putNode, putFree, putHead, headAt}
+use Rattle.machine.specs.Record.{none, node, thread, ownNode, withNext, withIndex, putNode, putHead, headAt}
 use Rattle.machine.specs.Stage.{Stage, noStep, A1, A2, A3, A4, A5, A6, A7, A8, A9, A10, A11, A12, D1, D2, D3, D4, D5, D6, D7, stage}
-use Rattle.machine.specs.Retire.{out, quiet, moving, going, answering, storing, nextFree, freed}
+use Rattle.machine.specs.Retire.{out, quiet, moving, going, answering, storing, nextFree, handOut, freed}
 use Rattle.machine.specs.Event.{Deed, unknown, enqueues, dequeues, steps, writesBack, crashes, deedOf, eventAnswer, done, stepped, eventAt, handed, eventOn}
 use Rattle.machine.specs.Range.{inRange}
 use Rattle.machine.specs.declared.Machine.{Machine}
@@ -33,7 +32,7 @@ pub step-taken : (m : Machine) (k : ℕ) (s : Stage) → accepted (stepped m k s
 step-taken m k noStep = refl
 step-taken m k A1 =
     pick-fine (eqb (m .free) 0) (answering Full m k)
-    (moving (putFree m (without (m .free) (nextFree m))) k (ownNode (thread m k) (nextFree m)) 2) refl refl
+    (moving (handOut m (nextFree m)) k (ownNode (thread m k) (nextFree m)) 2) refl refl
 step-taken m k A2 = refl
 step-taken m k A3 = refl
 step-taken m k A4 = refl

@@ -5,7 +5,7 @@ use mathlib.Core.Bool.{Bool, true, false}
 use mathlib.Core.List.{List, [], _∷_, _++_}
 use native.Mathlib.Omega.{arith}
 use lib.Dec.{eqb}
-use Rattle.lists.specs.Find.{least, any, count}
+use Rattle.lists.specs.Find.{least, around, any, count}
 use Rattle.lists.specs.Tab.{tab, joined, over, front}
 use Rattle.lists.specs.Word.{has, with, without, wordOf}
 use Rattle.answer.specs.Answers.{told, accepted, replied}
@@ -40,7 +40,7 @@ pub record Facts (c : Point) : Type 0 where
   pub answer : told (eventOn (given c) step .answer) ≡ replied (reply c) 0
 
 pub facts : (c : Point) → Facts c
-unfolding leaves least any count tab joined over front has with without wordOf noContents noHeads headLines headsOf largest headOf recovered twins hasTwin firstTwin dummyOf startable
+unfolding leaves least around any count tab joined over front has with without wordOf noContents noHeads headLines headsOf largest headOf recovered twins hasTwin firstTwin dummyOf startable
     blankNodes idleThreads insert risen behind lastOf startWith nextFree releasedAt released others retired rangesFit headFits indexFits formFits known topOf widthOf inRange nodeFits threadFits eventAt eventOn
 facts P1 = record { old = refl; new = refl; answer = refl }
 facts P2 = record { old = refl; new = refl; answer = refl }
@@ -86,12 +86,12 @@ firstStep = after (enqueue 7 ∷ step ∷ [])
 
 -- memory after it, and after P2's events: the persisted copy of line 2 is (1, 1, 7)
 not-yet : lineTwo firstStep ≡ noContent
-unfolding leaves least any count tab joined over front has with without wordOf noContents noHeads headLines headsOf largest headOf recovered twins hasTwin firstTwin dummyOf startable
+unfolding leaves least around any count tab joined over front has with without wordOf noContents noHeads headLines headsOf largest headOf recovered twins hasTwin firstTwin dummyOf startable
     blankNodes idleThreads insert risen behind lastOf startWith nextFree releasedAt released others retired rangesFit headFits indexFits formFits known topOf widthOf inRange nodeFits threadFits eventAt eventOn lineAt
 not-yet = refl
 
 there : lineTwo (after (before P2 ++ (step ∷ []))) ≡ record { linked = 1; index = 1; item = 7 }
-unfolding leaves least any count tab joined over front has with without wordOf noContents noHeads headLines headsOf largest headOf recovered twins hasTwin firstTwin dummyOf startable
+unfolding leaves least around any count tab joined over front has with without wordOf noContents noHeads headLines headsOf largest headOf recovered twins hasTwin firstTwin dummyOf startable
     blankNodes idleThreads insert risen behind lastOf startWith nextFree releasedAt released others retired rangesFit headFits indexFits formFits known topOf widthOf inRange nodeFits threadFits eventAt eventOn lineAt
 there = refl
 
@@ -108,12 +108,12 @@ only-claims b h e = omega (arith, ap (λ (c : Content). c .item) (sym (persists-
 
 -- and already where it first only claims: at the second step, A2, it leaves node 1 as it is
 old-item : node firstStep 1 .item ≡ 0
-unfolding leaves least any count tab joined over front has with without wordOf noContents noHeads headLines headsOf largest headOf recovered twins hasTwin firstTwin dummyOf startable
+unfolding leaves least around any count tab joined over front has with without wordOf noContents noHeads headLines headsOf largest headOf recovered twins hasTwin firstTwin dummyOf startable
     blankNodes idleThreads insert risen behind lastOf startWith nextFree releasedAt released others retired rangesFit headFits indexFits formFits known topOf widthOf inRange nodeFits threadFits eventAt eventOn lineAt
 old-item = refl
 
 new-item : node (eventOn firstStep step .machine) 1 .item ≡ 7
-unfolding leaves least any count tab joined over front has with without wordOf noContents noHeads headLines headsOf largest headOf recovered twins hasTwin firstTwin dummyOf startable
+unfolding leaves least around any count tab joined over front has with without wordOf noContents noHeads headLines headsOf largest headOf recovered twins hasTwin firstTwin dummyOf startable
     blankNodes idleThreads insert risen behind lastOf startWith nextFree releasedAt released others retired rangesFit headFits indexFits formFits known topOf widthOf inRange nodeFits threadFits eventAt eventOn lineAt
 new-item = refl
 

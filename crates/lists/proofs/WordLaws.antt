@@ -8,10 +8,11 @@ use native.Mathlib.Omega.{arith}
 use lib.Dec.{eqb}
 use lib.Pow.{pow-lt, pow-mono}
 use lib.Count.{ones, ones-step, trailingZeros, under}
-use borrow.Author.Tests.{eqb-true, eqb-false}
-use Rattle.lists.specs.Find.{pick, least, count}
+use borrow.Author.Tests.{eqb-true, eqb-false, lt-ltb, le-ltb}
+use native.Mathlib.Decide.{ℕ-discrete}
+use Rattle.lists.specs.Find.{pick, least, around, count}
 use Rattle.lists.specs.Word.{has, with, without, wordOf}
-use Rattle.lists.proofs.FindLaws.{least-shift}
+use Rattle.lists.proofs.FindLaws.{least-shift, least-none}
 
 odd : (w : ℕ) → eqb (w % 2) 1 ≡ true → w % 2 ≡ 1
 odd w e = eqb-true (w % 2) 1 e
@@ -245,6 +246,56 @@ trailing-has (suc n) w p f =
 
 pub least-has : (n w : ℕ) → 0 < w → w < 2 ^ n → has w (least (has w) n 0) ≡ true
 least-has n w p f = rw (← trailing-least n w) (trailing-has n w p f)
+
+-- ---- the numbers behind one, going round
+
+-- a search from s on, in the word moved down by s
+least-behind : (s k w : ℕ) → least (has w) k s ≡ least (has (w / 2 ^ s)) k 0 + s
+unfolding has
+least-behind zero k w = rw (div-one w) (omega arith)
+least-behind (suc s) k w =
+    least-shift (has w) k s
+    ∙ ap suc (least-behind s k (w / 2))
+    ∙ rw (div-div-eq-div-mul w 2 (2 ^ s), ← pow-succ' 2 s) (omega arith)
+
+-- what is left of a word of n numbers
+behind-lt : (n s w : ℕ) → s ≤ n → w < 2 ^ n → w / 2 ^ s < 2 ^ (n - s)
+behind-lt n zero w h f = let z : n - 0 ≡ n = omega arith in rw (div-one w, z) f
+behind-lt zero (suc s) w h f = absurd (omega arith)
+behind-lt (suc n) (suc s) w h f =
+    let z : suc n - suc s ≡ n - s = omega arith in
+    rw (z, pow-succ' 2 s, ← div-div-eq-div-mul w 2 (2 ^ s)) (behind-lt n s (w / 2) (omega arith) (omega (arith, pow-suc 2 n)))
+
+-- what is behind i, as a shift by i and a half
+pub behind-half : (w i : ℕ) → w / 2 ^ i / 2 ≡ w / 2 ^ suc i
+behind-half w i = div-div-eq-div-mul w (2 ^ i) 2 ∙ ap (λ (x : ℕ). w / x) (sym (pow-suc 2 i))
+
+-- the next number after i: the lowest of those behind it, and where none is left the lowest of all
+pub around-left : (n w i : ℕ) → i < n → w < 2 ^ n → n ≤ 64 → 0 < w / 2 ^ suc i → around (has w) n i ≡ trailingZeros 64 (w / 2 ^ suc i) + suc i
+unfolding around
+around-left n w i h f k p =
+    let g = behind-lt n (suc i) w h f in
+    let e : least (has w) (n - suc i) (suc i) ≡ trailingZeros 64 (w / 2 ^ suc i) + suc i =
+    least-behind (suc i) (n - suc i) w ∙ ap (λ (x : ℕ). x + suc i) (sym (trailing-lowest (n - suc i) (w / 2 ^ suc i) p g (omega arith))) in
+    let l = least-lt (n - suc i) (w / 2 ^ suc i) p g in
+    rw (lt-ltb (least (has w) (n - suc i) (suc i)) n (omega (arith, least-behind (suc i) (n - suc i) w, l))) e
+
+pub around-over : (n w i : ℕ) → i < n → w / 2 ^ suc i ≡ 0 → around (has w) n i ≡ least (has w) n 0
+unfolding around
+around-over n w i h p =
+    let e : least (has w) (n - suc i) (suc i) ≡ least (has 0) (n - suc i) 0 + suc i = rw p at (least-behind (suc i) (n - suc i) w) in
+    let z = least-none (has 0) (n - suc i) 0 (λ j a b. has-zero j) in
+    rw (le-ltb (least (has w) (n - suc i) (suc i)) n (omega arith))
+
+-- a word that is not 0 has its next number within its own width: more numbers looked at change nothing
+pub around-narrow : (n k w i : ℕ) → i < n → 0 < w → w < 2 ^ n → n ≤ k → k ≤ 64 → around (has w) k i ≡ around (has w) n i
+around-narrow n k w i h p f a b = by (ℕ-discrete (w / 2 ^ suc i) 0)
+  where
+    by : Dec (w / 2 ^ suc i ≡ 0) → around (has w) k i ≡ around (has w) n i
+    by (yes e) = around-over k w i (omega arith) e ∙ least-narrow n k w p f a ∙ sym (around-over n w i h e)
+    by (no e) =
+        around-left k w i (omega arith) (omega (arith, pow-mono a)) b (omega arith)
+        ∙ sym (around-left n w i h f (omega arith) (omega arith))
 
 -- ---- the count of ones
 

@@ -1,6 +1,7 @@
 -- Choices, searches and counts over numbers.
-use Prim.Native.Nat.{ℕ, zero, suc, _+_}
+use Prim.Native.Nat.{ℕ, zero, suc, _+_, _-_}
 use mathlib.Core.Bool.{Bool, true, false}
+use lib.Dec.{ltb}
 
 -- one of two, by a test
 abbrev pub pick : {A : Type 0} → Bool → A → A → A
@@ -15,6 +16,10 @@ both a b = pick a b false
 unfoldable pub least : (ℕ → Bool) → ℕ → ℕ → ℕ
 least f zero s = s
 least f (suc k) s = let r = least f k (suc s) in pick (f s) s r
+
+-- the first number below n after i that f holds of, going round past the end: i itself comes last; n where there is none
+unfoldable pub around : (ℕ → Bool) → ℕ → ℕ → ℕ
+around f n i = let r = least f (n - suc i) (suc i) in pick (ltb r n) r (least f n 0)
 
 -- whether f holds of a number below n
 unfoldable pub any : (ℕ → Bool) → ℕ → Bool

@@ -23,19 +23,6 @@ use Rattle.machine.specs.Start.{threadsFit, startAnswer}
 use Rattle.machine.proofs.AnswerLaws.{answer-whole, nodes-range, threads-range}
 use Rattle.machine.proofs.TableLaws.{dummy-le}
 
--- ---- searches
-
--- where a search stopped, the test failed at every number before
-pub least-before : (f : ℕ → Bool) (k s i : ℕ) → s ≤ i → i < least f k s → f i ≡ false
-unfolding least
-least-before f zero s i a b = absurd (omega arith)
-least-before f (suc k) s i a b = by (f s) refl (least-before f k (suc s) i) b (eq-or-lt-of-le a)
-  where
-    by : (t : Bool) → f s ≡ t → (suc s ≤ i → i < least f k (suc s) → f i ≡ false) → i < pick t s (least f k (suc s)) → (s ≡ i) ⊎ (s < i) → f i ≡ false
-    by true e r b d = absurd (omega arith)
-    by false e r b (inl z) = rw (← z) e
-    by false e r b (inr z) = r z b
-
 -- ---- the answer is Taken
 
 fronts : (a f b : Bool) (w : Answer) → accepted (check (not a) Threads (check (not f) Mark (check (not b) Nodes w))) ≡ true
@@ -112,4 +99,4 @@ dummy-spare g h = not-true (recoveredAt g (dummyOf g)) (find.least-found (λ i. 
 
 pub dummy-lowest : (g : Image) (j : ℕ) → j < dummyOf g → recoveredAt g j ≡ true
 unfolding dummyOf
-dummy-lowest g j h = not-false (recoveredAt g j) (least-before (λ i. not (recoveredAt g i)) (g .n) 0 j (omega arith) h)
+dummy-lowest g j h = not-false (recoveredAt g j) (find.least-before (λ i. not (recoveredAt g i)) (g .n) 0 j (omega arith) h)

@@ -27,6 +27,7 @@ use Rattle.machine.proofs.AcceptedLaws.{Accepted, accepted-start}
 use Rattle.machine.proofs.LinkLaws as links
 use Rattle.machine.proofs.StartLaws as starts
 use Rattle.lists.proofs.WordLaws.{wordOf-lt}
+use Rattle.lists.proofs.BoolLaws.{both-of}
 
 all-of : (a b c d e : Bool) → a ≡ true → b ≡ true → c ≡ true → d ≡ true → e ≡ true → both a (both b (both c (both d e))) ≡ true
 all-of a b c d e p q r s t = rw (p, q, r, s, t)
@@ -58,7 +59,8 @@ module _ (g : Image) (t : ℕ) (ok : accepted (startAnswer g t) ≡ true) where
   unfolding startWith
   ends =
       let last = starts.chain-in g t ok (startOf g t .tail) (links.last-among (dummyOf g) (queueOf g)) in
-      rw (lt-ltb (dummyOf g) (g .n) (fit .dummy)) (lt-ltb (startOf g t .tail) (g .n) last)
+      let dummy = lt-ltb (dummyOf g) (g .n) (fit .dummy) in
+      both-of _ _ dummy (both-of _ _ (lt-ltb (startOf g t .tail) (g .n) last) dummy)
 
   free : freeFits (startOf g t) ≡ true
   unfolding startWith

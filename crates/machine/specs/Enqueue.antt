@@ -2,21 +2,20 @@
 use Prim.Native.Nat.{ℕ, _+_}
 use lib.Dec.{eqb, leb}
 use Rattle.lists.specs.Find.{pick}
-use Rattle.lists.specs.Word.{without}
 use Rattle.answer.specs.declared.Answer.the-variants.{Done, Full, WornOut}
 use Rattle.image.specs.Form.{topOf}
-use Rattle.machine.specs.Record.{none, node, thread, ownNode, readTail, withItem, withNext, withLinked, withIndex, putNode, putTail, putFree}
+use Rattle.machine.specs.Record.{none, node, thread, ownNode, readTail, withItem, withNext, withLinked, withIndex, putNode, putTail}
 use Rattle.machine.specs.Stage.{A2, A3, A4, A5, A6, A7, A8, A9, A10, A11, A12, number}
 use Rattle.machine.specs.Line.{ofNode, persist}
-use Rattle.machine.specs.Retire.{moving, going, answering, storing, persisting, nextFree, freed}
+use Rattle.machine.specs.Retire.{moving, going, answering, storing, persisting, nextFree, handOut, freed}
 use Rattle.machine.specs.declared.Machine.{Machine}
 use Rattle.machine.specs.declared.Acted.{Acted}
 
--- A1 takes the lowest-numbered free node; if none is free the answer is Full
+-- A1 takes the next free node, which is then the one last handed out; if none is free the answer is Full
 abbrev pub stepA1 : Machine → ℕ → Acted
 stepA1 m k =
     pick (eqb (m .free) 0) (answering Full m k)
-    (moving (putFree m (without (m .free) (nextFree m))) k (ownNode (thread m k) (nextFree m)) (number A2))
+    (moving (handOut m (nextFree m)) k (ownNode (thread m k) (nextFree m)) (number A2))
 
 -- A2 item stored
 abbrev pub stepA2 : Machine → ℕ → Acted

@@ -26,9 +26,9 @@ isFlag x = leb x 1
 abbrev pub sizesFit : Machine → Bool
 sizesFit m = both (nodesFit (m .n)) (threadsFit (m .t))
 
--- Head and Tail are nodes
+-- Head, Tail and the one last handed out are nodes
 abbrev pub endsFit : Machine → Bool
-endsFit m = both (isNode m (m .head)) (isNode m (m .tail))
+endsFit m = both (isNode m (m .head)) (both (isNode m (m .tail)) (isNode m (m .last)))
 
 -- the free set holds nodes only
 abbrev pub freeFits : Machine → Bool

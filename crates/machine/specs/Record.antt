@@ -92,22 +92,25 @@ abbrev pub readHead : Thread → ℕ → ℕ → Thread
 readHead v h x = record { step = v .step; node = v .node; tail = v .tail; head = h; index = x; next = v .next; item = v .item; held = v .held }
 
 abbrev pub putTail : Machine → ℕ → Machine
-putTail m x = record { form = m .form; n = m .n; t = m .t; head = m .head; heads = m .heads; tail = x; free = m .free; nodes = m .nodes; «kept_heads» = m .«kept_heads»; kept = m .kept; threads = m .threads }
+putTail m x = record { form = m .form; n = m .n; t = m .t; head = m .head; heads = m .heads; tail = x; free = m .free; nodes = m .nodes; «kept_heads» = m .«kept_heads»; kept = m .kept; threads = m .threads; last = m .last }
 
 abbrev pub putFree : Machine → ℕ → Machine
-putFree m x = record { form = m .form; n = m .n; t = m .t; head = m .head; heads = m .heads; tail = m .tail; free = x; nodes = m .nodes; «kept_heads» = m .«kept_heads»; kept = m .kept; threads = m .threads }
+putFree m x = record { form = m .form; n = m .n; t = m .t; head = m .head; heads = m .heads; tail = m .tail; free = x; nodes = m .nodes; «kept_heads» = m .«kept_heads»; kept = m .kept; threads = m .threads; last = m .last }
 
 abbrev pub putKeptHead : Machine → ℕ → ℕ → Machine
-putKeptHead m k x = record { form = m .form; n = m .n; t = m .t; head = m .head; heads = m .heads; tail = m .tail; free = m .free; nodes = m .nodes; «kept_heads» = set (m .«kept_heads») k x; kept = m .kept; threads = m .threads }
+putKeptHead m k x = record { form = m .form; n = m .n; t = m .t; head = m .head; heads = m .heads; tail = m .tail; free = m .free; nodes = m .nodes; «kept_heads» = set (m .«kept_heads») k x; kept = m .kept; threads = m .threads; last = m .last }
 
 abbrev pub putHead : Machine → ℕ → ℕ → Machine
-putHead m h x = record { form = m .form; n = m .n; t = m .t; head = h; heads = set (m .heads) 0 x; tail = m .tail; free = m .free; nodes = m .nodes; «kept_heads» = m .«kept_heads»; kept = m .kept; threads = m .threads }
+putHead m h x = record { form = m .form; n = m .n; t = m .t; head = h; heads = set (m .heads) 0 x; tail = m .tail; free = m .free; nodes = m .nodes; «kept_heads» = m .«kept_heads»; kept = m .kept; threads = m .threads; last = m .last }
 
 abbrev pub putNode : Machine → ℕ → Node → Machine
-putNode m i v = record { form = m .form; n = m .n; t = m .t; head = m .head; heads = m .heads; tail = m .tail; free = m .free; nodes = set (m .nodes) i v; «kept_heads» = m .«kept_heads»; kept = m .kept; threads = m .threads }
+putNode m i v = record { form = m .form; n = m .n; t = m .t; head = m .head; heads = m .heads; tail = m .tail; free = m .free; nodes = set (m .nodes) i v; «kept_heads» = m .«kept_heads»; kept = m .kept; threads = m .threads; last = m .last }
 
 abbrev pub putKept : Machine → ℕ → Content → Machine
-putKept m i v = record { form = m .form; n = m .n; t = m .t; head = m .head; heads = m .heads; tail = m .tail; free = m .free; nodes = m .nodes; «kept_heads» = m .«kept_heads»; kept = set (m .kept) i v; threads = m .threads }
+putKept m i v = record { form = m .form; n = m .n; t = m .t; head = m .head; heads = m .heads; tail = m .tail; free = m .free; nodes = m .nodes; «kept_heads» = m .«kept_heads»; kept = set (m .kept) i v; threads = m .threads; last = m .last }
 
 abbrev pub putThread : Machine → ℕ → Thread → Machine
-putThread m i v = record { form = m .form; n = m .n; t = m .t; head = m .head; heads = m .heads; tail = m .tail; free = m .free; nodes = m .nodes; «kept_heads» = m .«kept_heads»; kept = m .kept; threads = set (m .threads) i v }
+putThread m i v = record { form = m .form; n = m .n; t = m .t; head = m .head; heads = m .heads; tail = m .tail; free = m .free; nodes = m .nodes; «kept_heads» = m .«kept_heads»; kept = m .kept; threads = set (m .threads) i v; last = m .last }
+
+abbrev pub putLast : Machine → ℕ → Machine
+putLast m x = record { form = m .form; n = m .n; t = m .t; head = m .head; heads = m .heads; tail = m .tail; free = m .free; nodes = m .nodes; «kept_heads» = m .«kept_heads»; kept = m .kept; threads = m .threads; last = x }

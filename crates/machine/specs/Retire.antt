@@ -2,11 +2,11 @@
 use Prim.Native.Nat.{ℕ, zero, suc}
 use mathlib.Core.Bool.{Bool, true, false, not}
 use lib.Dec.{eqb}
-use Rattle.lists.specs.Find.{pick, both, least}
+use Rattle.lists.specs.Find.{pick, both, around}
 use Rattle.lists.specs.Word.{has, with, without, wordOf}
 use Rattle.answer.specs.declared.Answer.{Answer}
 use Rattle.answer.specs.declared.Answer.the-variants.{Taken}
-use Rattle.machine.specs.Record.{none, node, thread, withWaits, atStep, idleThread, putNode, putFree, putThread}
+use Rattle.machine.specs.Record.{none, node, thread, withWaits, atStep, idleThread, putNode, putFree, putLast, putThread}
 use Rattle.machine.specs.Stage.{busy}
 use Rattle.machine.specs.Line.{Line, nothing, aStore, aPersist}
 use Rattle.machine.specs.declared.Machine.{Machine}
@@ -41,9 +41,14 @@ going m k s = moving m k (thread m k) s
 
 -- ---- the free set
 
--- "A1 takes the lowest-numbered free node": N where none is free
+-- #106: "A1 is to take the first free node after the one last handed out, going round past the end"; the one last handed out comes
+-- at the end of the round; N where none is free
 unfoldable pub nextFree : Machine → ℕ
-nextFree m = least (has (m .free)) (m .n) 0
+nextFree m = around (has (m .free)) (m .n) (m .last)
+
+-- node i is handed out: it is no longer free, and it is the one last handed out
+abbrev pub handOut : Machine → ℕ → Machine
+handOut m i = putLast (putFree m (without (m .free) i)) i
 
 -- node i becomes free
 abbrev pub freed : Machine → ℕ → Machine

@@ -59,5 +59,6 @@ pub fn blank_machine() -> Machine
         kept_heads,
         kept,
         threads,
+        last: 0,
     }
 }

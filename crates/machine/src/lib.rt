@@ -38,7 +38,7 @@ pub struct Thread {
 }
 
 // The form of its image; N and T; Head, a node number with an index, which is that of head line 0; Tail; the free set as a word; cached and persisted copies,
-// those of the head lines apart; the threads. Indices of head lines behind the first, nodes at n and beyond and threads at t and beyond
+// those of the head lines apart; the threads; the node last handed out. Indices of head lines behind the first, nodes at n and beyond and threads at t and beyond
 // are not part of it.
 pub struct Machine {
     pub free: u64,
@@ -52,6 +52,7 @@ pub struct Machine {
     pub t: u8,
     pub head: u8,
     pub tail: u8,
+    pub last: u8,
 }
 
 impl Machine {

@@ -152,6 +152,7 @@ pub fn start(g: Image, t: u8) -> Machine
         kept_heads,
         kept,
         threads,
+        last: d,
     }
 }
 

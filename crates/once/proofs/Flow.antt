@@ -10,16 +10,15 @@ use lib.ListN.{getD, set, length, length-set, List·getD-eq-default}
 use lib.Seq.{getD-set-same, getD-set-other}
 use lib.Dec.{eqb, leb}
 use Rattle.lists.specs.Find.{pick, both}
-use Rattle.lists.specs.Word.{without}
 use Rattle.lists.proofs.BoolLaws.{false-true}
 use Rattle.answer.specs.declared.Answer.{Answer}
 use Rattle.answer.specs.declared.Answer.the-variants.{Taken, Done, Full, WornOut, Item, Empty}
 use Rattle.image.specs.Form.{topOf}
-use Rattle.machine.specs.Record.{none, node, headAt, thread, zeroThread, atStep, idleThread, ownNode, readTail, readHead, readNext, readItem, withItem, withNext, withLinked, withIndex, putNode, putTail, putFree, putHead, putThread}
+use Rattle.machine.specs.Record.{none, node, headAt, thread, zeroThread, atStep, idleThread, ownNode, readTail, readHead, readNext, readItem, withItem, withNext, withLinked, withIndex, putNode, putTail, putHead, putThread}
 use Rattle.machine.specs.Stage.{Stage, noStep, A1, A2, A3, A4, A5, A6, A7, A8, A9, A10, A11, A12, D1, D2, D3, D4, D5, D6, D7, stageOf, number, stage}
 use Rattle.machine.specs.Line.{persist}
 use Rattle.machine.specs.declared.Line.the-variants.{OfHead as ofHead, OfNode as ofNode}
-use Rattle.machine.specs.Retire.{quiet, storing, persisting, moving, going, answering, nextFree, freed, releasedAt, released, retired, retiredHeld}
+use Rattle.machine.specs.Retire.{quiet, storing, persisting, moving, going, answering, nextFree, handOut, freed, releasedAt, released, retired, retiredHeld}
 use Rattle.machine.specs.Event.{stepped}
 use Rattle.machine.specs.declared.Machine.{Machine}
 use Rattle.machine.specs.declared.Acted.{Acted}
@@ -101,9 +100,9 @@ pick-goes false o p x k g h = h
 pub step-own : (m : Machine) (k x : ℕ) (s : Stage) → stage m k ≡ s → k < length (m .threads) → x ≡ sofar s → Goes (stepped m k s) x k
 step-own m k x noStep e h q = (λ z. false-true z, inl e)
 step-own m k x A1 e h q =
-    pick-goes (eqb (m .free) 0) (answering Full m k) (moving (putFree m (without (m .free) (nextFree m))) k (ownNode (thread m k) (nextFree m)) (number A2)) x k
+    pick-goes (eqb (m .free) 0) (answering Full m k) (moving (handOut m (nextFree m)) k (ownNode (thread m k) (nextFree m)) (number A2)) x k
     (leaves Full (released m k (m .n)) k (thread m k .held) nothing x (omega (arith, q)))
-    (moves (putFree m (without (m .free) (nextFree m))) k (atStep (ownNode (thread m k) (nextFree m)) 2) nothing x A2 h refl (omega (arith, q)))
+    (moves (handOut m (nextFree m)) k (atStep (ownNode (thread m k) (nextFree m)) 2) nothing x A2 h refl (omega (arith, q)))
 step-own m k x A2 e h q =
     let i = thread m k .node in
     moves (putNode m i (withItem (node m i) (thread m k .item))) k (atStep (thread m k) 3) (aStore (ofNode i)) x A3 h refl (omega (arith, q))
@@ -195,7 +194,7 @@ retired-threads m k x = refl
 pub step-spares : (m : Machine) (k : ℕ) (s : Stage) → Spares m k (stepped m k s .machine)
 step-spares m k noStep = inl refl
 step-spares m k A1 =
-    pick-spares m k (eqb (m .free) 0) (answering Full m k) (moving (putFree m (without (m .free) (nextFree m))) k (ownNode (thread m k) (nextFree m)) (number A2))
+    pick-spares m k (eqb (m .free) 0) (answering Full m k) (moving (handOut m (nextFree m)) k (ownNode (thread m k) (nextFree m)) (number A2))
     (left-spares m m k (m .n) (thread m k .held) refl) (inr (_, refl))
 step-spares m k A2 = inr (_, refl)
 step-spares m k A3 = inr (_, refl)

@@ -24,7 +24,7 @@ use Rattle.machine.specs.declared.Touch.{Touch}
 
 -- m with other persisted copies
 abbrev pub keeping : Machine → List ℕ → List Content → Machine
-keeping m h k = record { form = m .form; n = m .n; t = m .t; head = m .head; heads = m .heads; tail = m .tail; free = m .free; nodes = m .nodes; «kept_heads» = h; kept = k; threads = m .threads }
+keeping m h k = record { form = m .form; n = m .n; t = m .t; head = m .head; heads = m .heads; tail = m .tail; free = m .free; nodes = m .nodes; «kept_heads» = h; kept = k; threads = m .threads; last = m .last }
 
 pub record Alike (m m′ : Machine) : Type 0 where
   pub heads : List ℕ

@@ -131,11 +131,13 @@ module _ (m : Machine) where
       let c = both-true _ _ (b .1) in
       let d = both-true (not (any (badNode m) (m .n))) (not (any (badThread m) (m .t))) (c .1) in
       let ends = both-true _ _ (b .0) in
+      let back = both-true (isNode m (m .tail)) (isNode m (m .last)) (ends .1) in
       let nodes : (i : ℕ) → i < m .n → NodeFacts m i = λ i p. node-facts i (not-false _ (find.any-clear (badNode m) (m .n) i (not-true _ (d .0)) p)) in
       record {
         sizes = sizes-in (m .n) (m .t) (a .0);
         head = ltb-true (m .head) (m .n) (ends .0);
-        tail = ltb-true (m .tail) (m .n) (ends .1);
+        tail = ltb-true (m .tail) (m .n) (back .0);
+        last = ltb-true (m .last) (m .n) (back .1);
         free = ltb-true (m .free) (2 ^ m .n) (c .0);
         node = nodes;
         thread = λ k p. thread-facts k nodes (not-false _ (find.any-clear (badThread m) (m .t) k (not-true _ (d .1)) p));

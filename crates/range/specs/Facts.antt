@@ -53,6 +53,7 @@ pub record Facts (m : Machine) : Type 0 where
   pub sizes : Sizes (m .n) (m .t)
   pub head : m .head < m .n
   pub tail : m .tail < m .n
+  pub last : m .last < m .n
   pub free : m .free < 2 ^ m .n
   pub node : (i : ℕ) → i < m .n → NodeFacts m i
   pub thread : (k : ℕ) → k < m .t → ThreadFacts m k

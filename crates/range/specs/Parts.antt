@@ -22,7 +22,11 @@ use Rattle.range.specs.declared.Used.{Used}
 abbrev pub sizesIn : ℕ → ℕ → Bool
 sizesIn n k = both (nodesFit n) (threadsFit k)
 
--- of n nodes: a node number or none; what a step reads, a node where the step uses it
+-- of n nodes: Head, Tail and the one last handed out
+abbrev pub endsIn : ℕ → ℕ → ℕ → ℕ → Bool
+endsIn n h x l = both (ltb h n) (both (ltb x n) (ltb l n))
+
+-- a node number or none; what a step reads, a node where the step uses it
 abbrev pub linkIn : ℕ → ℕ → Bool
 linkIn n x = pick (eqb x none) true (ltb x n)
 

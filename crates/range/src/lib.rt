@@ -6,7 +6,7 @@ ghost use Prim.Native.Nat.{_≤_, _<_, _^_};
 ghost use lib.Dec.{ltb};
 ghost use Rattle.lists.specs.Find.{any};
 ghost use Rattle.machine.specs.Range.{rangesFit, inRange, threadFits};
-ghost use Rattle.range.specs.Parts.{badNode, badThread, sizesIn, linkIn, readIn, nodeIn, usedBy};
+ghost use Rattle.range.specs.Parts.{badNode, badThread, sizesIn, endsIn, linkIn, readIn, nodeIn, usedBy};
 use image::Content;
 use machine::Machine;
 use machine::Node;
@@ -48,6 +48,19 @@ fn sizes_fit(n: u8, t: u8) -> bool
         return false;
     }
     t <= 8
+}
+
+// Head, Tail and the one last handed out are nodes.
+fn ends_fit(n: u8, head: u8, tail: u8, last: u8) -> bool
+    ensures { λ r. ⌜ r ≡ endsIn n head tail last ⌝ }
+{
+    if n <= head {
+        return false;
+    }
+    if n <= tail {
+        return false;
+    }
+    last < n
 }
 
 // A node number, or none.
@@ -208,10 +221,7 @@ fn ranges_fit(m: Machine) -> bool
     if !sizes_fit(m.n, m.t) {
         return false;
     }
-    if m.n <= m.head {
-        return false;
-    }
-    if m.n <= m.tail {
+    if !ends_fit(m.n, m.head, m.tail, m.last) {
         return false;
     }
     if !set_fits(m.free, m.n) {

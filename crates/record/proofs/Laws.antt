@@ -44,14 +44,22 @@ pub thread-length : (m : Machine) (k : ℕ) → length (threadPart m k) ≡ 18
 unfolding threadPart
 thread-length m k = refl
 
+-- bytes y behind bytes x, which fill the places from 0 to k
+more : (b x y : List ℕ) (k : ℕ) → length x ≡ k → over (over b 0 x) k y ≡ over b 0 (x ++ y)
+more b x y k e =
+    let z : 0 + length x ≡ k = omega arith in
+    ap (λ (k : ℕ). over (over b 0 x) k y) (sym z) ∙ laws.over-append b 0 x y
+
 pub record-over : (m : Machine) (b : List ℕ)
-    → over (over (over b 0 (headBytes m)) 34 (joined (nodePart m) 64)) 1826 (joined (threadPart m) 8) ≡ over b 0 (recordBytes m)
-unfolding recordBytes
+    → set (over (over (over b 0 (headBytes m)) 34 (joined (nodePart m) 64)) 1826 (joined (threadPart m) 8)) 1970 (m .last) ≡ over b 0 (recordBytes m)
+unfolding recordBytes over
 record-over m b =
+    let h = headBytes m in
     let n = joined (nodePart m) 64 in
     let t = joined (threadPart m) 8 in
-    let e : 0 + length (headBytes m ++ n) ≡ 1826 = omega (arith, length-append (headBytes m) n, laws.length-joined (nodePart m) 28 64 (node-length m)) in
-    ap (λ (l : List ℕ). over l 1826 t) (laws.over-append b 0 (headBytes m) n)
-    ∙ ap (λ (k : ℕ). over (over b 0 (headBytes m ++ n)) k t) (sym e)
-    ∙ laws.over-append b 0 (headBytes m ++ n) t
-    ∙ ap (over b 0) (append-assoc (headBytes m) n t)
+    let ln = laws.length-joined (nodePart m) 28 64 (node-length m) in
+    let lt = laws.length-joined (threadPart m) 18 8 (thread-length m) in
+    ap (λ (l : List ℕ). set (over l 1826 t) 1970 (m .last)) (more b h n 34 refl)
+    ∙ ap (λ (l : List ℕ). set l 1970 (m .last)) (more b (h ++ n) t 1826 (length-append h n ∙ omega (arith, ln)))
+    ∙ more b ((h ++ n) ++ t) (m .last ∷ []) 1970 (length-append (h ++ n) t ∙ omega (arith, length-append h n, ln, lt))
+    ∙ ap (over b 0) (append-assoc (h ++ n) t (m .last ∷ []) ∙ append-assoc h n (t ++ (m .last ∷ [])))

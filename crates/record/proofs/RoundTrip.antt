@@ -2,7 +2,7 @@
 use Prim.Native.Nat.{ℕ, _+_, _*_, _^_, _≤_, _<_}
 use mathlib.Core.Path.{_≡_, refl, sym, ap, _∙_}
 use mathlib.Core.Bool.{true}
-use mathlib.Core.List.{List, _++_}
+use mathlib.Core.List.{List, [], _∷_, _++_}
 use native.Mathlib.Omega.{arith}
 use native.Mathlib.Nat.{add-assoc, add-zero}
 use borrow.Author.Tests.{eq-eqb}
@@ -70,30 +70,49 @@ module _ (m : Machine) where
   unfolding nodesOf
   nodes-length = tabs.length-joined (nodePart m) 28 64 (laws.node-length m)
 
+  threads-length : length threadsOf ≡ 144
+  unfolding threadsOf
+  threads-length = tabs.length-joined (threadPart m) 18 8 (laws.thread-length m)
+
+  -- what stands behind the nodes
+  abbrev rest : List ℕ
+  rest = joined (threadPart m) 8 ++ (m .last ∷ [])
+
   node-byte : (i j : ℕ) → i < 64 → j < 28 → getD (recordBytes m) (34 + i * 28 + j) 0 ≡ getD (nodePart m i) j 0
   unfolding recordBytes nodesOf
   node-byte i j p q =
       ap (λ (k : ℕ). getD (recordBytes m) k 0) (add-assoc 34 (i * 28) j)
-      ∙ getD-append-add (headBytes m) (joined (nodePart m) 64 ++ joined (threadPart m) 8) (i * 28 + j) 0
-      ∙ List·getD-append (joined (nodePart m) 64) (joined (threadPart m) 8) 0 (i * 28 + j) (omega (arith, nodes-length))
+      ∙ getD-append-add (headBytes m) (joined (nodePart m) 64 ++ rest) (i * 28 + j) 0
+      ∙ List·getD-append (joined (nodePart m) 64) rest 0 (i * 28 + j) (omega (arith, nodes-length))
       ∙ tabs.getD-joined (nodePart m) 28 64 i j 0 (laws.node-length m) p q
 
   thread-byte : (i j : ℕ) → i < 8 → j < 18 → getD (recordBytes m) (1826 + i * 18 + j) 0 ≡ getD (threadPart m i) j 0
-  unfolding recordBytes nodesOf
+  unfolding recordBytes nodesOf threadsOf
   thread-byte i j p q =
       let e : 1826 + i * 18 + j ≡ 34 + (length (joined (nodePart m) 64) + (i * 18 + j)) = omega (arith, nodes-length) in
       ap (λ (k : ℕ). getD (recordBytes m) k 0) e
-      ∙ getD-append-add (headBytes m) (joined (nodePart m) 64 ++ joined (threadPart m) 8) (length (joined (nodePart m) 64) + (i * 18 + j)) 0
-      ∙ getD-append-add (joined (nodePart m) 64) (joined (threadPart m) 8) (i * 18 + j) 0
+      ∙ getD-append-add (headBytes m) (joined (nodePart m) 64 ++ rest) (length (joined (nodePart m) 64) + (i * 18 + j)) 0
+      ∙ getD-append-add (joined (nodePart m) 64) rest (i * 18 + j) 0
+      ∙ List·getD-append (joined (threadPart m) 8) (m .last ∷ []) 0 (i * 18 + j) (omega (arith, threads-length))
       ∙ tabs.getD-joined (threadPart m) 18 8 i j 0 (laws.thread-length m) p q
+
+  last-byte : at1 (recordBytes m) 1970 ≡ m .last
+  unfolding recordBytes nodesOf threadsOf
+  last-byte =
+      let e : 1970 ≡ 34 + (length (joined (nodePart m) 64) + (length (joined (threadPart m) 8) + 0)) = omega (arith, nodes-length, threads-length) in
+      ap (λ (k : ℕ). getD (recordBytes m) k 0) e
+      ∙ getD-append-add (headBytes m) (joined (nodePart m) 64 ++ rest) (length (joined (nodePart m) 64) + (length (joined (threadPart m) 8) + 0)) 0
+      ∙ getD-append-add (joined (nodePart m) 64) rest (length (joined (threadPart m) 8) + 0) 0
+      ∙ getD-append-add (joined (threadPart m) 8) (m .last ∷ []) 0 0
 
   pub record-length : length (recordBytes m) ≡ recordSize
   unfolding recordBytes
   record-length =
-      length-append (headBytes m) (joined (nodePart m) 64 ++ joined (threadPart m) 8)
+      length-append (headBytes m) (joined (nodePart m) 64 ++ rest)
       ∙ omega (
         arith,
-        length-append (joined (nodePart m) 64) (joined (threadPart m) 8),
+        length-append (joined (nodePart m) 64) rest,
+        length-append (joined (threadPart m) 8) (m .last ∷ []),
         tabs.length-joined (nodePart m) 28 64 (laws.node-length m),
         tabs.length-joined (threadPart m) 18 8 (laws.thread-length m),
       )
@@ -180,6 +199,7 @@ module _ (m : Machine) where
       «kept_heads» = (ap (set noHeads 0) head-back ∙ w .kept-heads) k;
       kept = copies-back k;
       threads = threads-back k;
+      last = last-byte k;
     }
 
   mark-back : isRecord (recordBytes m) ≡ true

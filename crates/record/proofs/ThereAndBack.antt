@@ -1,4 +1,4 @@
--- 1,970 bytes with a record's mark and version, read as a record and written again are the bytes. Assumes nothing.
+-- 1,971 bytes with a record's mark and version, read as a record and written again are the bytes. Assumes nothing.
 use Prim.Native.Nat.{ℕ, _+_, _*_, _≤_, _<_}
 use mathlib.Core.Path.{_≡_, sym, ap, ap₂, _∙_}
 use mathlib.Core.Bool.{true}
@@ -88,14 +88,22 @@ module _ (s : List ℕ) (bytes : num.Bytes s) (size : length s ≡ recordSize) (
       (λ i q. e i q ∙ sym (tabs.take-drop-tab s 0 (p + i * c) c (l i q)) ∙ ap (take c) (sym (drop-drop (i * c) p s)))
       ∙ tabs.joined-parts (drop p s) c n
 
+  abbrev join : List ℕ → List ℕ → List ℕ
+  join x y = x ++ y
+
+  -- two parts in a row, from place p on
+  parts : (a b p : ℕ) → take a (drop p s) ++ take b (drop (p + a) s) ≡ take (a + b) (drop p s)
+  parts a b p = sym (take-add a b (drop p s) ∙ ap (λ (l : List ℕ). take a (drop p s) ++ take b l) (drop-drop a p s))
+
   pub there-and-back : recordBytes (recordIn s) ≡ s
-  unfolding recordBytes
+  unfolding recordBytes recordIn tab
   there-and-back =
       let a : headBytes (recordIn s) ≡ take 34 s = head-there ∙ sym (tabs.take-drop-tab s 0 0 34 (omega arith)) in
       let b = row (nodePart (recordIn s)) 34 28 64 (omega arith) (λ i q. omega arith) node-there in
       let c = row (threadPart (recordIn s)) 1826 18 8 (omega arith) (λ i q. omega arith) thread-there in
-      let d : take 1792 (drop 34 s) ++ take 144 (drop 1826 s) ≡ take 1936 (drop 34 s) =
-      sym (take-add 1792 144 (drop 34 s) ∙ ap (λ (l : List ℕ). take 1792 (drop 34 s) ++ take 144 l) (drop-drop 1792 34 s)) in
-      ap₂ (λ (x y : List ℕ). x ++ y) a (ap₂ (λ (x y : List ℕ). x ++ y) b c ∙ d)
-      ∙ sym (take-add 34 1936 s)
+      let l : recordIn s .last ∷ [] ≡ take 1 (drop 1970 s) = sym (tabs.take-drop-tab s 0 1970 1 (omega arith)) in
+      let d : take 144 (drop 1826 s) ++ take 1 (drop 1970 s) ≡ take 145 (drop 1826 s) = parts 144 1 1826 in
+      let e : take 1792 (drop 34 s) ++ take 145 (drop 1826 s) ≡ take 1937 (drop 34 s) = parts 1792 145 34 in
+      ap₂ join a (ap₂ join b (ap₂ join c l ∙ d) ∙ e)
+      ∙ sym (take-add 34 1937 s)
       ∙ take-all recordSize s (omega arith)

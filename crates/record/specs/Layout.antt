@@ -1,5 +1,6 @@
--- A machine record as 1,970 bytes, little-endian, every field of it: 34 for the mark "UQM", version 2 (16 bits) and what stands alone,
--- Head's index among it and its persisted copy, 28 for each of the 64 nodes with its persisted copy, 18 for each of the 8 threads.
+-- A machine record as 1,971 bytes, little-endian, every field of it: 34 for the mark "UQM", version 2 (16 bits) and what stands alone,
+-- Head's index among it and its persisted copy, 28 for each of the 64 nodes with its persisted copy, 18 for each of the 8 threads,
+-- and behind them 1 for the node last handed out.
 use Prim.Native.Nat.{ℕ, _+_, _*_}
 use mathlib.Core.Bool.{Bool, true, false, not}
 use mathlib.Core.List.{List, [], _∷_, _++_}
@@ -29,7 +30,7 @@ abbrev pub at8 : List ℕ → ℕ → ℕ
 at8 = atW 8
 
 abbrev pub recordSize : ℕ
-recordSize = 1970
+recordSize = 1971
 
 -- the mark "UQM" and version 2: a host that holds bytes of another layout is told
 abbrev pub isRecord : List ℕ → Bool
@@ -58,7 +59,7 @@ unfoldable pub threadPart : Machine → ℕ → List ℕ
 threadPart m k = threadBytes (thread m k)
 
 unfoldable pub recordBytes : Machine → List ℕ
-recordBytes m = headBytes m ++ (joined (nodePart m) 64 ++ joined (threadPart m) 8)
+recordBytes m = headBytes m ++ (joined (nodePart m) 64 ++ (joined (threadPart m) 8 ++ (m .last ∷ [])))
 
 -- ---- from bytes
 
@@ -108,11 +109,12 @@ recordIn s = record {
   «kept_heads» = set noHeads 0 (at8 s 26);
   kept = front (keptIn s) 64 noContents;
   threads = front (threadIn s) 8 idleThreads;
+  last = at1 s 1970;
 }
 
 -- ---- the two calls
 
--- 1, then 2: there are 1,970 bytes, and they begin with mark and version. The record itself is not tested here
+-- 1, then 2: there are 1,971 bytes, and they begin with mark and version. The record itself is not tested here
 unfoldable pub readAnswer : List ℕ → Answer
 readAnswer s = check (not (eqb (length s) recordSize)) Length (check (not (isRecord s)) Mark Taken)
 

@@ -177,5 +177,6 @@ pub fn record_in(s: &[u8]) -> Machine
         kept_heads,
         kept,
         threads,
+        last: s[1970],
     }
 }

@@ -156,4 +156,5 @@ pub fn put_record(b: &mut [u8], m: Machine)
     copy(b, 0, &a);
     put_nodes(b, m);
     put_threads(b, m);
+    b[1970] = m.last;
 }

@@ -11,33 +11,11 @@ use native.Mathlib.Numerals.{add-one}
 use borrow.Author.Tests.{eqb-true, lt-ltb, le-ltb, not-false}
 use lib.Dec.{eqb, ltb}
 use Rattle.lists.specs.Find.{pick, both, least}
-use Rattle.lists.proofs.FindLaws.{least-next, least-hit, least-end, least-le}
+use Rattle.lists.proofs.FindLaws.{least-next, least-hit, least-end, least-le, least-ge, least-before}
 use Rattle.lists.proofs.BoolLaws.{both-true, no-way, false-true}
 use Rattle.machine.specs.declared.Event.{Event}
 use Rattle.schedule.specs.Layout.{countIn, eventIn}
 use Rattle.spelling.specs.Writing.{isStep, follows, runEnd}
-
--- ---- a search
-
-pick-ge : (b : Bool) (s r : ℕ) → s ≤ r → s ≤ pick b s r
-pick-ge true s r h = omega arith
-pick-ge false s r h = h
-
-least-ge : (f : ℕ → Bool) (k s : ℕ) → s ≤ least f k s
-unfolding least
-least-ge f zero s = omega arith
-least-ge f (suc k) s = pick-ge (f s) s (least f k (suc s)) (omega (arith, least-ge f k (suc s)))
-
--- the test fails before the number that is found
-least-before : (f : ℕ → Bool) (k s i : ℕ) → s ≤ i → i < least f k s → f i ≡ false
-unfolding least
-least-before f zero s i p q = absurd (omega arith)
-least-before f (suc k) s i p q = by (f s) refl q (eq-or-lt-of-le p) (λ l g. least-before f k (suc s) i l g)
-  where
-    by : (b : Bool) → f s ≡ b → i < pick b s (least f k (suc s)) → (s ≡ i) ⊎ (s < i) → (suc s ≤ i → i < least f k (suc s) → f i ≡ false) → f i ≡ false
-    by true e g d r = absurd (omega arith)
-    by false e g (inl z) r = rw (← z) e
-    by false e g (inr l) r = r l g
 
 -- ---- runs
 

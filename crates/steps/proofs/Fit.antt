@@ -95,7 +95,7 @@ pub record ThreadFit (n : ℕ) (v : Thread) : Type 0 where
   pub next-link : Link n (v .next)
   pub held-link : Link n (v .held)
 
-pub record SizeFit (n t head tail free : ℕ) : Type 0 where
+pub record SizeFit (n t head tail free last : ℕ) : Type 0 where
   pub n-lo : 2 ≤ n
   pub n-hi : n ≤ 64
   pub t-lo : 1 ≤ t
@@ -103,9 +103,10 @@ pub record SizeFit (n t head tail free : ℕ) : Type 0 where
   pub head-in : head < n
   pub tail-in : tail < n
   pub free-in : free < 2 ^ n
+  pub last-in : last < n
 
 pub record Fit (m : Machine) : Type 0 where
-  pub sizes : SizeFit (m .n) (m .t) (m .head) (m .tail) (m .free)
+  pub sizes : SizeFit (m .n) (m .t) (m .head) (m .tail) (m .free) (m .last)
   pub nodes : (i : ℕ) → i < m .n → NodeFit (m .n) (m .t) (node m i) (kept m i)
   pub threads : (k : ℕ) → k < m .t → ThreadFit (m .n) (thread m k)
 
@@ -127,20 +128,22 @@ parts5 a b c d e h =
     let s = both-true d e (r .1) in
     (p .0, q .0, r .0, s .0, s .1)
 
-sizes-of : (m : Machine) → sizesFit m ≡ true → endsFit m ≡ true → freeFits m ≡ true → SizeFit (m .n) (m .t) (m .head) (m .tail) (m .free)
+sizes-of : (m : Machine) → sizesFit m ≡ true → endsFit m ≡ true → freeFits m ≡ true → SizeFit (m .n) (m .t) (m .head) (m .tail) (m .free) (m .last)
 sizes-of m a b c =
     let s = both-true (nodesFit (m .n)) (threadsFit (m .t)) a in
     let n = both-true (leb 2 (m .n)) (leb (m .n) 64) (s .0) in
     let t = both-true (leb 1 (m .t)) (leb (m .t) 8) (s .1) in
-    let e = both-true (isNode m (m .head)) (isNode m (m .tail)) b in
+    let e = both-true (isNode m (m .head)) (both (isNode m (m .tail)) (isNode m (m .last))) b in
+    let r = both-true (isNode m (m .tail)) (isNode m (m .last)) (e .1) in
     record {
       n-lo = leb-true 2 (m .n) (n .0);
       n-hi = leb-true (m .n) 64 (n .1);
       t-lo = leb-true 1 (m .t) (t .0);
       t-hi = leb-true (m .t) 8 (t .1);
       head-in = ltb-true (m .head) (m .n) (e .0);
-      tail-in = ltb-true (m .tail) (m .n) (e .1);
+      tail-in = ltb-true (m .tail) (m .n) (r .0);
       free-in = ltb-true (m .free) (2 ^ m .n) c;
+      last-in = ltb-true (m .last) (m .n) (r .1);
     }
 
 node-of : (m : Machine) (i : ℕ) → nodeFits m i ≡ true → NodeFit (m .n) (m .t) (node m i) (kept m i)
@@ -353,7 +356,8 @@ ranges-kept m f =
     let ts = not (any (λ k. not (threadNumbers m k)) (m .t)) in
     let n2 = both-of (leb 2 (m .n)) (leb (m .n) 64) (le-leb 2 (m .n) (s .n-lo)) (le-leb (m .n) 64 (s .n-hi)) in
     let t2 = both-of (leb 1 (m .t)) (leb (m .t) 8) (le-leb 1 (m .t) (s .t-lo)) (le-leb (m .t) 8 (s .t-hi)) in
-    let e2 = both-of (isNode m (m .head)) (isNode m (m .tail)) (lt-ltb (m .head) (m .n) (s .head-in)) (lt-ltb (m .tail) (m .n) (s .tail-in)) in
+    let r2 = both-of (isNode m (m .tail)) (isNode m (m .last)) (lt-ltb (m .tail) (m .n) (s .tail-in)) (lt-ltb (m .last) (m .n) (s .last-in)) in
+    let e2 = both-of (isNode m (m .head)) (both (isNode m (m .tail)) (isNode m (m .last))) (lt-ltb (m .head) (m .n) (s .head-in)) r2 in
     both-of (sizesFit m) (both (endsFit m) (both (freeFits m) (both ns ts))) (both-of (nodesFit (m .n)) (threadsFit (m .t)) n2 t2)
     (both-of (endsFit m) (both (freeFits m) (both ns ts)) e2
     (both-of (freeFits m) (both ns ts) (lt-ltb (m .free) (2 ^ m .n) (s .free-in))
@@ -385,6 +389,7 @@ ready m k h l =
       nodes-in = hi;
       threads-in = f .sizes .t-hi;
       free-in = f .sizes .free-in;
+      last-in = f .sizes .last-in;
       own-in = λ e. omega (arith, u .own-in e);
       t-in = λ e. omega (arith, u .t-in e);
       head-in = λ e. omega (arith, u .head-in e);

@@ -9,12 +9,13 @@ use native.Mathlib.Nat.{pos-of-ne-zero}
 use lib.ListN.{getD, set}
 use lib.Dec.{eqb}
 use Rattle.lists.specs.Find.{pick}
-use Rattle.lists.specs.Word.{with, without}
+use Rattle.lists.specs.Word.{has, with, without}
+use Rattle.lists.proofs.FindLaws as find
 use Rattle.lists.proofs.WordLaws as words
 use Rattle.image.specs.Layout.{noContent}
 use Rattle.image.specs.declared.Content.{Content}
-use Rattle.machine.specs.Record.{zeroNode, zeroThread, node, kept, withWaits, idleThread, putTail, putFree, putKeptHead, putHead, putNode, putKept, putThread}
-use Rattle.machine.specs.Retire.{nextFree, lastWait, releasedAt, released, left, others, retired}
+use Rattle.machine.specs.Record.{zeroNode, zeroThread, node, kept, withWaits, idleThread, putTail, putFree, putLast, putKeptHead, putHead, putNode, putKept, putThread}
+use Rattle.machine.specs.Retire.{nextFree, handOut, lastWait, releasedAt, released, left, others, retired}
 use Rattle.machine.specs.declared.Machine.{Machine}
 use Rattle.machine.specs.declared.Node.{Node}
 use Rattle.machine.specs.declared.Thread.{Thread}
@@ -67,7 +68,7 @@ pub fit-tail : (m : Machine) (x : ℕ) → Fit m → x < m .n → Fit (putTail m
 fit-tail m x f h =
     let s = f .sizes in
     record {
-      sizes = record { n-lo = s .n-lo; n-hi = s .n-hi; t-lo = s .t-lo; t-hi = s .t-hi; head-in = s .head-in; tail-in = h; free-in = s .free-in };
+      sizes = record { n-lo = s .n-lo; n-hi = s .n-hi; t-lo = s .t-lo; t-hi = s .t-hi; head-in = s .head-in; tail-in = h; free-in = s .free-in; last-in = s .last-in };
       nodes = f .nodes;
       threads = f .threads;
     }
@@ -76,7 +77,7 @@ pub fit-head : (m : Machine) (h x : ℕ) → Fit m → h < m .n → Fit (putHead
 fit-head m h x f l =
     let s = f .sizes in
     record {
-      sizes = record { n-lo = s .n-lo; n-hi = s .n-hi; t-lo = s .t-lo; t-hi = s .t-hi; head-in = l; tail-in = s .tail-in; free-in = s .free-in };
+      sizes = record { n-lo = s .n-lo; n-hi = s .n-hi; t-lo = s .t-lo; t-hi = s .t-hi; head-in = l; tail-in = s .tail-in; free-in = s .free-in; last-in = s .last-in };
       nodes = f .nodes;
       threads = f .threads;
     }
@@ -85,7 +86,16 @@ pub fit-free : (m : Machine) (x : ℕ) → Fit m → x < 2 ^ m .n → Fit (putFr
 fit-free m x f h =
     let s = f .sizes in
     record {
-      sizes = record { n-lo = s .n-lo; n-hi = s .n-hi; t-lo = s .t-lo; t-hi = s .t-hi; head-in = s .head-in; tail-in = s .tail-in; free-in = h };
+      sizes = record { n-lo = s .n-lo; n-hi = s .n-hi; t-lo = s .t-lo; t-hi = s .t-hi; head-in = s .head-in; tail-in = s .tail-in; free-in = h; last-in = s .last-in };
+      nodes = f .nodes;
+      threads = f .threads;
+    }
+
+pub fit-last : (m : Machine) (x : ℕ) → Fit m → x < m .n → Fit (putLast m x)
+fit-last m x f h =
+    let s = f .sizes in
+    record {
+      sizes = record { n-lo = s .n-lo; n-hi = s .n-hi; t-lo = s .t-lo; t-hi = s .t-hi; head-in = s .head-in; tail-in = s .tail-in; free-in = s .free-in; last-in = h };
       nodes = f .nodes;
       threads = f .threads;
     }
@@ -94,7 +104,12 @@ fit-free m x f h =
 
 pub next-free-lt : (m : Machine) → Fit m → m .free ≢ 0 → nextFree m < m .n
 unfolding nextFree
-next-free-lt m f d = words.least-lt (m .n) (m .free) (pos-of-ne-zero d) (f .sizes .free-in)
+next-free-lt m f d = find.around-lt (has (m .free)) (m .n) (m .last) (words.least-lt (m .n) (m .free) (pos-of-ne-zero d) (f .sizes .free-in))
+
+pub fit-hand-out : (m : Machine) (x : ℕ) → Fit m → x < m .n → Fit (handOut m x)
+fit-hand-out m x f h =
+    let w = without (m .free) x in
+    fit-last (putFree m w) x (fit-free m w f (words.without-lt (m .n) (m .free) x (f .sizes .free-in))) h
 
 -- node i joins it, or not
 pub joins-lt : (n w i : ℕ) (b : Bool) → w < 2 ^ n → i < n → pick b (with w i) w < 2 ^ n

@@ -17,7 +17,7 @@ use Rattle.machine.specs.Line.{persist}
 use Rattle.machine.specs.declared.Line.{Line}
 use Rattle.machine.specs.declared.Line.the-variants.{OfHead as ofHead, OfNode as ofNode}
 use Rattle.answer.specs.declared.Answer.the-variants.{Full, WornOut}
-use Rattle.machine.specs.Retire.{moving, going, answering, storing, nextFree, freed, lastWait, releasedAt, released, left, others, retired}
+use Rattle.machine.specs.Retire.{moving, going, answering, storing, nextFree, handOut, freed, lastWait, releasedAt, released, left, others, retired}
 use Rattle.machine.specs.Event.{begun, stepped}
 use Rattle.machine.specs.declared.Machine.{Machine}
 use Rattle.machine.specs.declared.Node.{Node}
@@ -74,6 +74,9 @@ narrow-tail m x w = record { form = w .form; head = w .head; node = w .node; thr
 narrow-free : (m : Machine) (x : ℕ) → Narrow m → Narrow (putFree m x)
 narrow-free m x w = record { form = w .form; head = w .head; node = w .node; thread = w .thread }
 
+narrow-hand-out : (m : Machine) (x : ℕ) → Narrow m → Narrow (handOut m x)
+narrow-hand-out m x w = record { form = w .form; head = w .head; node = w .node; thread = w .thread }
+
 -- ---- answering and retiring
 
 narrow-released : (m : Machine) (k c : ℕ) → Narrow m → c ≤ m .n → (Narrow (released m k c)) × (released m k c .n ≡ m .n)
@@ -110,9 +113,9 @@ module _ (m : Machine) (k : ℕ) (w : Narrow m) (u : Used m k) (l : k < m .t) (h
   head-in : headAt m 0 ≤ topOf (m .form)
   head-in = w .head 0 (omega (arith, one-head (m .n))) .0
 
-  A1-by : (b : Bool) → Narrow (pick b (answering Full m k) (moving (putFree m (without (m .free) (nextFree m))) k (ownNode (thread m k) (nextFree m)) 2) .machine)
+  A1-by : (b : Bool) → Narrow (pick b (answering Full m k) (moving (handOut m (nextFree m)) k (ownNode (thread m k) (nextFree m)) 2) .machine)
   A1-by true = narrow-left m k (thread m k .held) w
-  A1-by false = let f = without (m .free) (nextFree m) in goes (putFree m f) (narrow-free m f w) (ownNode (thread m k) (nextFree m)) mine 2
+  A1-by false = goes (handOut m (nextFree m)) (narrow-hand-out m (nextFree m) w) (ownNode (thread m k) (nextFree m)) mine 2
 
   A7-by : (b : Bool) → leb (topOf (m .form)) (node m (thread m k .tail) .index) ≡ b
       → Narrow (pick b (answering WornOut (freed m (thread m k .node)) k) (storing (ofNode (thread m k .node)) (going (putNode m (thread m k .node) (withIndex (node m (thread m k .node)) (node m (thread m k .tail) .index + 1))) k 8)) .machine)

@@ -6,16 +6,16 @@ use native.Mathlib.Omega.{arith}
 use lib.Dec.{eqb, leb}
 use borrow.Author.Tests.{eqb-false}
 use Rattle.lists.specs.Find.{pick, both}
-use Rattle.lists.specs.Word.{with, without}
+use Rattle.lists.specs.Word.{with}
 use Rattle.lists.proofs.WordLaws as words
 use Rattle.answer.specs.declared.Answer.the-variants.{Full, WornOut}
 use Rattle.image.specs.Form.{topOf}
-use Rattle.machine.specs.Record.{none, node, thread, headAt, contentOf, ownNode, readTail, readNext, readItem, readHead, atStep, withItem, withNext, withLinked, withIndex, putNode, putTail, putFree, putHead}
+use Rattle.machine.specs.Record.{none, node, thread, headAt, contentOf, ownNode, readTail, readNext, readItem, readHead, atStep, withItem, withNext, withLinked, withIndex, putNode, putTail, putHead}
 use Rattle.machine.specs.Stage.{Stage, noStep, A1, A2, A3, A4, A5, A6, A7, A8, A9, A10, A11, A12, D1, D2, D3, D4, D5, D6, D7, lastStep, stage}
 use Rattle.machine.specs.Line.{persist}
 use Rattle.machine.specs.declared.Line.{Line}
 use Rattle.machine.specs.declared.Line.the-variants.{OfHead as ofHead, OfNode as ofNode}
-use Rattle.machine.specs.Retire.{moving, going, answering, storing, nextFree, freed, left, retired}
+use Rattle.machine.specs.Retire.{moving, going, answering, storing, nextFree, handOut, freed, left, retired}
 use Rattle.machine.specs.Event.{begun, stepped}
 use Rattle.machine.specs.Range.{inRange}
 use Rattle.machine.specs.declared.Machine.{Machine}
@@ -26,7 +26,7 @@ use Rattle.machine.proofs.StageLaws.{step-number}
 use Rattle.steps.specs.Numbers.{numbersFit}
 use Rattle.steps.proofs.Fit.{Link, link, ThreadFit, Fit, Used, fit-range, fit-numbers, narrow-range, narrow-numbers, used-range, numbers-fit}
 use Rattle.steps.proofs.KeepIndex.{narrow-step, narrow-begun, narrow-persist}
-use Rattle.steps.proofs.Keep.{none-link, fit-thread, fit-node, fit-kept, fit-kept-head, fit-tail, fit-head, fit-free, next-free-lt, fit-left, fit-retired}
+use Rattle.steps.proofs.Keep.{none-link, fit-thread, fit-node, fit-kept, fit-kept-head, fit-tail, fit-head, fit-free, next-free-lt, fit-hand-out, fit-left, fit-retired}
 
 -- ---- a thread with one thing replaced
 
@@ -105,12 +105,12 @@ pick-le false x y h k = k
 
 module _ (m : Machine) (k : ℕ) (f : Fit m) (u : Used m k) (l : k < m .t) where
   A1-by : (b : Bool) → eqb (m .free) 0 ≡ b
-      → Fit (pick b (answering Full m k) (moving (putFree m (without (m .free) (nextFree m))) k (ownNode (thread m k) (nextFree m)) 2) .machine)
+      → Fit (pick b (answering Full m k) (moving (handOut m (nextFree m)) k (ownNode (thread m k) (nextFree m)) 2) .machine)
   A1-by true e = fit-left m k (thread m k .held) f (f .threads k l .held-link)
   A1-by false e =
-      let w = without (m .free) (nextFree m) in
-      fit-moving (putFree m w) k (ownNode (thread m k) (nextFree m)) 2 (fit-free m w f (words.without-lt (m .n) (m .free) (nextFree m) (f .sizes .free-in)))
-      (own-node (thread m k) (nextFree m) (f .threads k l) (link (next-free-lt m f (eqb-false (m .free) 0 e)))) (omega arith)
+      let h = next-free-lt m f (eqb-false (m .free) 0 e) in
+      fit-moving (handOut m (nextFree m)) k (ownNode (thread m k) (nextFree m)) 2 (fit-hand-out m (nextFree m) f h)
+      (own-node (thread m k) (nextFree m) (f .threads k l) (link h)) (omega arith)
 
   A7-by : thread m k .node < m .n → (b : Bool)
       → Fit (pick b (answering WornOut (freed m (thread m k .node)) k) (storing (ofNode (thread m k .node)) (going (putNode m (thread m k .node) (withIndex (node m (thread m k .node)) (node m (thread m k .tail) .index + 1))) k 8)) .machine)

@@ -13,6 +13,7 @@ pub record Ready (m : Machine) (k : ℕ) : Type 0 where
   pub nodes-in : m .n ≤ 64
   pub threads-in : m .t ≤ 8
   pub free-in : m .free < 2 ^ m .n
+  pub last-in : m .last < m .n
   pub own-in : uses (stage m k) own ≡ true → thread m k .node < 64
   pub t-in : uses (stage m k) t ≡ true → thread m k .tail < 64
   pub head-in : uses (stage m k) theHead ≡ true → thread m k .head < 64

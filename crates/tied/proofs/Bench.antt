@@ -69,6 +69,7 @@ kept-flag p m c d (memory.ofNode i) h = subst (Small (c .conf .top)) (d .kept .a
 pub own-kept : (p : memory.Line → Content) (m : Machine) (c : Core) → Tied p m c → Tied (persistedAt m) m c
 own-kept p m c d = record {
   conf = d .conf;
+  last = d .last;
   sizes = d .sizes;
   hnode = d .hnode;
   hidx = d .hidx;

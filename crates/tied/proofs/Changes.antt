@@ -57,6 +57,7 @@ module _ (p : memory.Line → Content) (m : Machine) (c : Core) (d : Tied p m c)
   pub moveT : (k : ℕ) → k < m .t → (v : Thread) (s : Th) → ThreadAt (topOf (m .form)) (m .n) v s (c .held k) → Tied p (putThread m k v) (setTh c k s)
   moveT k h v s a = record {
     conf = d .conf;
+    last = d .last;
     sizes = d .sizes;
     hnode = d .hnode;
     hidx = d .hidx;
@@ -75,6 +76,7 @@ module _ (p : memory.Line → Content) (m : Machine) (c : Core) (d : Tied p m c)
       → Tied p (putNode m i v) (store c i a)
   storeT i h v a e en ew fl nr = record {
     conf = d .conf;
+    last = d .last;
     sizes = d .sizes;
     hnode = d .hnode;
     hidx = d .hidx;
@@ -100,6 +102,7 @@ module _ (p : memory.Line → Content) (m : Machine) (c : Core) (d : Tied p m c)
   pub linkT : (i : ℕ) → i < m .n → (x : ℕ) (o : Option ℕ) → o ≡ linkOf x → Link (m .n) x → Tied p (putNode m i (withNext (node m i) x)) (setNext c i o)
   linkT i h x o e l = record {
     conf = d .conf;
+    last = d .last;
     sizes = d .sizes;
     hnode = d .hnode;
     hidx = d .hidx;
@@ -124,6 +127,7 @@ module _ (p : memory.Line → Content) (m : Machine) (c : Core) (d : Tied p m c)
   pub tailT : (x y : ℕ) → y ≡ x → Tied p (putTail m x) (setTail c y)
   tailT x y e = record {
     conf = d .conf;
+    last = d .last;
     sizes = d .sizes;
     hnode = d .hnode;
     hidx = d .hidx;
@@ -139,6 +143,7 @@ module _ (p : memory.Line → Content) (m : Machine) (c : Core) (d : Tied p m c)
   pub headT : (x y : ℕ) (i j : ℕ) → y ≡ x → j ≡ i → i ≤ topOf (m .form) → Tied p (putHead m x i) (setHead c y j)
   headT x y i j e f nr = record {
     conf = d .conf;
+    last = d .last;
     sizes = d .sizes;
     hnode = e;
     hidx = f ∙ sym stored;
@@ -158,6 +163,7 @@ module _ (p : memory.Line → Content) (m : Machine) (c : Core) (d : Tied p m c)
   pub freeT : (w : ℕ) (f : ℕ → Bool) → FreeT (m .n) w f → Tied p (putFree m w) (setFree c f (c .wait))
   freeT w f r = record {
     conf = d .conf;
+    last = d .last;
     sizes = d .sizes;
     hnode = d .hnode;
     hidx = d .hidx;
@@ -173,6 +179,7 @@ module _ (p : memory.Line → Content) (m : Machine) (c : Core) (d : Tied p m c)
   pub sameT : (f : ℕ → Bool) (w : ℕ → List ℕ) → ((j : ℕ) → j < m .n → f j ≡ c .free j) → ((j : ℕ) → j < m .n → w j ≡ c .wait j) → Tied p m (setFree c f w)
   sameT f w ef ew = record {
     conf = d .conf;
+    last = d .last;
     sizes = d .sizes;
     hnode = d .hnode;
     hidx = d .hidx;
@@ -189,6 +196,7 @@ module _ (p : memory.Line → Content) (m : Machine) (c : Core) (d : Tied p m c)
   pub persistT : (l : memory.Line) → LineIn (m .n) l → Tied (putLine p l (cachedAt m l)) (persist m l) c
   persistT (memory.ofHead zero) h = record {
     conf = d .conf;
+    last = d .last;
     sizes = d .sizes;
     hnode = d .hnode;
     hidx = d .hidx;
@@ -214,6 +222,7 @@ module _ (p : memory.Line → Content) (m : Machine) (c : Core) (d : Tied p m c)
   persistT (memory.ofHead (suc k)) h = absurd (omega (arith, one-head (m .n)))
   persistT (memory.ofNode i) h = record {
     conf = d .conf;
+    last = d .last;
     sizes = d .sizes;
     hnode = d .hnode;
     hidx = d .hidx;

@@ -12,6 +12,7 @@ use lib.Dec.{eqb, leb}
 use Rattle.lists.specs.Find.{pick, least}
 use Rattle.lists.specs.Word.{has, with, without}
 use Rattle.lists.proofs.BoolLaws.{no-way}
+use Rattle.lists.proofs.FindLaws.{around-lt}
 use Rattle.answer.specs.declared.Answer.the-variants.{Done, Full, WornOut}
 use Rattle.image.specs.declared.Content.{Content}
 use Rattle.tied.specs.Memory as memory
@@ -21,43 +22,47 @@ use Rattle.machine.specs.Record.{node, thread, atStep, ownNode, readTail, putNo
 use Rattle.machine.specs.Line.{persist}
 use Rattle.machine.specs.Stage.{stage, A1, A2, A3, A4, A5, A6, A7, A8, A9, A10, A11, A12}
 use Rattle.machine.specs.Retire as retire
-use Rattle.machine.specs.Retire.{moving, going, answering, storing, nextFree}
+use Rattle.machine.specs.Retire.{moving, going, answering, storing, nextFree, handOut}
 use Rattle.machine.specs.Event.{stepped}
 use Rattle.machine.specs.declared.Machine.{Machine}
 use Rattle.model.specs.Basics.{upd}
 use Rattle.model.specs.Core as core
 use Rattle.model.specs.Core.{Core, a1, a2, a3, a4, a5, a6, a7, a8, a9, a10, a11, a12}
 use Rattle.model.specs.Changes.{setNext, setFree, setTail, store}
-use Rattle.model.specs.Choice.{lowest, lowestFirst}
+use Rattle.model.specs.Choice.{rotation, roundTable}
 use Rattle.model.specs.Steps.{step, stepA1, stepA6, stepA7, stepA8, stepA10, stepA11, stepA12}
 use Rattle.model.specs.Always.{ThIn, InRange}
 use Rattle.model.proofs.Basics.{le-true, not-le, true→eq, eq-no, yes-of}
 use Rattle.tied.specs.Shown.{linkIf, linkOf, threadOf, shownThread}
 use Rattle.tied.proofs.Relation.{Link, Regs, ThreadAt, FreeT, Tied}
 use Rattle.tied.proofs.Changes.{some-link, withT, withoutT, moveT, storeT, linkT, tailT, freeT, persistT, count-n}
-use Rattle.tied.proofs.Searches.{lowest-same, low-in, low-link}
+use Rattle.tied.proofs.Searches.{low-in, round-same, round-link}
 use Rattle.tied.proofs.Stepping.{StepT, link-in, link-is, lastT, regs-of, goes-on, leavesT, used, mode-is}
 
 module _ (p : memory.Line → Content) (m : Machine) (c : Core) (d : Tied p m c) (r : InRange c) (k : ℕ) (hk : k < m .t) where
+  last-in : m .last < m .n
+  last-in = omega (arith, r .last, d .last, count-n p m c d)
+
   -- the choice is the record's
   chosen : (b : Bool) → eqb (m .free) 0 ≡ b → c .conf .chooser .pick (c .conf .nodes) (c .last) (c .free) ≡ linkIf b (nextFree m)
-  unfolding lowestFirst nextFree
+  unfolding rotation nextFree
   chosen b e =
       ap (λ z. z .chooser .pick (z .nodes) (c .last) (c .free)) (d .conf)
-      ∙ lowest-same (c .free) (has (m .free)) (m .n) 0 (λ j h. d .free .bits j (omega arith))
-      ∙ low-link (m .n) (m .free) (d .free .fits) b e
+      ∙ ap (λ i. roundTable (m .n) i (c .free)) (d .last)
+      ∙ round-same (c .free) (has (m .free)) (m .n) (m .last) last-in (d .free .bits)
+      ∙ round-link (m .n) (m .free) (m .last) last-in (d .free .fits) b e
 
   next-in : eqb (m .free) 0 ≡ false → nextFree m < m .n
   unfolding nextFree
-  next-in e = low-in (m .n) (m .free) (d .free .fits) e
+  next-in e = around-lt (has (m .free)) (m .n) (m .last) (low-in (m .n) (m .free) (d .free .fits) e)
 
   eA1 : (b : Bool) → eqb (m .free) 0 ≡ b
-      → StepT p m (pick b (answering Full m k) (moving (putFree m (without (m .free) (nextFree m))) k (ownNode (thread m k) (nextFree m)) 2))
+      → StepT p m (pick b (answering Full m k) (moving (handOut m (nextFree m)) k (ownNode (thread m k) (nextFree m)) 2))
       (stepA1 c k (thread m k .item) (linkIf b (nextFree m)))
   eA1 true e = record { tied = leavesT p m c d k hk; says = refl; touch = tt }
   eA1 false e = record {
-    tied = moveT p (putFree m (without (m .free) (nextFree m))) _
-        (lastT p _ _ (freeT p m c d (without (m .free) (nextFree m)) (upd (c .free) (nextFree m) false) (withoutT (m .n) (m .free) (c .free) (d .free) (nextFree m))) (nextFree m))
+    tied = moveT p (handOut m (nextFree m)) _
+        (lastT p (putFree m (without (m .free) (nextFree m))) _ (freeT p m c d (without (m .free) (nextFree m)) (upd (c .free) (nextFree m) false) (withoutT (m .n) (m .free) (c .free) (d .free) (nextFree m))) (nextFree m))
         k hk (atStep (ownNode (thread m k) (nextFree m)) 2) (a2 (thread m k .item) (nextFree m))
         (record {
           stage = refl;

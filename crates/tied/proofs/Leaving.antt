@@ -77,6 +77,7 @@ pub releasedAtT : (p : memory.Line → Content) (m : Machine) (c : Core) → Tie
 unfolding releasedAt
 releasedAtT p m c d k hk i hi = record {
   conf = d .conf;
+  last = d .last;
   sizes = d .sizes;
   hnode = d .hnode;
   hidx = d .hidx;
@@ -165,6 +166,7 @@ module _ (p : memory.Line → Content) (m : Machine) (c : Core) (d : Tied p m c)
     narrow = s .narrow;
     heads = s .heads;
     tail = s .tail;
+    last = s .last;
     nodes = s .nodes;
     free = s .free;
     kept = s .kept;

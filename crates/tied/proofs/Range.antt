@@ -97,7 +97,7 @@ module _ (p : memory.Line → Content) (m : Machine) (c : Core) (d : Tied p m c)
   ranges-fit =
       let z = d .sizes in
       both-of _ _ (both-of _ _ (both-of _ _ (le-true 2 _ (z .nodes-lo)) (le-true _ 64 (z .nodes-hi))) (both-of _ _ (le-true 1 _ (z .threads-lo)) (le-true _ 8 (z .threads-hi))))
-      (both-of _ _ (both-of _ _ (is-node m _ (omega (arith, r .head, d .hnode, count-n p m c d))) (is-node m _ (omega (arith, r .tail, d .tail, count-n p m c d))))
+      (both-of _ _ (both-of _ _ (is-node m _ (omega (arith, r .head, d .hnode, count-n p m c d))) (both-of _ _ (is-node m _ (omega (arith, r .tail, d .tail, count-n p m c d))) (is-node m _ (omega (arith, r .last, d .last, count-n p m c d)))))
       (both-of _ _ (lt-true _ _ (d .free .fits))
       (both-of _ _ (ap not (any-none _ (m .n) (λ i h. ap not (node-fits i h)))) (ap not (any-none _ (m .t) (λ k h. ap not (thread-fits k h)))))))
 

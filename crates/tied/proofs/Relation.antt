@@ -139,6 +139,7 @@ pub record Tied (p : Line → Content) (m : Machine) (c : Core) : Type 0 where
   pub narrow : headAt m 0 ≤ topOf (m .form)
   pub heads : length (m .heads) ≡ 8
   pub tail : c .tail ≡ m .tail
+  pub last : c .last ≡ m .last
   pub nodes : NodesT (topOf (m .form)) (m .n) (m .t) (m .nodes) (c .node) (c .next) (c .wait)
   pub free : FreeT (m .n) (m .free) (c .free)
   pub threads : ThreadsT (topOf (m .form)) (m .n) (m .t) (m .threads) (c .thr) (c .held)

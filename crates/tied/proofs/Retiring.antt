@@ -117,6 +117,7 @@ module _ (p : memory.Line → Content) (m : Machine) (c : Core) (d : Tied p m c)
   unfolding retired
   retiredT x hx = record {
     conf = d .conf;
+    last = d .last;
     sizes = d .sizes;
     hnode = d .hnode;
     hidx = d .hidx;

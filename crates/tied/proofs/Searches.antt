@@ -2,17 +2,18 @@
 use mathlib.Core.Path.{_≡_, refl, sym, ap, _∙_}
 use mathlib.Core.Bool.{Bool, true, false}
 use mathlib.Core.Option.{Option, none, some}
-use Prim.Native.Nat.{ℕ, zero, suc, _+_, _^_, _≤_, _<_}
+use Prim.Native.Nat.{ℕ, zero, suc, _+_, _-_, _^_, _≤_, _<_}
 use native.Mathlib.Omega.{arith}
 use native.Mathlib.Nat.{add-suc}
 use native.Mathlib.Decide.{ℕ-discrete, decLt}
 use lib.Dec.{eqb, ltb}
-use Rattle.lists.specs.Find.{pick, least}
+use borrow.Author.Tests.{ltb-true}
+use Rattle.lists.specs.Find.{pick, least, around}
 use Rattle.lists.specs.Word.{has}
 use Rattle.lists.proofs.BoolLaws.{no-way}
-use Rattle.lists.proofs.FindLaws.{least-none, least-clear}
+use Rattle.lists.proofs.FindLaws.{least-none, least-clear, least-found}
 use Rattle.model.specs.Basics.{sel}
-use Rattle.model.specs.Choice.{lowest}
+use Rattle.model.specs.Choice.{lowest, elseTry, roundTable}
 use Rattle.model.proofs.Basics.{lt-true, lt-no, true→eq}
 use Rattle.tied.specs.Shown.{linkIf}
 use Rattle.tied.proofs.Words.{has-zero, word-zero}
@@ -52,3 +53,33 @@ low-link n w l true e =
     let z : least (has w) n 0 ≡ 0 + n = least-none (has w) n 0 (λ i a c. ap (λ y. has y i) (true→eq w 0 e) ∙ has-zero i) in
     lowest-least (has w) n 0 ∙ rw (lt-no (least (has w) n 0) (0 + n) (omega arith)) refl
 low-link n w l false e = lowest-least (has w) n 0 ∙ rw (lt-true (least (has w) n 0) (0 + n) (omega (arith, low-in n w l e))) refl
+
+-- ---- going round
+
+pub round-same : (f g : ℕ → Bool) (n i : ℕ) → i < n → ((j : ℕ) → j < n → f j ≡ g j) → roundTable n i f ≡ roundTable n i g
+unfolding roundTable
+round-same f g n i l h =
+    ap (λ o. elseTry o (lowest n 0 f)) (lowest-same f g (n - suc i) (suc i) (λ j a. h j (omega arith)))
+    ∙ ap (elseTry (lowest (n - suc i) (suc i) g)) (lowest-same f g n 0 (λ j a. h j (omega arith)))
+
+-- the record's search finds what the round finds
+pub round-link : (n w i : ℕ) → i < n → w < 2 ^ n → (b : Bool) → eqb w 0 ≡ b → roundTable n i (has w) ≡ linkIf b (around (has w) n i)
+unfolding roundTable around
+round-link n w i h l b e = by (ltb q n) refl b e
+  where
+    q : ℕ
+    q = least (has w) (n - suc i) (suc i)
+
+    k : suc i + (n - suc i) ≡ n
+    k = omega arith
+
+    first : lowest (n - suc i) (suc i) (has w) ≡ sel (ltb q n) (some q) none
+    first = rw (k) at (lowest-least (has w) (n - suc i) (suc i))
+
+    by : (t : Bool) → ltb q n ≡ t → (b : Bool) → eqb w 0 ≡ b
+        → elseTry (lowest (n - suc i) (suc i) (has w)) (lowest n 0 (has w)) ≡ linkIf b (pick t q (least (has w) n 0))
+    by false f b e = rw (first, f) (low-link n w l b e)
+    by true f false e = rw (first, f) refl
+    by true f true e =
+        let a : has w q ≡ true = least-found (has w) (n - suc i) (suc i) (omega (arith, ltb-true q n f)) in
+        no-way (sym a ∙ ap (λ y. has y q) (true→eq w 0 e) ∙ has-zero q)

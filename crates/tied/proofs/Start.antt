@@ -128,6 +128,7 @@ module _ (g : Image) (t : ℕ) (G : recovery.Image) (r : ImageT g t G) where
         narrow = subst (λ x. x ≤ topOf (g .form)) (sym first) (r .narrow-head);
         heads = heads-length (g .n) (headIn g);
         tail = last-is d (queueOf g);
+        last = refl;
         nodes = record {
           size = front-size (startNode g d (queueOf g)) (g .n) (replicate 64 _) (r .sizes .nodes-hi);
           at = λ i h. subst (λ v. NodeAt (topOf (g .form)) (g .n) t v (upd (G .at) d (core.withIndex (G .at d) (recovery.headOf G)) i) (linkUp d (queueOf g) i) [])

@@ -11,7 +11,7 @@ use Rattle.answer.specs.declared.Answer.{Answer}
 use Rattle.image.specs.declared.Content.{Content}
 use Rattle.tied.specs.Memory as memory
 use Rattle.image.specs.Form.{topOf}
-use Rattle.machine.specs.Record.{thread, atStep}
+use Rattle.machine.specs.Record.{thread, atStep, putLast}
 use Rattle.machine.specs.Line.{putLine, cachedAt}
 use Rattle.machine.specs.Stage.{Stage, lastStep, stage}
 use Rattle.machine.specs.Retire.{left}
@@ -71,10 +71,11 @@ link-is x y e = by (eqb x 255) refl e
     by true h e = let z : _≡_ {A = ℕ} 0 1 = cc in absurd (omega arith)
     by false h e = (h, let z : x ≡ y = cc in sym z)
 
--- which node was handed out last is not in the record
-pub lastT : (p : memory.Line → Content) (m : Machine) (c : Core) → Tied p m c → (n : ℕ) → Tied p m (setLast c n)
+-- the node last handed out
+pub lastT : (p : memory.Line → Content) (m : Machine) (c : Core) → Tied p m c → (n : ℕ) → Tied p (putLast m n) (setLast c n)
 lastT p m c d n = record {
   conf = d .conf;
+  last = refl;
   sizes = d .sizes;
   hnode = d .hnode;
   hidx = d .hidx;

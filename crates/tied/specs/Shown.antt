@@ -19,7 +19,7 @@ use Rattle.machine.specs.Event.{Deed, unknown, enqueues, dequeues, steps, write
 use Rattle.model.specs.Basics.{sel}
 use Rattle.model.specs.Lines.{Line, ofHead, ofNode, act, back}
 use Rattle.model.specs.Conf.{Conf, shared, atOnce}
-use Rattle.model.specs.Choice.{lowestFirst}
+use Rattle.model.specs.Choice.{rotation}
 use Rattle.model.specs.Core as core
 use Rattle.model.specs.Core.{Th, idle, a1, a2, a3, a4, a5, a6, a7, a8, a9, a10, a11, a12, d1, d2, d3, d4, d5, d6, d7, Ans}
 use Rattle.model.specs.Recovery as recovery
@@ -77,9 +77,9 @@ threadOf D7 v = d7 (v .head) (v .item)
 abbrev pub shownThread : Thread → Th
 shownThread v = threadOf (stageOf (v .step)) v
 
--- N nodes, T threads, indices of the form's width, one line for Head, the lowest-numbered free node first, a line persisted in one step
+-- N nodes, T threads, indices of the form's width, one line for Head, the free nodes handed out in rotation, a line persisted in one step
 abbrev pub confOf : ℕ → ℕ → ℕ → Conf
-confOf f n t = record { nodes = n; threads = t; top = topOf f; engine = shared; chooser = lowestFirst; mode = atOnce }
+confOf f n t = record { nodes = n; threads = t; top = topOf f; engine = shared; chooser = rotation; mode = atOnce }
 
 -- a line
 abbrev pub lineShown : memory.Line → Line

@@ -18,14 +18,21 @@ leave-requires c κs = search needs
 returns : tie.Need-returns
 returns c = rw (c .leave .ensures, eq-eqb _ _ (c .before .if1 .taken))
 
-lowest-requires : tie.Need-lowest-requires
-lowest-requires c κs = search needs
+cast-after : tie.Need-cast-after
+cast-after c = search needs
+
+after-requires : tie.Need-after-requires
+after-requires c κs = let p = c .before .before .pre in omega (arith, p .1, p .3)
 
 without-bit-requires : tie.Need-without-bit-requires
-without-bit-requires c κs = omega (arith, c .lowest .ensures, laws.lowest-lt (c .before .before .before .args .t1) (c .before .if1 .left) (c .before .before .before .pre .2) (c .before .before .before .pre .1))
+without-bit-requires c κs =
+    let s = c .before .before .before in
+    omega (arith, c .after .ensures, laws.after-lt (s .args .t1) (c .before .if1 .left) (s .pre .1) (s .pre .2))
 
-cast-th : tie.Need-cast-th
-cast-th c = omega (arith, c .before .lowest .ensures, laws.lowest-lt (c .before .before .before .before .args .t1) (c .before .before .if1 .left) (c .before .before .before .before .pre .2) (c .before .before .before .before .pre .1))
+cast-x : tie.Need-cast-x
+cast-x c =
+    let s = c .before .before .before .before in
+    omega (arith, c .before .after .ensures, laws.after-lt (s .args .t1) (c .before .before .if1 .left) (s .pre .1) (s .pre .2))
 
 mul-th-2 : tie.Need-mul-th-2
 mul-th-2 c = search needs
@@ -34,7 +41,14 @@ element-set-from-th : tie.Need-element-set-from-th
 element-set-from-th c = search needs
 
 returns-2 : tie.Need-returns-2
-returns-2 c = rw (c .without-bit .ensures, c .before .lowest .ensures ∙ laws.lowest-free (c .before .before .before .before .args .t1) (c .before .before .if1 .left) (c .before .before .before .before .pre .2) (c .before .before .before .before .pre .1), ne-eqb _ _ (c .before .before .if1 .left))
+returns-2 c =
+    let s = c .before .before .before .before in
+    let l = c .before .before .if1 .left in
+    rw (
+      ne-eqb _ _ l,
+      c .without-bit .ensures,
+      c .before .after .ensures ∙ laws.after-free (s .args .t1) l (s .pre .1) (s .pre .2) (s .pre .3),
+    )
 
 pub a1-spec : {M : Type 1} → statement M
 a1-spec =
@@ -44,9 +58,10 @@ a1-spec =
     element-copy-out-th
     leave-requires
     returns
-    lowest-requires
+    cast-after
+    after-requires
     without-bit-requires
-    cast-th
+    cast-x
     mul-th-2
     element-set-from-th
     returns-2)

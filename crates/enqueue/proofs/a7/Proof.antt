@@ -36,7 +36,7 @@ leave-requires : tie.Need-leave-requires
 leave-requires c κs = search needs
 
 returns : tie.Need-returns
-returns c = rw (c .leave .ensures, c .before .with-bit .ensures, ← c .before .before .before .before .top-of .ensures, le-leb _ _ (c .before .before .if1 .taken))
+returns c = rw (← c .before .before .before .before .top-of .ensures, le-leb _ _ (c .before .before .if1 .taken), c .leave .ensures, c .before .with-bit .ensures)
 
 add-r : tie.Need-add-r
 add-r c = omega (arith, c .before .before .before .top-of .ensures, c .before .if1 .left, top-small (c .before .before .before .before .before .before .before .before .args .m .form))

@@ -48,9 +48,12 @@ shared-slice-read-t21 c = search needs
 shared-slice-read-t23 : tie.Need-shared-slice-read-t23
 shared-slice-read-t23 c = search needs
 
+shared-slice-read-t26 : tie.Need-shared-slice-read-t26
+shared-slice-read-t26 c = search needs
+
 returns : tie.Need-returns
 unfolding recordIn
-returns c = let b = c .before .before .before .before .before in rw (b .threads-in .ensures, b .before .kept-in .ensures, b .before .before .nodes-in .ensures, b .before .before .before .long-at3 .ensures, b .before .before .before .before .no-heads2 .ensures, b .before .before .before .before .before .long-at2 .ensures, b .before .before .before .before .before .before .long-at .ensures, b .before .before .before .before .before .before .before .no-heads .ensures)
+returns c = let b = c .before .before .before .before .before .before in rw (b .threads-in .ensures, b .before .kept-in .ensures, b .before .before .nodes-in .ensures, b .before .before .before .long-at3 .ensures, b .before .before .before .before .no-heads2 .ensures, b .before .before .before .before .before .long-at2 .ensures, b .before .before .before .before .before .before .long-at .ensures, b .before .before .before .before .before .before .before .no-heads .ensures)
 
 pub record-in-spec : {M : Type 1} → statement M
 record-in-spec =
@@ -71,4 +74,5 @@ record-in-spec =
     shared-slice-read-t19
     shared-slice-read-t21
     shared-slice-read-t23
+    shared-slice-read-t26
     returns)

@@ -1,3 +1,5 @@
+use mathlib.Core.Path.{_∙_}
+use lib.ListN.{length-set}
 use borrow.Author.Needs.{needs}
 use Rattle.record.proofs.Laws as laws
 use Rattle.record.proofs.writing.put_record.Statement.{statement}
@@ -18,13 +20,23 @@ put-nodes-requires c κs = search needs
 put-threads-requires : tie.Need-put-threads-requires
 put-threads-requires c κs = search needs
 
+slice-write-b : tie.Need-slice-write-b
+slice-write-b c = search needs
+
 same-length : tie.Need-same-length
-same-length c = search needs
+same-length c =
+    let t = c .before .before in
+    let n = t .before .before .before .before in
+    let h = n .before .before .before .before in
+    simp length-set (t .put-threads .kept .0 ∙ (n .put-nodes .kept .0 ∙ h .copy .kept .0))
 
 returns : tie.Need-returns
 returns c =
-    let a = c .before .before .before .before .before .before .before .before .before .before .before .before .before .before .before .args in
-    rw (c .before .before .put-threads .ensures, c .before .before .before .before .before .before .put-nodes .ensures, c .before .before .before .before .before .before .before .before .before .before .copy .ensures, c .before .before .before .before .before .before .before .before .before .before .before .before .before .head-bytes .ensures) (laws.record-over (a .m) (a .b .now))
+    let t = c .before .before in
+    let n = t .before .before .before .before in
+    let h = n .before .before .before .before in
+    let a = h .before .before .before .before .before .args in
+    rw (t .put-threads .ensures, n .put-nodes .ensures, h .copy .ensures, h .before .before .before .head-bytes .ensures) (laws.record-over (a .m) (a .b .now))
 
 pub put-record-spec : {M : Type 1} → statement M
 put-record-spec =
@@ -35,5 +47,6 @@ put-record-spec =
     copy-requires
     put-nodes-requires
     put-threads-requires
+    slice-write-b
     same-length
     returns)

@@ -1,0 +1,1 @@
+// Request 106: what the rotation is for: specs/Turns.antt. No code.
