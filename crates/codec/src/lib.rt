@@ -9,9 +9,11 @@ mod reading;
 mod sound;
 mod writing;
 
+pub use bytes::put_word;
 pub use events::event_at;
 pub use images::image_in;
 pub use images::put_image;
+pub use nodes::put_content;
 pub use opening::check_schedule;
 pub use opening::open_schedule;
 pub use reading::check_part;

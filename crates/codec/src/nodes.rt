@@ -36,7 +36,7 @@ pub fn nodes_in(s: &[u8], n: usize) -> [Content; 64]
     nodes
 }
 
-fn put_content(b: &mut [u8], at: usize, v: Content)
+pub fn put_content(b: &mut [u8], at: usize, v: Content)
     requires { ⌜ at + 9 ≤ length (now b) ⌝ }
     ensures { λ _. ⌜ now (b .exit) ≡ over (now (b .entry)) at (nodeBytes v) ⌝ }
 {
