@@ -19,22 +19,53 @@ fn kind_words(out: &mut [u8; 65536], at: usize, kind: u8) -> usize {
 
 // Refusals of the bytes: 1 to 8.
 fn bytes_words(out: &mut [u8; 65536], at: usize, t: Told) -> usize {
-    match t.number {
-        1 => put_all(out, at, b"the length is wrong: the bytes end too early, or go on behind the last event"),
-        2 => put_all(out, at, b"mark or version is wrong: no schedule with an image that is read here"),
+    let number = t.number;
+    match number {
+        1 => put_all(
+            out,
+            at,
+            b"the length is wrong: the bytes end too early, or go on behind the last event",
+        ),
+        2 => put_all(
+            out,
+            at,
+            b"mark or version is wrong: no schedule with an image that is read here",
+        ),
         3 => put_all(out, at, b"the number of nodes is not 2 to 64"),
         4 => put_all(out, at, b"the number of threads is not 1 to 8"),
         5 => put_all(out, at, b"there are more than 4,096 events"),
-        6 => said(out, at, b"the linked byte of node ", t.place as u64, b" is above 1"),
-        7 => said(out, at, b"node ", t.place as u64, b" has a lower-numbered twin: two recovered nodes with one index"),
-        _ => put_all(out, at, b"every node is recovered, none is left to be the dummy"),
+        6 => said(
+            out,
+            at,
+            b"the linked byte of node ",
+            t.place as u64,
+            b" is above 1",
+        ),
+        7 => said(
+            out,
+            at,
+            b"node ",
+            t.place as u64,
+            b" has a lower-numbered twin: two recovered nodes with one index",
+        ),
+        _ => put_all(
+            out,
+            at,
+            b"every node is recovered, none is left to be the dummy",
+        ),
     }
 }
 
 // Refusals of event e: 9 to 13.
 fn event_words(out: &mut [u8; 65536], at: usize, t: Told, e: Event) -> usize {
     if t.number == 9 {
-        return said(out, at, b"its kind is ", e.kind as u64, b", which is none that is known");
+        return said(
+            out,
+            at,
+            b"its kind is ",
+            e.kind as u64,
+            b", which is none that is known",
+        );
     }
     let mut place = at;
     if e.kind == 4 {
@@ -45,7 +76,8 @@ fn event_words(out: &mut [u8; 65536], at: usize, t: Told, e: Event) -> usize {
         place = next;
     }
     let asked = kind_words(out, place, e.kind);
-    match t.number {
+    let number = t.number;
+    match number {
         10 => put_all(out, asked, b", but there is none of that number"),
         11 => put_all(out, asked, b", but it still has an operation"),
         12 => put_all(out, asked, b", but it has no operation"),
@@ -60,7 +92,8 @@ fn refusal_words(out: &mut [u8; 65536], at: usize, t: Told, e: Event) -> usize {
     if t.number <= 13 {
         return event_words(out, at, t, e);
     }
-    match t.number {
+    let number = t.number;
+    match number {
         14 => {
             let first = put_all(out, at, b"the line of ");
             let second = line_name(out, first, (t.place % 256) as u8);

@@ -16,13 +16,7 @@ pub(crate) fn end(out: &mut [u8; 65536], at: usize) -> usize {
 }
 
 // Words, a number, words.
-pub(crate) fn said(
-    out: &mut [u8; 65536],
-    at: usize,
-    before: &[u8],
-    x: u64,
-    after: &[u8],
-) -> usize {
+pub(crate) fn said(out: &mut [u8; 65536], at: usize, before: &[u8], x: u64, after: &[u8]) -> usize {
     let first = put_all(out, at, before);
     let second = put_decimal(out, first, x);
     put_all(out, second, after)

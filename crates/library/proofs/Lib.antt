@@ -1,5 +1,6 @@
 pub mod Apart
 pub mod Laws
+pub mod LineLaws
 pub mod Refused
 pub mod Unique
 pub mod Whole
