@@ -40,6 +40,13 @@ class Table:
     def y(self, i):
         return self.y0 + i * self.rh
 
+    def choice(self, e, j):
+        """An ending's letter in column j, its place, and the content in words; ? where the rows have none."""
+        letter = e.letters[j] if j < len(e.letters) else "?"
+        kept, place = self.run.kept[self.lines[j]], LETTERS.find(letter)
+        there = 0 <= place < len(kept)
+        return letter, place if there else None, in_words(kept[place]) if there else "no content of the line"
+
     def queues_apart(self):
         """The different queues over all endings, in the order in which they first appear, and neighbouring rows that share one."""
         self.tags, self.number, self.first = {}, {}, {}
@@ -142,12 +149,12 @@ def tree(t):
                 s.path("M%.1f %.1fV%.1fH%.1f" % (px + (cx - px) * 0.5, t.y(prev), t.y(i), cx - t.br), "#555555", 1)
     for j, (cx, line) in enumerate(zip(t.xs, t.lines)):
         for i, e in enumerate(rows):
-            place = LETTERS.index(e.letters[j])
-            tip = "ending %d: %s took branch %s, %s" % (e.number, t.run.name(line), e.letters[j], in_words(t.run.kept[line][place]))
-            if i in starts[j]:
+            letter, place, content = t.choice(e, j)
+            tip = "ending %d: %s took branch %s, %s" % (e.number, t.run.name(line), letter, content)
+            if place is not None and i in starts[j]:
                 s.badge(cx, t.y(i), place, t.sizes[j], t.br, tip)
             else:
-                s.text(cx, t.y(i) + 2.8, e.letters[j], 8.2, "#9a9a9a", anchor="middle", title=tip)
+                s.text(cx, t.y(i) + 2.8, letter, 8.2, "#9a9a9a" if place is not None else RED, anchor="middle", title=tip)
 
 
 def row(t, i, e):
@@ -155,8 +162,8 @@ def row(t, i, e):
     s, y = t.d.svg, t.y(i)
     if t.xs:
         s.line(t.xs[-1] + t.br, y, t.xk - tw(e.number, 9.5, True) - 4, y, "#9a9a9a", 0.8)
-    chosen = ", ".join("%s %s (%s)" % (t.run.name(line), e.letters[j], in_words(t.run.kept[line][LETTERS.index(e.letters[j])]))
-                       for j, line in enumerate(t.lines))
+    choices = [(t.run.name(line),) + t.choice(e, j) for j, line in enumerate(t.lines)]
+    chosen = ", ".join("%s %s (%s)" % (name, letter, content) for name, letter, _, content in choices)
     s.add('<g id="ending-%d">' % e.number)
     s.text(t.xk, y + 3.4, e.number, 9.6, INK, True, "end", title="ending %d: %s; head index %s, recovered queue %s" % (
         e.number, chosen or "no line has a choice", " | ".join(q.head for q in e.queues), queue_words(e.queues)))
