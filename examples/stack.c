@@ -46,6 +46,11 @@ static void ending(void) {
     result = uq_ending(schedule, length, count - 1, buffer, sizeof buffer);
 }
 
+/* The last line. */
+static void line(void) {
+    result = uq_line(schedule, length, schedule[13], buffer, sizeof buffer);
+}
+
 /* The first line and as many of the endings' as the buffer takes. */
 static void page_lines(void) {
     result = uq_page_lines(schedule, length, 0, text, sizeof text);
@@ -165,6 +170,7 @@ int main(void) {
     measure("uq_count_endings", count_endings);
     printf("(%lu endings)\n", count);
     measure("uq_ending", ending);
+    measure("uq_line", line);
     measure("uq_page_lines", page_lines);
     measure("uq_refusal_line", refusal_line);
     measure("uq_start", start);

@@ -72,6 +72,49 @@ int agree_on_ending(const u8 *bytes, u64 length)
         && same_bytes("uq_ending, the buffer", ours, theirs, ROOM);
 }
 
+/* A line's contents as an image has them: of line 0 the index, of a node linked, index, item. */
+static u64 put_contents(u64 line, const History *history, u8 *bytes)
+{
+    u64 at = 0;
+    for (u32 i = 0; i < history->count; i++) {
+        const Content *c = &history->list[i];
+        if (line > 0)
+            bytes[at++] = (u8)c->linked;
+        put4(bytes + at, c->index);
+        at += 4;
+        if (line > 0) {
+            put4(bytes + at, c->item);
+            at += 4;
+        }
+    }
+    return at;
+}
+
+/* One line's contents beside the list that the second program's run keeps of it. */
+int agree_on_line(const u8 *bytes, u64 length)
+{
+    static u8 ours[ROOM], theirs[ROOM], whole[ROOM];
+    Schedule schedule;
+    u64 count = 0, size = 0, value = 0;
+    Verdict v = endings_of(bytes, length, &schedule, &the_bench, &count);
+    u32 lines = v.number == TAKEN ? schedule.image.n + 1 : MAX_LINES;
+    u32 line = chance(85) ? below(lines) : chance(50) ? lines + below(3) : (u32)random_bits();
+    if (v.number == TAKEN && line >= lines)
+        v = verdict(NUMBER_TOO_LARGE, 0);
+    if (v.number == TAKEN) {
+        value = the_bench.lines[line].count;
+        size = put_contents(line, &the_bench.lines[line], whole);
+    }
+    u64 room = chance(60) ? size + below(40) : chance(50) || size == 0 ? size : below((u32)size);
+    if (v.number == TAKEN && room < size)
+        v = verdict(BUFFER_TOO_SHORT, 0);
+    fill_both(ours, theirs, ROOM);
+    for (u64 i = 0; v.number == TAKEN && i < size; i++)
+        theirs[i] = whole[i];
+    return same_number("uq_line", uq_line(bytes, length, line, ours, room), packed(v, value))
+        && same_bytes("uq_line, the buffer", ours, theirs, ROOM);
+}
+
 /* The second program's page, cut into lines here: as many as fit from line `first` on. */
 int agree_on_lines(const u8 *bytes, u64 length)
 {

@@ -9,8 +9,8 @@ enum { HISTORY_EVERY = 8 };
 static int agree(u64 seed, u64 number)
 {
     u64 length = some_input(seed, number, bytes);
-    return agree_on_bytes(bytes, length) && agree_on_ending(bytes, length) && agree_on_lines(bytes, length)
-        && agree_on_start(bytes, length) && agree_on_record(seed, number)
+    return agree_on_bytes(bytes, length) && agree_on_ending(bytes, length) && agree_on_line(bytes, length)
+        && agree_on_lines(bytes, length) && agree_on_start(bytes, length) && agree_on_record(seed, number)
         && (number % HISTORY_EVERY != 0 || agree_on_history(seed, number));
 }
 

@@ -14,6 +14,7 @@ void spoil(u8 *bytes, u64 *length, u64 room);
 /* calls.c: each answers 1 where the library and the second program agree, and 0 and says what differs where they do not. */
 int agree_on_bytes(const u8 *bytes, u64 length);
 int agree_on_ending(const u8 *bytes, u64 length);
+int agree_on_line(const u8 *bytes, u64 length);
 int agree_on_lines(const u8 *bytes, u64 length);
 int agree_on_record(u64 seed, u64 number);
 int agree_on_start(const u8 *bytes, u64 length);

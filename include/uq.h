@@ -6,7 +6,7 @@
 
    What a caller owes, since nothing here can test it: each pointer is not null (not even with a length of 0) and has that many
    bytes behind it, bytes that a call writes do not overlap those it reads, and no length is above 2^63 - 1. uq_count_endings,
-   uq_ending and uq_page_lines touch up to 122 KB of stack, uq_judge up to 32 KB, the others up to 26 KB (measured by bench/stack, docs/PERFORMANCE.md).
+   uq_ending, uq_line and uq_page_lines touch up to 122 KB of stack, uq_judge up to 32 KB, the others up to 26 KB (measured by bench/stack, docs/PERFORMANCE.md).
 
    Every call returns number + 256 * value. Number 0: taken. Others: refused, as document 01's table and the requests after it have it, and then the value is the
    place and no lent byte is changed. uq_number, uq_value, uq_lines, uq_bytes, uq_reply, uq_item, uq_verdict, uq_tries
@@ -44,6 +44,7 @@ enum {
     UQ_MAX_ENDINGS = 65536,
     UQ_MAX_IMAGE = 846,      /* 14 + 13N; in version 1 10 + 9N, at most 586 */
     UQ_MAX_SCHEDULE = 25430, /* 8, the image, and 6 for each event */
+    UQ_MAX_CONTENTS = 208,   /* 16 contents of 13; in version 1 of 9 */
     UQ_RECORD = 1971,
     UQ_PLACES = 6,
     UQ_MAX_HISTORY = 859, /* 3 + 4 for each item, and 22 for each operation */
@@ -114,6 +115,12 @@ uint64_t uq_count_endings(const uint8_t *schedule, size_t length);
    A refusal has number 1 to 17 and its place, and writes nothing. */
 uint64_t uq_ending(const uint8_t *schedule, size_t length, uint64_t k, uint8_t *buffer, size_t room);
 
+/* What a crash may leave in one line: line 0 is Head's, line i + 1 that of node i. The value is how many contents it has, 1 to 16.
+   They are written one after the other, the oldest first, into the front of `buffer`, each as an image has it: of line 0 the head index
+   (4 bytes), of a node's line linked (1), index (4), item (4); the bytes after them stay. 144 bytes are room for every line.
+   A refusal has number 1 to 15 and its place, 10 with place 0 where there is no such line, 17 where they do not all fit, and writes nothing. */
+uint64_t uq_line(const uint8_t *schedule, size_t length, uint32_t line, uint8_t *buffer, size_t room);
+
 /* Lines of the schedule's printed page: line 0 is its first line, line k + 1 that of ending k, each with its line end.
    As many whole lines as fit, from line k on, are written into the front of `buffer`, uq_lines of them, uq_bytes in all; the rest stays.
    A refusal has number 1 to 15 and its place, 16 where there is no line k, 17 where line k alone does not fit, and writes nothing. */
@@ -155,7 +162,7 @@ uint64_t uq_judge(const uint8_t *history, size_t length, uint8_t *order, size_t 
 /* The number: 0 where the call was taken. */
 static inline uint32_t uq_number(uint64_t result) { return (uint32_t)(result % 256); }
 
-/* The place of a refusal, or the count that uq_count_endings gives. */
+/* The place of a refusal, or the count that uq_count_endings or uq_line gives. */
 static inline uint64_t uq_value(uint64_t result) { return result / 256; }
 
 /* Of an event that was taken: what an operation answered, UQ_NO_REPLY where none did. */

@@ -29,7 +29,9 @@ use Rattle.record.specs.Layout.{recordSize, readRecord, recordIn, recordAnswer,
 use Rattle.library.specs.Packed.{packed, replyOf}
 use Rattle.library.specs.Calls.{eventGiven, startAnswered, startWritten, eventAnswered, saveAnswered, saveWritten, placesAnswered}
 use Rattle.library.specs.Judging.{judgeAnswered}
+use Rattle.library.specs.Line.{lineAnswered}
 use Rattle.library.proofs.Laws as laws
+use Rattle.library.proofs.LineLaws as lines
 use Rattle.library.proofs.schedules.uq_ending.Reads as ending
 use Rattle.library.proofs.texts.uq_page_lines.Reads as page-lines
 use Rattle.library.proofs.texts.uq_refusal_line.Reads as refusal-line
@@ -38,6 +40,7 @@ use Rattle.library.proofs.records.uq_event.Reads as event
 use Rattle.library.proofs.records.uq_save.Reads as save
 use Rattle.library.proofs.records.uq_places.Reads as places
 use Rattle.library.proofs.histories.uq_judge.Reads as judge
+use Rattle.library.proofs.line.uq_line.Reads as line
 
 abbrev pub Refused : ℕ → Type 0
 Refused r = r % 256 ≡ 0 → ⊥
@@ -163,3 +166,9 @@ pub judge-refused :
     judge.Post κs (s, (b, tt)) r (s, (z, tt)) → Refused r → now z ≡ now b
 judge-refused κs s b z r p n =
     p .1 ∙ laws.judge-stays (now s) (now b) (not-taken (judgeAnswered (now s) (length (now b))) _ r (p .0) n)
+
+pub line-refused :
+    (κs : Lfts 2) (s : RefT (List ℕ)) (l : ℕ) (b z : RefT (List ℕ)) (r : ℕ) →
+    line.Post κs (s, (l, (b, tt))) r (s, (l, (z, tt))) → Refused r → now z ≡ now b
+line-refused κs s l b z r p n =
+    p .1 ∙ lines.line-stays (now s) l (now b) (not-taken (lineAnswered (now s) l (length (now b))) _ r (p .0) n)

@@ -15,6 +15,7 @@ use Rattle.library.proofs.records.uq_event.Reads as event
 use Rattle.library.proofs.records.uq_save.Reads as save
 use Rattle.library.proofs.records.uq_places.Reads as places
 use Rattle.library.proofs.histories.uq_judge.Reads as judge
+use Rattle.library.proofs.line.uq_line.Reads as line
 
 pub check-image-one :
     (κs : Lfts 1) (s : RefT (List ℕ)) (r r′ : ℕ) →
@@ -71,3 +72,8 @@ pub judge-one :
     (κs : Lfts 2) (s b z z′ : RefT (List ℕ)) (r r′ : ℕ) →
     judge.Post κs (s, (b, tt)) r (s, (z, tt)) → judge.Post κs (s, (b, tt)) r′ (s, (z′, tt)) → (r ≡ r′) × (now z ≡ now z′)
 judge-one κs s b z z′ r r′ p q = (p .0 ∙ sym (q .0), p .1 ∙ sym (q .1))
+
+pub line-one :
+    (κs : Lfts 2) (s : RefT (List ℕ)) (l : ℕ) (b z z′ : RefT (List ℕ)) (r r′ : ℕ) →
+    line.Post κs (s, (l, (b, tt))) r (s, (l, (z, tt))) → line.Post κs (s, (l, (b, tt))) r′ (s, (l, (z′, tt))) → (r ≡ r′) × (now z ≡ now z′)
+line-one κs s l b z z′ r r′ p q = (p .0 ∙ sym (q .0), p .1 ∙ sym (q .1))

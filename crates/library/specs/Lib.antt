@@ -3,3 +3,4 @@ pub mod Calls
 pub mod Conversions
 pub mod Texts
 pub mod Judging
+pub mod Line

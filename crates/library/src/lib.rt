@@ -2,6 +2,7 @@
 // Each call takes numbers and lent bytes only, returns one number, and has no `requires`.
 pub mod conversions;
 pub mod histories;
+pub mod line;
 mod packing;
 pub mod records;
 pub mod schedules;

@@ -1,4 +1,5 @@
 pub mod RowLaws
 pub mod GoingLaws
 pub mod PageLaws
+pub mod LineLaws
 pub mod Unique

@@ -51,10 +51,10 @@ rows-ats t cs h = ap atsOf (rows-all t cs) ∙ tabs.map-tab (λ r. r .at) (rowAt
 pub rows-counts : (t : List (List Content)) (cs : List ℕ) → length cs ≡ 65 → countsOf (rowsOf t cs 65) ≡ cs
 rows-counts t cs h = ap countsOf (rows-all t cs) ∙ tabs.map-tab (λ r. r .count) (rowAt t cs) 65 ∙ list-tab cs 0 65 h
 
-at-of : (rows : List Row) (l : ℕ) → getD (atsOf rows) l [] ≡ getD rows l noRow .at
+pub at-of : (rows : List Row) (l : ℕ) → getD (atsOf rows) l [] ≡ getD rows l noRow .at
 at-of rows l = List·getD-map (λ (r : Row). r .at) rows l noRow
 
-count-of : (rows : List Row) (l : ℕ) → getD (countsOf rows) l 0 ≡ getD rows l noRow .count
+pub count-of : (rows : List Row) (l : ℕ) → getD (countsOf rows) l 0 ≡ getD rows l noRow .count
 count-of rows l = List·getD-map (λ (r : Row). r .count) rows l noRow
 
 -- ---- after an event

@@ -1,3 +1,4 @@
 pub mod Rows
 pub mod Going
 pub mod Paged
+pub mod Lines

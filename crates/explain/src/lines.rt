@@ -1,0 +1,147 @@
+// What lines hold, and the book of each line's contents since it was last persisted: per line 64 places of index, then of linked and
+// item, and how many are used. More are not kept: a page takes 16.
+use image::Content;
+use machine::Machine;
+use machine::Thread;
+
+pub(crate) const PLACES: u8 = 64;
+
+fn no_content() -> Content {
+    Content {
+        linked: 0,
+        index: 0,
+        item: 0,
+    }
+}
+
+// The cached content of a line.
+pub(crate) fn cached_of(m: Machine, line: u8) -> Content {
+    if line == 0 {
+        let index = m.heads[0];
+        return Content {
+            linked: 0,
+            index,
+            item: 0,
+        };
+    }
+    let i = (line - 1) as usize;
+    if i < 64 {
+        let v = m.nodes[i];
+        return Content {
+            linked: v.linked,
+            index: v.index,
+            item: v.item,
+        };
+    }
+    no_content()
+}
+
+// The persisted content of a line.
+pub(crate) fn kept_of(m: Machine, line: u8) -> Content {
+    if line == 0 {
+        let index = m.kept_heads[0];
+        return Content {
+            linked: 0,
+            index,
+            item: 0,
+        };
+    }
+    let i = (line - 1) as usize;
+    if i < 64 {
+        let v = m.kept[i];
+        return v;
+    }
+    no_content()
+}
+
+pub(crate) fn thread_of(m: Machine, k: u8) -> Thread {
+    let i = k as usize;
+    if i < 8 {
+        let th = m.threads[i];
+        return th;
+    }
+    Thread {
+        step: 0,
+        node: 255,
+        tail: 255,
+        head: 255,
+        index: 0,
+        next: 255,
+        item: 0,
+        held: 255,
+    }
+}
+
+pub(crate) fn same(a: Content, b: Content) -> bool {
+    a.linked == b.linked && a.index == b.index && a.item == b.item
+}
+
+fn get(book: &[u64; 8385], i: usize) -> u64 {
+    if i < 8385 {
+        return book[i];
+    }
+    0
+}
+
+fn set(book: &mut [u64; 8385], i: usize, x: u64) {
+    if i < 8385 {
+        book[i] = x;
+    }
+}
+
+pub(crate) fn count_of(book: &[u64; 8385], line: u8) -> u8 {
+    let n = get(book, (line as usize) * 129 + 128);
+    (n % 65) as u8
+}
+
+pub(crate) fn content_at(book: &[u64; 8385], line: u8, j: u8) -> Content {
+    let at = (line as usize) * 129 + (j as usize) * 2;
+    let index = get(book, at);
+    let rest = get(book, at + 1);
+    Content {
+        linked: (rest / 4294967296 % 256) as u8,
+        index: (index % 4294967296) as u32,
+        item: (rest % 4294967296) as u32,
+    }
+}
+
+fn put_at(book: &mut [u64; 8385], line: u8, j: u8, c: Content) {
+    let at = (line as usize) * 129 + (j as usize) * 2;
+    set(book, at, c.index as u64);
+    set(
+        book,
+        at + 1,
+        (c.item as u64) + (c.linked as u64) * 4294967296,
+    );
+}
+
+// The place of a content in a line's list; where it is not there, how many there are.
+pub(crate) fn seat_of(book: &[u64; 8385], line: u8, c: Content) -> u8 {
+    let n = count_of(book, line);
+    let mut j = 0;
+    while j < n {
+        let d = content_at(book, line, j);
+        if same(c, d) {
+            return j;
+        }
+        j += 1;
+    }
+    j
+}
+
+// The line's cached content became c: it joins the list unless it is there. Its place.
+pub(crate) fn joined(book: &mut [u64; 8385], line: u8, c: Content) -> u8 {
+    let n = count_of(book, line);
+    let j = seat_of(book, line, c);
+    if j == n && j < PLACES {
+        put_at(book, line, j, c);
+        set(book, (line as usize) * 129 + 128, (j as u64) + 1);
+    }
+    j
+}
+
+// The line's list begins anew with c.
+pub(crate) fn begun(book: &mut [u64; 8385], line: u8, c: Content) {
+    put_at(book, line, 0, c);
+    set(book, (line as usize) * 129 + 128, 1);
+}

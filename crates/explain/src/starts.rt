@@ -1,0 +1,176 @@
+// A start: the queue it gave, and what each line holds then.
+use crate::lines::begun;
+use crate::lines::cached_of;
+use crate::lines::joined;
+use crate::lines::kept_of;
+use crate::lines::same;
+use crate::text::content_fields;
+use crate::text::end;
+use crate::text::event_field;
+use crate::text::field;
+use crate::text::said;
+use compare::text::put;
+use compare::text::put_all;
+use compare::text::put_decimal;
+use image::Content;
+use machine::Machine;
+use machine::Node;
+
+fn node_of(m: Machine, i: u8) -> Node {
+    let k = i as usize;
+    if k < 64 {
+        let v = m.nodes[k];
+        return v;
+    }
+    Node {
+        item: 0,
+        next: 255,
+        linked: 0,
+        index: 0,
+        waits: 0,
+    }
+}
+
+fn item_or_index(v: Node, items: bool) -> u64 {
+    if items {
+        return v.item as u64;
+    }
+    v.index as u64
+}
+
+// The items of the queue, or their indices, apart by blanks, as the links run from the dummy on; - where there is none.
+pub(crate) fn queue(out: &mut [u8; 65536], at: usize, m: Machine, items: bool) -> usize {
+    let mut place = at;
+    let mut i = m.head;
+    let mut turns: u8 = 0;
+    while turns < 64 {
+        let v = node_of(m, i);
+        i = v.next;
+        if i == 255 {
+            break;
+        }
+        let mut next = place;
+        if turns > 0 {
+            next = put(out, place, b' ');
+        }
+        let w = node_of(m, i);
+        place = put_decimal(out, next, item_or_index(w, items));
+        turns += 1;
+    }
+    if turns == 0 {
+        return put(out, place, b'-');
+    }
+    place
+}
+
+// A content of a line: moment, line, place in its list.
+pub(crate) fn content_row(
+    out: &mut [u8; 65536],
+    at: usize,
+    moment: usize,
+    line: u8,
+    j: u8,
+    c: Content,
+) -> usize {
+    let first = put_all(out, at, b"content");
+    let second = event_field(out, first, moment);
+    let third = field(out, second, line as u64);
+    let fourth = field(out, third, j as u64);
+    let last = content_fields(out, fourth, line, c);
+    end(out, last)
+}
+
+// What a line holds after a start: the persisted content, and the cached one where it is another.
+fn line_begun(
+    out: &mut [u8; 65536],
+    at: usize,
+    columns: bool,
+    book: &mut [u64; 8385],
+    moment: usize,
+    line: u8,
+    m: Machine,
+) -> usize {
+    let p = kept_of(m, line);
+    let c = cached_of(m, line);
+    begun(book, line, p);
+    let j = joined(book, line, c);
+    if !columns {
+        return at;
+    }
+    let place = content_row(out, at, moment, line, 0, p);
+    if same(p, c) {
+        return place;
+    }
+    content_row(out, place, moment, line, j, c)
+}
+
+fn lines_begun(
+    out: &mut [u8; 65536],
+    at: usize,
+    columns: bool,
+    book: &mut [u64; 8385],
+    moment: usize,
+    m: Machine,
+    n: u8,
+) -> usize {
+    let mut place = at;
+    let mut line: u8 = 0;
+    while line < n {
+        let next = line_begun(out, place, columns, book, moment, line, m);
+        place = next;
+        line += 1;
+    }
+    place
+}
+
+// In words: the dummy, the head index, the queue.
+pub(crate) fn recovered(out: &mut [u8; 65536], at: usize, m: Machine) -> usize {
+    let first = said(out, at, b"the dummy is node ", m.head as u64, b", ");
+    let head = cached_of(m, 0);
+    let second = said(out, first, b"head index ", head.index as u64, b", queue ");
+    let last = queue(out, second, m, true);
+    end(out, last)
+}
+
+fn start_row(out: &mut [u8; 65536], at: usize, columns: bool, moment: usize, m: Machine) -> usize {
+    if columns {
+        let first = put_all(out, at, b"start");
+        let second = event_field(out, first, moment);
+        let third = field(out, second, m.head as u64);
+        let fourth = put(out, third, b'\t');
+        let last = queue(out, fourth, m, true);
+        return end(out, last);
+    }
+    if moment == 0 {
+        let first = put_all(out, at, b"start: ");
+        return recovered(out, first, m);
+    }
+    let first = said(
+        out,
+        at,
+        b"",
+        (moment - 1) as u64,
+        b"  crash, and recovery: ",
+    );
+    recovered(out, first, m)
+}
+
+// How many lines a machine has.
+pub(crate) fn line_total(m: Machine) -> u8 {
+    if m.n < 64 {
+        return m.n + 1;
+    }
+    65
+}
+
+pub(crate) fn started(
+    out: &mut [u8; 65536],
+    at: usize,
+    columns: bool,
+    book: &mut [u64; 8385],
+    moment: usize,
+    m: Machine,
+) -> usize {
+    let place = start_row(out, at, columns, moment, m);
+    lines_begun(out, place, columns, book, moment, m, line_total(m))
+}
