@@ -84,25 +84,25 @@ static void endings(void) {
     }
 }
 
-/* The contents of P1's lines, the oldest first: of Head one index, of node 1's line four contents of nine bytes. */
+/* The contents of P1's lines, the oldest first: of Head one index, of node 1's line four contents of thirteen bytes. */
 static void contents(void) {
-    static const uint8_t wanted[4 * 9] = {
-        0, 0, 0, 0, 0, 0, 0, 0, 0, /* linked, index, item */
-        0, 0, 0, 0, 0, 7, 0, 0, 0,
-        0, 1, 0, 0, 0, 7, 0, 0, 0,
-        1, 1, 0, 0, 0, 7, 0, 0, 0,
+    static const uint8_t wanted[4 * 13] = {
+        0, 0, 0, 0, 0, 0, 0, 0, 0, 0, 0, 0, 0, /* linked, index, item */
+        0, 0, 0, 0, 0, 0, 0, 0, 0, 7, 0, 0, 0,
+        0, 1, 0, 0, 0, 0, 0, 0, 0, 7, 0, 0, 0,
+        1, 1, 0, 0, 0, 0, 0, 0, 0, 7, 0, 0, 0,
     };
-    uint8_t schedule[P1_BYTES], buffer[UQ_MAX_CONTENTS] = {99, 99, 99, 99, 99};
+    uint8_t schedule[P1_BYTES], buffer[UQ_MAX_CONTENTS] = {99, 99, 99, 99, 99, 99, 99, 99, 99};
     put_p1(schedule);
-    expect("contents of Head", uq_line(schedule, P1_BYTES, 0, buffer, 4), 256 * 1);
-    expect("its index", same(buffer, wanted, 4), 1);
-    expect("the byte behind it", buffer[4], 99);
+    expect("contents of Head", uq_line(schedule, P1_BYTES, 0, buffer, 8), 256 * 1);
+    expect("its index", same(buffer, wanted, 8), 1);
+    expect("the byte behind it", buffer[8], 99);
     uint64_t line = uq_line(schedule, P1_BYTES, 2, buffer, sizeof buffer);
     printf("line 2 of P1: %lu contents\n", uq_value(line));
     expect("contents of node 1", line, 256 * 4);
-    expect("their bytes", same(buffer, wanted, 4 * 9), 1);
+    expect("their bytes", same(buffer, wanted, 4 * 13), 1);
     expect("no line 3", uq_line(schedule, P1_BYTES, 3, buffer, sizeof buffer), refusal(UQ_NUMBER, 0));
-    expect("no room for four", uq_line(schedule, P1_BYTES, 2, buffer, 4 * 9 - 1), refusal(UQ_ROOM, 0));
+    expect("no room for four", uq_line(schedule, P1_BYTES, 2, buffer, 4 * 13 - 1), refusal(UQ_ROOM, 0));
 }
 
 /* P1's page, whole and piece by piece, and the line of a refusal. */

@@ -72,7 +72,7 @@ int agree_on_ending(const u8 *bytes, u64 length)
         && same_bytes("uq_ending, the buffer", ours, theirs, ROOM);
 }
 
-/* A line's contents as an image has them: of line 0 the index, of a node linked, index, item. */
+/* A line's contents: of line 0 the index, of a node linked, index, item; indices of 8 bytes. */
 static u64 put_contents(u64 line, const History *history, u8 *bytes)
 {
     u64 at = 0;
@@ -80,8 +80,9 @@ static u64 put_contents(u64 line, const History *history, u8 *bytes)
         const Content *c = &history->list[i];
         if (line > 0)
             bytes[at++] = (u8)c->linked;
-        put4(bytes + at, c->index);
-        at += 4;
+        put4(bytes + at, (u32)c->index);
+        put4(bytes + at + 4, (u32)(c->index >> 32));
+        at += 8;
         if (line > 0) {
             put4(bytes + at, c->item);
             at += 4;

@@ -44,7 +44,7 @@ enum {
     UQ_MAX_ENDINGS = 65536,
     UQ_MAX_IMAGE = 846,      /* 14 + 13N; in version 1 10 + 9N, at most 586 */
     UQ_MAX_SCHEDULE = 25430, /* 8, the image, and 6 for each event */
-    UQ_MAX_CONTENTS = 208,   /* 16 contents of 13; in version 1 of 9 */
+    UQ_MAX_CONTENTS = 208,   /* 16 contents of 13 */
     UQ_RECORD = 1971,
     UQ_PLACES = 6,
     UQ_MAX_HISTORY = 859, /* 3 + 4 for each item, and 22 for each operation */
@@ -116,8 +116,8 @@ uint64_t uq_count_endings(const uint8_t *schedule, size_t length);
 uint64_t uq_ending(const uint8_t *schedule, size_t length, uint64_t k, uint8_t *buffer, size_t room);
 
 /* What a crash may leave in one line: line 0 is Head's, line i + 1 that of node i. The value is how many contents it has, 1 to 16.
-   They are written one after the other, the oldest first, into the front of `buffer`, each as an image has it: of line 0 the head index
-   (4 bytes), of a node's line linked (1), index (4), item (4); the bytes after them stay. 144 bytes are room for every line.
+   They are written one after the other, the oldest first, into the front of `buffer`, with indices of 64 bits in every version: of line 0 the
+   head index (8 bytes), of a node's line linked (1), index (8), item (4); the bytes after them stay. UQ_MAX_CONTENTS bytes are room for every line.
    A refusal has number 1 to 15 and its place, 10 with place 0 where there is no such line, 17 where they do not all fit, and writes nothing. */
 uint64_t uq_line(const uint8_t *schedule, size_t length, uint32_t line, uint8_t *buffer, size_t room);
 

@@ -16,7 +16,8 @@ use Rattle.lists.proofs.FindLaws.{least-clear}
 use Rattle.answer.specs.Answers.{told, check, accepted}
 use Rattle.answer.specs.declared.Answer.{Answer}
 use Rattle.answer.specs.declared.Answer.the-variants.{Taken, Room, Number, Contents}
-use Rattle.image.specs.Bytes.{le4}
+use Rattle.image.specs.Bytes.{le}
+use Rattle.image.specs.Form.{known, widthOf, nodeSize}
 use Rattle.image.specs.Layout.{contentAt, headLines, nodeBytes, bodyBytes}
 use Rattle.image.specs.declared.Content.{Content}
 use Rattle.image.proofs.HeadLaws.{one-head}
@@ -33,31 +34,48 @@ use Rattle.library.proofs.Laws as laws
 
 -- ---- one content more
 
-pub length-indices : (c : List Content) (n : ℕ) → length (indexBytes c n) ≡ n * 4
+pub length-indices : (c : List Content) (n : ℕ) → length (indexBytes c n) ≡ n * 8
 unfolding indexBytes
-length-indices c n = tabs.length-joined (λ j. le4 (contentAt c j .index)) 4 n (λ j. refl)
+length-indices c n = tabs.length-joined (λ j. le 8 (contentAt c j .index)) 8 n (λ j. refl)
 
-indices-more : (c : List Content) (i : ℕ) → indexBytes c i ++ le4 (contentAt c i .index) ≡ indexBytes c (i + 1)
+indices-more : (c : List Content) (i : ℕ) → indexBytes c i ++ le 8 (contentAt c i .index) ≡ indexBytes c (i + 1)
 unfolding indexBytes joined
-indices-more c i = ap (joined (λ j. le4 (contentAt c j .index))) (sym (add-one i))
+indices-more c i = ap (joined (λ j. le 8 (contentAt c j .index))) (sym (add-one i))
 
-pub indices-next : (b : List ℕ) (c : List Content) (i : ℕ) → over (over b 0 (indexBytes c i)) (i * 4) (le4 (contentAt c i .index)) ≡ over b 0 (indexBytes c (i + 1))
+-- version 2's, which the calls below write
+pub wide-known : known 2 ≡ true
+unfolding known
+wide-known = refl
+
+pub wide-width : widthOf 2 ≡ 8
+unfolding widthOf
+wide-width = refl
+
+pub wide-size : nodeSize 2 ≡ 13
+unfolding nodeSize widthOf
+wide-size = refl
+
+pub indices-next : (b : List ℕ) (c : List Content) (i : ℕ) → over (over b 0 (indexBytes c i)) (i * 8) (le (widthOf 2) (contentAt c i .index)) ≡ over b 0 (indexBytes c (i + 1))
 indices-next b c i =
-    ap (λ (k : ℕ). over (over b 0 (indexBytes c i)) k (le4 (contentAt c i .index))) (omega (arith, length-indices c i))
-    ∙ tabs.over-append b 0 (indexBytes c i) (le4 (contentAt c i .index))
+    ap (λ (w : ℕ). over (over b 0 (indexBytes c i)) (i * 8) (le w (contentAt c i .index))) wide-width
+    ∙ ap (λ (k : ℕ). over (over b 0 (indexBytes c i)) k (le 8 (contentAt c i .index))) (omega (arith, length-indices c i))
+    ∙ tabs.over-append b 0 (indexBytes c i) (le 8 (contentAt c i .index))
     ∙ ap (over b 0) (indices-more c i)
 
-pub contents-next : (b : List ℕ) (c : List Content) (i : ℕ) → over (over b 0 (bodyBytes c i)) (i * 9) (nodeBytes (contentAt c i)) ≡ over b 0 (bodyBytes c (i + 1))
+length-contents : (c : List Content) (n : ℕ) → length (bodyBytes 2 c n) ≡ n * 13
+length-contents c n = length-body 2 c n wide-known ∙ ap (λ (k : ℕ). n * k) wide-size
+
+pub contents-next : (b : List ℕ) (c : List Content) (i : ℕ) → over (over b 0 (bodyBytes 2 c i)) (i * 13) (nodeBytes 2 (contentAt c i)) ≡ over b 0 (bodyBytes 2 c (i + 1))
 contents-next b c i =
-    ap (λ (k : ℕ). over (over b 0 (bodyBytes c i)) k (nodeBytes (contentAt c i))) (omega (arith, length-body c i))
-    ∙ tabs.over-append b 0 (bodyBytes c i) (nodeBytes (contentAt c i))
-    ∙ ap (over b 0) (sym (body-next c i))
+    ap (λ (k : ℕ). over (over b 0 (bodyBytes 2 c i)) k (nodeBytes 2 (contentAt c i))) (omega (arith, length-contents c i))
+    ∙ tabs.over-append b 0 (bodyBytes 2 c i) (nodeBytes 2 (contentAt c i))
+    ∙ ap (over b 0) (sym (body-next 2 c i))
 
 -- ---- a line's contents out of their sixteen places
 
 length-parts : (h : Bool) (c : List Content) (n : ℕ) → length (partsOf h c n) ≡ roomOf h n
 length-parts true c n = length-indices c n
-length-parts false c n = length-body c n
+length-parts false c n = length-contents c n
 
 content-same : (c : List Content) (j : ℕ) → j < length c → contentAt (sixteen c) j ≡ contentAt c j
 unfolding firstOf
@@ -65,8 +83,8 @@ content-same c j h = tabs.front-at (contentAt c) (length c) blankRow j _ h
 
 parts-same : (h : Bool) (c : List Content) → partsOf h (sixteen c) (length c) ≡ partsOf h c (length c)
 unfolding indexBytes bodyBytes
-parts-same true c = tabs.joined-same _ _ (length c) (λ j p. ap (λ (v : Content). le4 (v .index)) (content-same c j p))
-parts-same false c = tabs.joined-same _ _ (length c) (λ j p. ap nodeBytes (content-same c j p))
+parts-same true c = tabs.joined-same _ _ (length c) (λ j p. ap (λ (v : Content). le 8 (v .index)) (content-same c j p))
+parts-same false c = tabs.joined-same _ _ (length c) (λ j p. ap (nodeBytes 2) (content-same c j p))
 
 -- no line of a page has more than sixteen
 row-few : (t : List (List Content)) → accepted (tableAnswer t) ≡ true → (l : ℕ) → l < length t → length (getD t l []) ≤ 16

@@ -9,7 +9,7 @@ use Rattle.lists.specs.Tab.{joined, over}
 use Rattle.answer.specs.Answers.{told, check, accepted}
 use Rattle.answer.specs.declared.Answer.{Answer}
 use Rattle.answer.specs.declared.Answer.the-variants.{Taken, Room}
-use Rattle.image.specs.Bytes.{le4}
+use Rattle.image.specs.Bytes.{le}
 use Rattle.image.specs.Layout.{contentAt, headLines, bodyBytes}
 use Rattle.image.specs.declared.Content.{Content}
 use Rattle.schedule.specs.Layout.{nodesIn}
@@ -18,17 +18,18 @@ use Rattle.pages.specs.Lines.{lineAnswer, lineIn}
 use Rattle.library.specs.Packed.{packed}
 
 unfoldable pub indexBytes : List Content → ℕ → List ℕ
-indexBytes c n = joined (λ j. le4 (contentAt c j .index)) n
+indexBytes c n = joined (λ j. le 8 (contentAt c j .index)) n
 
--- "for line 0 the head index, for a node its linked flag, index and item", each as an image has it: the first n contents of a head line, or of a node's
+-- "for line 0 the head index, for a node its linked flag, index and item", with indices of 64 bits whatever the schedule's image has (as
+-- version 2 has them): the first n contents of a head line, or of a node's
 abbrev pub partsOf : Bool → List Content → ℕ → List ℕ
 partsOf true c n = indexBytes c n
-partsOf false c n = bodyBytes c n
+partsOf false c n = bodyBytes 2 c n
 
 -- how many bytes these are
 abbrev pub roomOf : Bool → ℕ → ℕ
-roomOf true n = n * 4
-roomOf false n = n * 9
+roomOf true n = n * 8
+roomOf false n = n * 13
 
 -- the contents of line l, the oldest first
 unfoldable pub lineBytes : List ℕ → ℕ → List ℕ

@@ -12,26 +12,26 @@ use machine::Machine;
 
 // The indices of the first n contents.
 fn put_indices(b: &mut [u8], contents: [Content; 16], n: usize)
-    requires { ⌜ (n ≤ 16) × (n * 4 ≤ length (now b)) ⌝ }
+    requires { ⌜ (n ≤ 16) × (n * 8 ≤ length (now b)) ⌝ }
     ensures { λ _. ⌜ now (b .exit) ≡ over (now (b .entry)) 0 (indexBytes contents n) ⌝ }
 {
     let mut i = 0;
     while i < n {
         let v = contents[i];
-        codec::put_word(b, i * 4, v.index);
+        codec::put_index(b, 2, i * 8, v.index);
         i += 1;
     }
 }
 
 // The first n contents whole.
 fn put_contents(b: &mut [u8], contents: [Content; 16], n: usize)
-    requires { ⌜ (n ≤ 16) × (n * 9 ≤ length (now b)) ⌝ }
-    ensures { λ _. ⌜ now (b .exit) ≡ over (now (b .entry)) 0 (bodyBytes contents n) ⌝ }
+    requires { ⌜ (n ≤ 16) × (n * 13 ≤ length (now b)) ⌝ }
+    ensures { λ _. ⌜ now (b .exit) ≡ over (now (b .entry)) 0 (bodyBytes 2 contents n) ⌝ }
 {
     let mut i = 0;
     while i < n {
         let v = contents[i];
-        codec::put_content(b, i * 9, v);
+        codec::put_content(b, 2, i * 13, v);
         i += 1;
     }
 }
@@ -52,12 +52,12 @@ fn room_of(head: bool, n: usize) -> usize
     ensures { λ r. ⌜ r ≡ roomOf head n ⌝ }
 {
     if head {
-        return n * 4;
+        return n * 8;
     }
-    n * 9
+    n * 13
 }
 
-// The contents of a line, the oldest first, into the buffer's front. The value is how many.
+// The contents of a line, the oldest first, with indices of 64 bits, into the buffer's front. The value is how many.
 #[no_mangle]
 pub extern "C" fn uq_line(schedule: &[u8], line: u32, buffer: &mut [u8]) -> u64
     ensures answers { λ r. ⌜ r ≡ lineGiven (now (schedule .entry)) line (length (now (buffer .entry))) ⌝ }

@@ -10,7 +10,7 @@ use Rattle.library.proofs.line.put_contents.Statement.{statement}
 use Rattle.library.proofs.line.put_contents.Tie as tie
 
 abbrev Inv-loop : tie.InvT-loop
-Inv-loop b₀ n contents i₀ b i = (i ≤ n) × (b ≡ over b₀ 0 (bodyBytes contents i))
+Inv-loop b₀ n contents i₀ b i = (i ≤ n) × (b ≡ over b₀ 0 (bodyBytes 2 contents i))
 
 abbrev μ-loop : tie.MeasureT-loop
 μ-loop b₀ n contents i₀ b i = n - i
@@ -32,7 +32,7 @@ put-content-requires : tie.Need-put-content-requires Inv-loop μ-loop
 put-content-requires c κs =
     let p = c .before .before .before .loop in
     let a = c .before .before .before .before .before .args in
-    omega (arith, ap length (p .inv .1), length-over (a .b .now) 0 (bodyBytes (a .t2) (p .i)))
+    (laws.wide-known, omega (arith, laws.wide-size, ap length (p .inv .1), length-over (a .b .now) 0 (bodyBytes 2 (a .t2) (p .i))))
 
 add-i : tie.Need-add-i Inv-loop μ-loop
 add-i c = omega arith
@@ -47,7 +47,7 @@ loop-again c =
     (omega arith, rw (c .before .before .put-content .ensures, p .inv .1) (laws.contents-next (a .b .now) (a .t2) (p .i)))
 
 same-length : tie.Need-same-length Inv-loop μ-loop
-same-length c = ap length (c .before .loop .inv .1) ∙ length-over (c .before .before .before .args .b .now) 0 (bodyBytes (c .before .before .before .args .t2) (c .before .loop .i))
+same-length c = ap length (c .before .loop .inv .1) ∙ length-over (c .before .before .before .args .b .now) 0 (bodyBytes 2 (c .before .before .before .args .t2) (c .before .loop .i))
 
 returns : tie.Need-returns Inv-loop μ-loop
 returns c = let e : c .before .loop .i ≡ c .before .before .before .args .n = omega arith in rw (← e) (c .before .loop .inv .1)

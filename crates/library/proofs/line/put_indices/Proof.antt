@@ -25,14 +25,14 @@ mul-v c = omega arith
 array-copy-out-v : tie.Need-array-copy-out-v Inv-loop μ-loop
 array-copy-out-v c = omega arith
 
-mul-put-word : tie.Need-mul-put-word Inv-loop μ-loop
-mul-put-word c = omega arith
+mul-put-index : tie.Need-mul-put-index Inv-loop μ-loop
+mul-put-index c = omega arith
 
-put-word-requires : tie.Need-put-word-requires Inv-loop μ-loop
-put-word-requires c κs =
+put-index-requires : tie.Need-put-index-requires Inv-loop μ-loop
+put-index-requires c κs =
     let p = c .before .before .before .loop in
     let a = c .before .before .before .before .before .args in
-    omega (arith, ap length (p .inv .1), length-over (a .b .now) 0 (indexBytes (a .t2) (p .i)))
+    (laws.wide-known, omega (arith, laws.wide-width, ap length (p .inv .1), length-over (a .b .now) 0 (indexBytes (a .t2) (p .i))))
 
 add-i : tie.Need-add-i Inv-loop μ-loop
 add-i c = omega arith
@@ -44,7 +44,7 @@ loop-again : tie.Need-loop-again Inv-loop μ-loop
 loop-again c =
     let p = c .before .before .before .before .before .before .loop in
     let a = c .before .before .before .before .before .before .before .before .args in
-    (omega arith, rw (c .before .before .put-word .ensures, p .inv .1) (laws.indices-next (a .b .now) (a .t2) (p .i)))
+    (omega arith, rw (c .before .before .put-index .ensures, p .inv .1) (laws.indices-next (a .b .now) (a .t2) (p .i)))
 
 same-length : tie.Need-same-length Inv-loop μ-loop
 same-length c = ap length (c .before .loop .inv .1) ∙ length-over (c .before .before .before .args .b .now) 0 (indexBytes (c .before .before .before .args .t2) (c .before .loop .i))
@@ -61,8 +61,8 @@ put-indices-spec =
     loop-holds
     mul-v
     array-copy-out-v
-    mul-put-word
-    put-word-requires
+    mul-put-index
+    put-index-requires
     add-i
     loop-less
     loop-again
