@@ -12,7 +12,7 @@ fn index_of(m: Machine, i: u8) -> u64 {
     let k = i as usize;
     if k < 64 {
         let v = m.nodes[k];
-        return v.index as u64;
+        return v.index;
     }
     0
 }
@@ -135,7 +135,7 @@ fn d4(out: &mut [u8; 65536], at: usize, b: Thread, th: Thread, after: Machine) -
             b"Head becomes node ",
             b.next as u64,
             b" with index ",
-            head.index as u64,
+            head.index,
         );
     }
     put_all(out, at, b"Head is no longer the pair read, back to D1")
@@ -171,7 +171,7 @@ fn dequeue_deed(
             b"Head read: node ",
             th.head as u64,
             b", index ",
-            th.index as u64,
+            th.index,
         ),
         Machine::D2 => next_read(out, at, m, b.head, th.step),
         Machine::D4 => d4(out, at, b, th, after),

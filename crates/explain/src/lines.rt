@@ -100,14 +100,14 @@ pub(crate) fn content_at(book: &[u64; 8385], line: u8, j: u8) -> Content {
     let rest = get(book, at + 1);
     Content {
         linked: (rest / 4294967296 % 256) as u8,
-        index: (index % 4294967296) as u32,
+        index,
         item: (rest % 4294967296) as u32,
     }
 }
 
 fn put_at(book: &mut [u64; 8385], line: u8, j: u8, c: Content) {
     let at = (line as usize) * 129 + (j as usize) * 2;
-    set(book, at, c.index as u64);
+    set(book, at, c.index);
     set(
         book,
         at + 1,

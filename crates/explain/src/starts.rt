@@ -35,7 +35,7 @@ fn item_or_index(v: Node, items: bool) -> u64 {
     if items {
         return v.item as u64;
     }
-    v.index as u64
+    v.index
 }
 
 // The items of the queue, or their indices, apart by blanks, as the links run from the dummy on; - where there is none.
@@ -127,7 +127,7 @@ fn lines_begun(
 pub(crate) fn recovered(out: &mut [u8; 65536], at: usize, m: Machine) -> usize {
     let first = said(out, at, b"the dummy is node ", m.head as u64, b", ");
     let head = cached_of(m, 0);
-    let second = said(out, first, b"head index ", head.index as u64, b", queue ");
+    let second = said(out, first, b"head index ", head.index, b", queue ");
     let last = queue(out, second, m, true);
     end(out, last)
 }

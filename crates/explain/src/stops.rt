@@ -209,10 +209,19 @@ fn image_of(b: &[u8], n: usize) -> Image {
     g
 }
 
+// How many bytes the image of an ending has, by the version of the schedule's.
+fn size_of(m: Machine) -> usize {
+    let n = m.n as usize;
+    if m.form == 2 {
+        return 14 + n * 13;
+    }
+    10 + n * 9
+}
+
 pub(crate) fn ended_at(s: &[u8], m: Machine, k: u64) -> Ended {
     let mut b = [0u8; 1024];
     pages::ending_of(s, k, &mut b);
-    let image = image_of(&b, 10 + (m.n as usize) * 9);
+    let image = image_of(&b, size_of(m));
     let r = machine::start_from(image, m.t);
     let machine = r.machine;
     Ended { image, machine }
@@ -233,7 +242,7 @@ fn ending_row(
     let m = e.machine;
     let fourth = choices(out, third, book, g, n);
     let head = cached_of(m, 0);
-    let fifth = field(out, fourth, head.index as u64);
+    let fifth = field(out, fourth, head.index);
     let sixth = put(out, fifth, b'\t');
     let seventh = queue(out, sixth, m, true);
     let eighth = put(out, seventh, b'\t');

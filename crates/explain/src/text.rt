@@ -66,17 +66,17 @@ pub(crate) fn line_name(out: &mut [u8; 65536], at: usize, line: u8) -> usize {
 pub(crate) fn content_fields(out: &mut [u8; 65536], at: usize, line: u8, c: Content) -> usize {
     if is_head(line) {
         let first = put_all(out, at, b"\t-");
-        let second = field(out, first, c.index as u64);
+        let second = field(out, first, c.index);
         return put_all(out, second, b"\t-");
     }
     let first = field(out, at, c.linked as u64);
-    let second = field(out, first, c.index as u64);
+    let second = field(out, first, c.index);
     field(out, second, c.item as u64)
 }
 
 pub(crate) fn content_words(out: &mut [u8; 65536], at: usize, line: u8, c: Content) -> usize {
     if is_head(line) {
-        return said(out, at, b"index ", c.index as u64, b"");
+        return said(out, at, b"index ", c.index, b"");
     }
     let mut place = at;
     if c.linked == 0 {
@@ -84,7 +84,7 @@ pub(crate) fn content_words(out: &mut [u8; 65536], at: usize, line: u8, c: Conte
         place = next;
     }
     let first = put_all(out, place, b"linked, index ");
-    said_both(out, first, b"", c.index as u64, b", item ", c.item as u64)
+    said_both(out, first, b"", c.index, b", item ", c.item as u64)
 }
 
 // Letters a to p, + for those behind.
