@@ -207,6 +207,36 @@ static int endings_are_widened(const u8 *bytes, u64 length, const u8 *wide, u64 
     return 1;
 }
 
+/* Adds to the head index and to every index of a version 2 image. */
+static void move_up(u8 *image, u64 by)
+{
+    put8(image + 6, get8(image + 6) + by);
+    for (u32 i = 0; i < image[5]; i++)
+        put8(image + 14 + 13 * i + 1, get8(image + 14 + 13 * i + 1) + by);
+}
+
+/* With all indices of the start moved up alike, the endings are the same ones moved up: only the order of indices counts. */
+static int endings_are_moved_up(u8 *wide, u64 length, u64 count)
+{
+    static u8 higher[2 * MAX_SCHEDULE];
+    u64 by = chance(50) ? (u64)1 << 32 : chance(50) ? LARGEST : random_bits() >> 1; /* the indices are of 32 bits, so there is room */
+    for (u64 i = 0; i < length; i++)
+        higher[i] = wide[i];
+    move_up(higher + SCHEDULE_HEAD, by);
+    for (u64 k = 0; k <= count && k < 40; k++) {
+        u8 ending[MAX_IMAGE], other[MAX_IMAGE];
+        Verdict v = write_ending(wide, length, k, ending, sizeof ending), w = write_ending(higher, length, k, other, sizeof other);
+        if (!same_verdict(v, w))
+            return 0;
+        if (v.number != TAKEN)
+            break;
+        move_up(ending, by);
+        if (!same_bytes(ending, other, image_length(WIDE, ending[5])))
+            return 0;
+    }
+    return 1;
+}
+
 /* A schedule of version 1 in which nothing wears out has the same page with its image widened, refusals included. */
 Finding same_when_wide(const u8 *bytes, u64 length)
 {
@@ -226,5 +256,7 @@ Finding same_when_wide(const u8 *bytes, u64 length)
         return finding(CONTRADICTS, 0, "another page with the image widened");
     if (number == TAKEN && count_endings(&the_bench, &count).number == TAKEN && !endings_are_widened(bytes, length, wide, wide_length, count))
         return finding(CONTRADICTS, 0, "other endings with the image widened");
+    if (number == TAKEN && !endings_are_moved_up(wide, wide_length, count))
+        return finding(CONTRADICTS, 0, "other endings with all indices moved up");
     return finding(AGREES, 0, "");
 }
