@@ -372,6 +372,10 @@ u64 generate_input(u64 seed, u64 number, const char *shape, u8 *bytes)
         return generate_conversion(number, 0, bytes);
     if (same_text(shape, "conversions-room"))
         return generate_conversion(number, 1, bytes);
+    if (same_text(shape, "mendable"))
+        return generate_mendable(number, 0, bytes);
+    if (same_text(shape, "mendable-room"))
+        return generate_mendable(number, 1, bytes);
     if (same_text(shape, "mixed"))
         return generate_mixed(seed, number, bytes);
     stop("no such shape");

@@ -262,6 +262,11 @@ static int mode_there_and_back(int count, char **words)
     return mode_hold(count, words, there_and_back);
 }
 
+static int mode_mend_two_ways(int count, char **words)
+{
+    return mode_hold(count, words, mend_two_ways);
+}
+
 static int mode_same_when_wide(int count, char **words)
 {
     return mode_hold(count, words, same_when_wide);
@@ -325,6 +330,7 @@ static const struct {
     {"contents", mode_contents}, {"contents-many", mode_contents_many}, {"generate", mode_generate},
     {"counts", mode_counts}, {"plain", mode_plain}, {"judge", mode_judge}, {"places", mode_places},
     {"widened", mode_widened}, {"narrowed", mode_narrowed}, {"there-and-back", mode_there_and_back}, {"same-when-wide", mode_same_when_wide},
+    {"mended", mode_mended}, {"mend-two-ways", mode_mend_two_ways},
     {"judged", mode_judged}, {"histories", mode_histories}, {"wrong", mode_wrong}, {"search", mode_search}, {"frame", mode_frame}, {"frames", mode_frames},
     {"cuts", mode_cuts}, {"values", mode_values}, {"sequence", mode_sequence}, {"sequences", mode_sequences},
 };

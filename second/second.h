@@ -176,6 +176,7 @@ enum {
     WORN_BY_32,
     NODES_FIRST,
     LOW_HALF_TWICE,
+    LOWEST_CLEARED,
     MACHINES
 };
 extern u32 wrong_machine;
@@ -232,6 +233,11 @@ int mode_widened(int count, char **words);
 int mode_narrowed(int count, char **words);
 Finding there_and_back(const u8 *bytes, u64 length);
 Finding same_when_wide(const u8 *bytes, u64 length);
+
+/* mend.c */
+int mode_mended(int count, char **words);
+Finding mend_two_ways(const u8 *bytes, u64 length);
+u64 generate_mendable(u64 number, int with_room, u8 *bytes);
 
 /* recovery.c */
 void start(Machine *m, u32 t, const Image *image);
