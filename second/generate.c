@@ -376,6 +376,8 @@ u64 generate_input(u64 seed, u64 number, const char *shape, u8 *bytes)
         return generate_mendable(number, 0, bytes);
     if (same_text(shape, "mendable-room"))
         return generate_mendable(number, 1, bytes);
+    if (same_text(shape, "probes"))
+        return generate_probe(number, bytes);
     if (same_text(shape, "mixed"))
         return generate_mixed(seed, number, bytes);
     stop("no such shape");

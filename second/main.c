@@ -267,6 +267,11 @@ static int mode_mend_two_ways(int count, char **words)
     return mode_hold(count, words, mend_two_ways);
 }
 
+static int mode_replay_by_parts(int count, char **words)
+{
+    return mode_hold(count, words, replay_by_parts);
+}
+
 static int mode_same_when_wide(int count, char **words)
 {
     return mode_hold(count, words, same_when_wide);
@@ -331,6 +336,7 @@ static const struct {
     {"counts", mode_counts}, {"plain", mode_plain}, {"judge", mode_judge}, {"places", mode_places},
     {"widened", mode_widened}, {"narrowed", mode_narrowed}, {"there-and-back", mode_there_and_back}, {"same-when-wide", mode_same_when_wide},
     {"mended", mode_mended}, {"mend-two-ways", mode_mend_two_ways},
+    {"replayed", mode_replayed}, {"probed", mode_probed}, {"replay-by-parts", mode_replay_by_parts},
     {"judged", mode_judged}, {"histories", mode_histories}, {"wrong", mode_wrong}, {"search", mode_search}, {"frame", mode_frame}, {"frames", mode_frames},
     {"cuts", mode_cuts}, {"values", mode_values}, {"sequence", mode_sequence}, {"sequences", mode_sequences},
 };

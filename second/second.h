@@ -177,6 +177,7 @@ enum {
     NODES_FIRST,
     LOW_HALF_TWICE,
     LOWEST_CLEARED,
+    STOPS_AT_FIRST,
     MACHINES
 };
 extern u32 wrong_machine;
@@ -238,6 +239,12 @@ Finding same_when_wide(const u8 *bytes, u64 length);
 int mode_mended(int count, char **words);
 Finding mend_two_ways(const u8 *bytes, u64 length);
 u64 generate_mendable(u64 number, int with_room, u8 *bytes);
+
+/* replay.c */
+int mode_replayed(int count, char **words);
+int mode_probed(int count, char **words);
+Finding replay_by_parts(const u8 *bytes, u64 length);
+u64 generate_probe(u64 number, u8 *bytes);
 
 /* recovery.c */
 void start(Machine *m, u32 t, const Image *image);
