@@ -44,6 +44,13 @@ static void fill_both(u8 *a, u8 *b, u64 length)
         a[i] = b[i] = (u8)random_bits();
 }
 
+/* How long the image in a schedule's bytes says it is; where there are too few bytes for it to say so, more than there are. */
+static u64 image_in(const u8 *bytes, u64 length)
+{
+    const u8 *image = bytes + SCHEDULE_HEAD;
+    return length < SCHEDULE_HEAD + IMAGE_LEAST ? length + 1 : image_length(form_of(image), image[5]);
+}
+
 int agree_on_bytes(const u8 *bytes, u64 length)
 {
     Schedule schedule;
@@ -51,8 +58,8 @@ int agree_on_bytes(const u8 *bytes, u64 length)
     u64 count = 0;
     u64 skip = length < SCHEDULE_HEAD ? length : SCHEDULE_HEAD;
     u64 image_bytes = length - skip;
-    if (length >= SCHEDULE_HEAD + IMAGE_HEAD && chance(80) && image_length(bytes[SCHEDULE_HEAD + 5]) < image_bytes)
-        image_bytes = image_length(bytes[SCHEDULE_HEAD + 5]); /* without the events */
+    if (chance(80) && image_in(bytes, length) < image_bytes)
+        image_bytes = image_in(bytes, length); /* without the events */
     return same_number("uq_check_image", uq_check_image(bytes + skip, image_bytes), packed(read_image(bytes + skip, image_bytes, &image), 0))
         && same_number("uq_check_schedule", uq_check_schedule(bytes, length), packed(read_schedule(bytes, length, &schedule), 0))
         && same_number("uq_count_endings", uq_count_endings(bytes, length), packed(endings_of(bytes, length, &schedule, &the_bench, &count), count));
@@ -64,9 +71,9 @@ int agree_on_ending(const u8 *bytes, u64 length)
     Schedule schedule;
     u64 count = 0;
     u32 taken = endings_of(bytes, length, &schedule, &the_bench, &count).number == TAKEN;
-    u64 whole = taken ? image_length(schedule.image.n) : below(600);
+    u64 whole = taken ? image_length(schedule.image.form, schedule.image.n) : below(600);
     u64 k = chance(70) && count > 0 ? below((u32)count) : chance(50) ? count : chance(50) ? count + below(3) : random_bits();
-    u64 room = chance(60) ? whole + below(40) : chance(50) ? whole : chance(50) ? whole - 1 : below(700);
+    u64 room = chance(60) ? whole + below(40) : chance(50) ? whole : chance(50) ? whole - 1 : below(1000);
     fill_both(ours, theirs, ROOM);
     return same_number("uq_ending", uq_ending(bytes, length, k, ours, room), packed(write_ending(bytes, length, k, theirs, room), 0))
         && same_bytes("uq_ending, the buffer", ours, theirs, ROOM);
@@ -114,6 +121,28 @@ int agree_on_lines(const u8 *bytes, u64 length)
         && same_bytes("uq_page_lines, the buffer", ours, theirs, ROOM);
 }
 
+/* Both conversions of one image: of the schedule's, or of one made for converting, spoilt now and then. */
+int agree_on_conversions(const u8 *bytes, u64 length, u64 number)
+{
+    static u8 ours[ROOM], theirs[ROOM], image[LONGEST + 16];
+    u64 skip = length < SCHEDULE_HEAD ? length : SCHEDULE_HEAD, rest = length - skip;
+    if (image_in(bytes, length) < rest)
+        rest = image_in(bytes, length);
+    for (u64 i = 0; i < rest; i++)
+        image[i] = bytes[skip + i];
+    if (chance(60)) {
+        rest = generate_conversion(number, 0, image);
+        if (chance(20))
+            spoil(image, &rest, LONGEST);
+    }
+    u64 room = chance(70) ? MAX_IMAGE + below(9) : below(MAX_IMAGE);
+    fill_both(ours, theirs, ROOM);
+    return same_number("uq_widen", uq_widen(image, rest, ours, room), packed(widen(image, rest, theirs, room), 0))
+        && same_bytes("uq_widen, the buffer", ours, theirs, ROOM)
+        && same_number("uq_narrow", uq_narrow(image, rest, ours, room), packed(narrow(image, rest, theirs, room), 0))
+        && same_bytes("uq_narrow, the buffer", ours, theirs, ROOM);
+}
+
 int agree_on_start(const u8 *bytes, u64 length)
 {
     static u8 ours[ROOM], theirs[ROOM];
@@ -122,8 +151,8 @@ int agree_on_start(const u8 *bytes, u64 length)
     u64 skip = length < SCHEDULE_HEAD ? length : SCHEDULE_HEAD;
     u64 rest = length - skip, room = chance(90) ? RECORD_BYTES + below(9) : below(RECORD_BYTES);
     u32 threads = below(chance(80) ? 9 : 256);
-    if (length >= SCHEDULE_HEAD + IMAGE_HEAD && image_length(bytes[SCHEDULE_HEAD + 5]) < rest)
-        rest = image_length(bytes[SCHEDULE_HEAD + 5]);
+    if (image_in(bytes, length) < rest)
+        rest = image_in(bytes, length);
     Verdict v = threads < 1 || threads > MAX_THREADS ? verdict(WRONG_T, 0) : read_image(bytes + skip, rest, &image);
     if (v.number == TAKEN && room < RECORD_BYTES)
         v = verdict(BUFFER_TOO_SHORT, 0);
@@ -155,7 +184,7 @@ static int agree_on_save(const u8 *record, const Machine *m)
 {
     static u8 ours[ROOM], theirs[ROOM];
     Image image;
-    u64 room = below(700);
+    u64 room = below(1000);
     Verdict v = verdict(OUT_OF_RANGE, 0);
     fill_both(ours, theirs, ROOM);
     if (in_range(m)) {

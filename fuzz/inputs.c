@@ -12,8 +12,8 @@ static u64 raw(u8 *bytes, u64 length)
 static u64 raw_behind_head(u8 *bytes, int image, int length_right)
 {
     static const u8 head[5] = {'U', 'Q', 'S', 1, 0}, inner[5] = {'U', 'Q', 'I', 1, 0};
-    u32 events = below(40), n = 2 + below(chance(80) ? 5 : 63);
-    u64 length = raw(bytes, SCHEDULE_HEAD + image_length(n) + EVENT_BYTES * events);
+    u32 events = below(40), n = 2 + below(chance(80) ? 5 : 63), form = some_form();
+    u64 length = raw(bytes, SCHEDULE_HEAD + image_length(form, n) + EVENT_BYTES * events);
     for (u32 i = 0; i < 5; i++)
         bytes[i] = head[i];
     if (!image)
@@ -22,17 +22,18 @@ static u64 raw_behind_head(u8 *bytes, int image, int length_right)
     put2(bytes + 6, events);
     for (u32 i = 0; i < 5; i++)
         bytes[SCHEDULE_HEAD + i] = inner[i];
+    bytes[SCHEDULE_HEAD + 3] = (u8)form;
     bytes[SCHEDULE_HEAD + 5] = (u8)n;
     if (!length_right)
         return below((u32)length + 20);
     for (u32 i = 0; i < n; i++) {
-        u8 *node = bytes + SCHEDULE_HEAD + IMAGE_HEAD + IMAGE_NODE * i;
+        u8 *node = bytes + SCHEDULE_HEAD + image_head(form) + image_node(form) * i;
         node[0] &= chance(99);
         if (chance(50))
-            put4(node + 1, below(5));
+            put_index(form, node + 1, below(5));
     }
     for (u32 i = 0; i < events; i++) {
-        u8 *event = bytes + SCHEDULE_HEAD + image_length(n) + EVENT_BYTES * i;
+        u8 *event = bytes + SCHEDULE_HEAD + image_length(form, n) + EVENT_BYTES * i;
         event[0] = (u8)(chance(97) ? 1 + below(5) : event[0]);
         event[1] = (u8)below(chance(90) ? bytes[5] : 9);
         if (chance(95) && event[0] != BEGIN_ENQUEUE)

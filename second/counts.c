@@ -33,6 +33,10 @@ static const char *const names[POINTS] = {
     [AT_LONGEST] = "4096 events", [AT_NODES_2] = "2 nodes", [AT_NODES_64] = "64 nodes",
     [AT_THREADS_1] = "1 thread", [AT_THREADS_8] = "8 threads", [AT_ITEM_0] = "item 0",
     [AT_ITEM_LARGEST] = "item 4294967295", [AT_EQUAL_IN_FLIGHT] = "equal items in flight",
+    [AT_NARROW] = "image version 1", [AT_WIDE] = "image version 2", [AT_A7_PASSES_32] = "A7 stores 4294967296",
+    [AT_A7_WIDE_TO_LARGEST] = "A7 stores the largest index of 64 bits",
+    [AT_WORN_NARROW] = "Worn out at 32 bits", [AT_WORN_WIDE] = "Worn out at 64 bits",
+    [AT_HIGH_HALF_DECIDES] = "recovered or not by the high half alone", [AT_LOW_HALVES_EQUAL] = "recovered nodes with equal low halves",
 };
 
 void reach(u32 point)
@@ -41,10 +45,25 @@ void reach(u32 point)
         reached[point]++;
 }
 
+/* What a program that looked at 32 bits of an index would get wrong. */
+static void count_halves(const Image *image)
+{
+    for (u32 i = 0; i < image->n; i++) {
+        int by_low_half = (u32)image->nodes[i].index > (u32)image->head_index;
+        if (image->nodes[i].linked && by_low_half != is_recovered(image, i))
+            reach(AT_HIGH_HALF_DECIDES);
+        for (u32 j = 0; j < i; j++)
+            if (is_recovered(image, i) && is_recovered(image, j) && (u32)image->nodes[i].index == (u32)image->nodes[j].index)
+                reach(AT_LOW_HALVES_EQUAL);
+    }
+}
+
 /* What the inputs are like, beyond the events themselves. */
 void count_schedule(const Schedule *s)
 {
     u32 crashes = 0;
+    reach(s->image.form == WIDE ? AT_WIDE : AT_NARROW);
+    count_halves(&s->image);
     for (u32 i = 0; i < s->event_count; i++) {
         Event e = event_at(s, i);
         crashes += e.kind == CRASH;

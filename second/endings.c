@@ -118,6 +118,7 @@ Verdict endings_of(const u8 *bytes, u64 length, Schedule *schedule, Bench *bench
 /* Line 0 turns slowest and line N fastest. */
 void ending_image(const Bench *bench, u64 k, Image *image)
 {
+    image->form = bench->machine.form; /* "endings keep the start image's form" */
     image->n = bench->machine.n;
     for (u32 line = bench->machine.n; line >= 1; line--) {
         const History *history = &bench->lines[line];

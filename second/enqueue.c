@@ -61,14 +61,18 @@ static void step_a6(Machine *m, Thread *self)
 static void step_a7(Machine *m, u32 k, Reply *reply)
 {
     Thread *self = &m->threads[k];
-    u32 index = m->nodes[self->t].cached.index;
-    if (index == LARGEST) {
+    u64 index = m->nodes[self->t].cached.index;
+    u64 largest = wrong_machine == WORN_BY_32 ? LARGEST : largest_index(m->form);
+    if (index == largest) {
+        reach(m->form == WIDE ? AT_WORN_WIDE : AT_WORN_NARROW);
         m->free |= bit(self->own);
         answer(m, k, WORN_OUT, 0, reply);
         return;
     }
-    if (index + 1 == LARGEST)
-        reach(AT_A7_INDEX_TO_LARGEST);
+    if (index + 1 == largest)
+        reach(m->form == WIDE ? AT_A7_WIDE_TO_LARGEST : AT_A7_INDEX_TO_LARGEST);
+    if (index == LARGEST)
+        reach(AT_A7_PASSES_32);
     m->nodes[self->own].cached.index = index + 1;
     self->step = following(A7);
 }

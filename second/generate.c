@@ -31,37 +31,77 @@ static u32 some_item(Plan *plan)
     }
 }
 
+u32 some_form(void)
+{
+    return chance(50) ? NARROW : WIDE;
+}
+
+/* Any index of the form; in version 2 some have one half zero or all ones. */
+static u64 any_index(u32 form)
+{
+    u64 bits = random_bits();
+    if (form == NARROW)
+        return (u32)bits;
+    switch (below(4)) {
+    case 0: return (u32)bits;
+    case 1: return bits << 32;
+    case 2: return bits | LARGEST;
+    default: return bits;
+    }
+}
+
+/* How far below the head index a passed index lies; in version 2 sometimes so far that its low half is above the head's. */
+static u64 passed_by(u32 form, u64 head_index)
+{
+    if (form == WIDE && head_index > LARGEST && chance(30))
+        return (u64)LARGEST - below(1000);
+    return below(head_index < 1000 ? (u32)head_index + 1 : 1000);
+}
+
 /* A node that recovery leaves aside: blank, unlinked with any index, or linked with a passed one. */
-static Content left_aside(u32 head_index)
+static Content left_aside(u32 form, u64 head_index)
 {
     Content blank = {0, 0, 0};
-    Content unlinked = {0, chance(50) ? (u32)random_bits() : head_index + below(3), below(9)};
-    Content passed = {1, head_index - (chance(50) ? 0 : below(head_index < 1000 ? head_index + 1 : 1000)), below(9)};
+    u64 room_above = largest_index(form) - head_index;
+    Content unlinked = {0, chance(50) ? any_index(form) : head_index + below(room_above < 3 ? (u32)room_above + 1 : 3), below(9)};
+    Content passed = {1, head_index - (chance(50) ? 0 : passed_by(form, head_index)), below(9)};
     u32 which = below(3);
     return which == 0 ? blank : which == 1 ? unlinked : passed;
 }
 
-static u32 some_head_index(void)
+/* Near zero, near the top of the form, anywhere; in version 2 also just below, at and above 2^32. */
+u64 some_head_index(u32 form)
 {
-    switch (below(5)) {
+    switch (below(form == WIDE ? 8 : 5)) {
     case 0: return 0;
     case 1: return below(10);
-    case 2: return 4294967295u - below(6);
-    case 3: return 4294967295u - below(100);
-    default: return (u32)random_bits();
+    case 2: return largest_index(form) - below(6);
+    case 3: return largest_index(form) - below(100);
+    case 4: return any_index(form);
+    case 5: return LARGEST - below(3);
+    case 6: return (u64)LARGEST + below(3);
+    default: return random_bits();
     }
+}
+
+/* The distance to the next index in the queue; in version 2 now and then a whole turn of the low half, or nearly one. */
+static u64 some_gap(u32 form)
+{
+    if (form == WIDE && chance(15))
+        return (u64)LARGEST + below(3);
+    return chance(60) ? 1 : 1 + below(4);
 }
 
 /* Recovered nodes at random places, their indices rising with gaps as long as there is room above. */
 static void queued_image(Image *image, u32 wanted)
 {
-    u32 index = image->head_index;
+    u64 index = image->head_index;
     u32 put = 0;
     for (u32 i = 0; i < image->n; i++)
-        image->nodes[i] = left_aside(image->head_index);
+        image->nodes[i] = left_aside(image->form, image->head_index);
     while (put < wanted) {
-        u32 gap = chance(60) ? 1 : 1 + below(4);
-        if (index > LARGEST - gap)
+        u64 gap = some_gap(image->form);
+        if (index > largest_index(image->form) - gap)
             break;
         index += gap;
         u32 node = below(image->n);
@@ -74,16 +114,18 @@ static void queued_image(Image *image, u32 wanted)
     }
 }
 
-static void some_image(Image *image)
+/* N is set before. */
+void some_image(Image *image)
 {
     Content blank = {0, 0, 0};
+    image->form = some_form();
     image->head_index = 0;
     for (u32 i = 0; i < image->n; i++)
         image->nodes[i] = blank;
     u32 kind = below(10);
     if (kind < 4)
         return;
-    image->head_index = some_head_index();
+    image->head_index = some_head_index(image->form);
     if (kind == 4)
         return;
     queued_image(image, kind == 5 ? image->n - 1 : below(image->n));
@@ -245,9 +287,9 @@ static u64 generate_worn(u8 *bytes)
     s.image.n = 2;
     s.t = 1 + below(2);
     some_image(&s.image);
-    s.image.head_index = LARGEST - below(2);
+    s.image.head_index = largest_index(s.image.form) - below(2);
     if (test_recovered(&s.image).number != TAKEN)
-        s.image.head_index = LARGEST;
+        s.image.head_index = largest_index(s.image.form);
     some_plan(&plan, s.t);
     plan.crash_per_mille = 0;
     plan.write_back_percent = chance(50) ? 0 : 3;
@@ -270,7 +312,7 @@ static u64 generate_wild(u8 *bytes)
     if (kind == 0) {
         s.image.n = 2;
         some_image(&s.image);
-        s.image.head_index = LARGEST; /* nothing is above it, so every enqueue wears out */
+        s.image.head_index = largest_index(s.image.form); /* nothing is above it, so every enqueue wears out */
     }
     some_plan(&plan, s.t);
     plan.write_back_percent = chance(70) ? 0 : 2;
@@ -326,6 +368,16 @@ u64 generate_input(u64 seed, u64 number, const char *shape, u8 *bytes)
         return generate_longer(bytes);
     if (same_text(shape, "images"))
         return generate_image(number, bytes);
+    if (same_text(shape, "conversions"))
+        return generate_conversion(number, 0, bytes);
+    if (same_text(shape, "conversions-room"))
+        return generate_conversion(number, 1, bytes);
+    if (same_text(shape, "mendable"))
+        return generate_mendable(number, 0, bytes);
+    if (same_text(shape, "mendable-room"))
+        return generate_mendable(number, 1, bytes);
+    if (same_text(shape, "probes"))
+        return generate_probe(number, bytes);
     if (same_text(shape, "mixed"))
         return generate_mixed(seed, number, bytes);
     stop("no such shape");

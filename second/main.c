@@ -166,6 +166,11 @@ static int mode_generate(int count, char **words)
             put_bytes(item, CONTENTS_BYTES);
             continue;
         }
+        if (same_text(words[2], "wide-contents")) {
+            generate_wide_contents_item(seed, i, item);
+            put_bytes(item, WIDE_CONTENTS_BYTES);
+            continue;
+        }
         if (same_text(words[2], "records")) {
             generate_record_item(seed, i, item);
             put_bytes(item, sizeof item);
@@ -268,6 +273,26 @@ static int mode_places(int count, char **words)
     return mode_hold(count, words, places);
 }
 
+static int mode_there_and_back(int count, char **words)
+{
+    return mode_hold(count, words, there_and_back);
+}
+
+static int mode_mend_two_ways(int count, char **words)
+{
+    return mode_hold(count, words, mend_two_ways);
+}
+
+static int mode_replay_by_parts(int count, char **words)
+{
+    return mode_hold(count, words, replay_by_parts);
+}
+
+static int mode_same_when_wide(int count, char **words)
+{
+    return mode_hold(count, words, same_when_wide);
+}
+
 static int mode_histories(int count, char **words)
 {
     return mode_hold(count, words, hold_history);
@@ -285,20 +310,14 @@ static int mode_contents(int count, char **words)
     u8 item[CONTENTS_BYTES];
     (void)count, (void)words;
     while (read_exactly(item, sizeof item))
-        print_contents_item(item);
+        print_contents_item(item, sizeof item);
     return 0;
 }
 
 static int mode_contents_many(int count, char **words)
 {
-    u64 length;
     (void)count, (void)words;
-    while (read_next(&length)) {
-        if (length != CONTENTS_BYTES)
-            stop("an item of contents has 583 bytes");
-        print_contents_item(input);
-    }
-    return 0;
+    return each_input(print_contents_item);
 }
 
 static int mode_search(int count, char **words)
@@ -332,6 +351,9 @@ static const struct {
     {"images", mode_images}, {"images-again", mode_images_again}, {"schedules", mode_schedules},
     {"contents", mode_contents}, {"contents-many", mode_contents_many}, {"generate", mode_generate},
     {"counts", mode_counts}, {"plain", mode_plain}, {"judge", mode_judge}, {"places", mode_places},
+    {"widened", mode_widened}, {"narrowed", mode_narrowed}, {"there-and-back", mode_there_and_back}, {"same-when-wide", mode_same_when_wide},
+    {"mended", mode_mended}, {"mend-two-ways", mode_mend_two_ways},
+    {"replayed", mode_replayed}, {"probed", mode_probed}, {"replay-by-parts", mode_replay_by_parts},
     {"judged", mode_judged}, {"drawn", mode_drawn}, {"histories", mode_histories},
     {"wrong", mode_wrong}, {"search", mode_search}, {"frame", mode_frame}, {"frames", mode_frames},
     {"cuts", mode_cuts}, {"values", mode_values}, {"sequence", mode_sequence}, {"sequences", mode_sequences},

@@ -58,7 +58,7 @@ void print_trace_sums(const u8 *bytes, u64 length)
     trace(bytes, length, print_moment_sum);
 }
 
-static void print_verdict(Verdict v)
+void print_verdict(Verdict v)
 {
     put_number(v.number);
     put_text(" ");
@@ -134,18 +134,20 @@ void print_saved(const u8 *bytes, u64 length)
     put_text("\n");
 }
 
-/* A start from contents: 4, then 3, 6, 7, 8. The last digit of the byte behind the nodes is T. */
+/* A start from contents: 4, then 3, 6, 7, 8, 20. The last digit of the byte behind the nodes is T. */
 void print_start(const u8 *bytes, u64 length)
 {
     Machine machine;
     Image image;
     Verdict v;
     Reply reply = {NOTHING, 0, NO_LINE, 0};
-    if (length != CONTENTS_BYTES)
-        stop("an item of contents has 583 bytes");
-    u32 t = bytes[CONTENTS_BYTES - 2] % 10;
-    contents_from_bytes(bytes, &image);
+    if (length != CONTENTS_BYTES && length != WIDE_CONTENTS_BYTES)
+        stop("an item of contents has 583 bytes, or 844");
+    u32 t = bytes[length - 2] % 10;
+    contents_from_bytes(bytes, length, &image);
     v = t < 1 || t > MAX_THREADS ? verdict(WRONG_T, 0) : test_contents(&image);
+    if (v.number == TAKEN)
+        v = test_fits(&image);
     if (v.number != TAKEN) {
         print_refusal(v);
         return;
@@ -163,6 +165,7 @@ void print_fresh(const u8 *bytes, u64 length)
     Reply reply = {NOTHING, 0, NO_LINE, 0};
     if (length != 2)
         stop("N and T have 2 bytes");
+    image.form = NARROW;
     image.n = bytes[0];
     image.head_index = 0;
     for (u32 i = 0; i < MAX_NODES; i++)

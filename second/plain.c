@@ -55,7 +55,7 @@ static void run_with(const Schedule *s, const u32 *moments, Image *image)
 
 static int same_image(const Image *a, const Image *b)
 {
-    if (a->n != b->n || a->head_index != b->head_index)
+    if (a->form != b->form || a->n != b->n || a->head_index != b->head_index)
         return 0;
     for (u32 i = 0; i < a->n; i++)
         if (!same_content(a->nodes[i], b->nodes[i]))

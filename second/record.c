@@ -11,9 +11,15 @@ static int is_node_or_none(const Machine *m, u32 node)
     return node < m->n || node == NONE;
 }
 
+/* "A record's index above its width is 18." */
+static int index_in_range(const Machine *m, u64 index)
+{
+    return index <= largest_index(m->form);
+}
+
 static int node_in_range(const Machine *m, const Node *node)
 {
-    return is_node_or_none(m, node->next) && node->cached.linked <= 1 && node->persisted.linked <= 1 &&
+    return index_in_range(m, node->cached.index) && index_in_range(m, node->persisted.index) && is_node_or_none(m, node->next) && node->cached.linked <= 1 && node->persisted.linked <= 1 &&
            (node->waits & ~low_bits(m->t)) == 0;
 }
 
@@ -39,7 +45,7 @@ static int uses_next_read(u32 step)
 
 static int thread_in_range(const Machine *m, const Thread *thread)
 {
-    if (thread->step >= STEPS)
+    if (thread->step >= STEPS || !index_in_range(m, thread->head_read_index))
         return 0;
     if (!is_node_or_none(m, thread->own) || !is_node_or_none(m, thread->t) || !is_node_or_none(m, thread->head_read) ||
         !is_node_or_none(m, thread->next_read) || !is_node_or_none(m, thread->held))
@@ -57,6 +63,10 @@ static int thread_in_range(const Machine *m, const Thread *thread)
 
 int in_range(const Machine *m)
 {
+    if (m->form != NARROW && m->form != WIDE)
+        return 0;
+    if (!index_in_range(m, m->head_index) || !index_in_range(m, m->persisted_head_index))
+        return 0;
     if (m->n < MIN_NODES || m->n > MAX_NODES || m->t < 1 || m->t > MAX_THREADS)
         return 0;
     if (m->head >= m->n || m->tail >= m->n || (m->free & ~low_bits(m->n)) != 0)
@@ -68,6 +78,12 @@ int in_range(const Machine *m)
         if (!thread_in_range(m, &m->threads[k]))
             return 0;
     return 1;
+}
+
+/* Whether the bytes below have room for this machine: an index has four of them. */
+int record_holds(const Machine *m)
+{
+    return m->form == NARROW;
 }
 
 static void node_to_bytes(const Node *node, u8 *at)
@@ -138,6 +154,7 @@ void record_to_bytes(const Machine *m, u8 *bytes)
 
 void record_from_bytes(const u8 *bytes, Machine *m)
 {
+    m->form = NARROW;
     m->n = bytes[0];
     m->t = bytes[1];
     m->head = bytes[2];

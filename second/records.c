@@ -6,14 +6,17 @@ static u32 some_node(const Machine *m, u32 none_percent)
     return chance(none_percent) ? NONE : below(m->n);
 }
 
-static u32 some_index(void)
+/* Small, at the top of the form, and in version 2 about 2^32. */
+static u64 some_index(u32 form)
 {
-    return chance(10) ? LARGEST - below(2) : below(6);
+    if (form == WIDE && chance(10))
+        return (u64)LARGEST - 1 + below(4);
+    return chance(10) ? largest_index(form) - below(2) : below(6);
 }
 
-static Content some_content(void)
+static Content some_content(u32 form)
 {
-    Content c = {below(2), some_index(), chance(50) ? below(4) : (u32)random_bits()};
+    Content c = {below(2), some_index(form), chance(50) ? below(4) : (u32)random_bits()};
     return c;
 }
 
@@ -23,7 +26,7 @@ static void random_thread(const Machine *m, Thread *thread)
     thread->own = some_node(m, 2);
     thread->t = some_node(m, 2);
     thread->head_read = chance(50) ? m->head : some_node(m, 2);
-    thread->head_read_index = chance(50) ? m->head_index : some_index();
+    thread->head_read_index = chance(50) ? m->head_index : some_index(m->form);
     thread->next_read = some_node(m, 2);
     thread->item = (u32)random_bits();
     thread->held = some_node(m, 30);
@@ -32,22 +35,37 @@ static void random_thread(const Machine *m, Thread *thread)
 /* Fields drawn within their ranges (now and then no node where one is used): mostly records that no run leads to. */
 static void random_record(Machine *m)
 {
+    m->form = some_form();
     m->n = chance(70) ? 2 + below(4) : 2 + below(63);
     m->t = 1 + below(8);
     m->head = below(m->n);
-    m->head_index = some_index();
+    m->head_index = some_index(m->form);
     m->tail = below(m->n);
     m->free = chance(20) ? 0 : random_bits() & (m->n == 64 ? ~(u64)0 : bit(m->n) - 1);
-    m->persisted_head_index = some_index();
+    m->persisted_head_index = some_index(m->form);
     for (u32 i = 0; i < MAX_NODES; i++) {
         Node *node = &m->nodes[i];
-        node->cached = some_content();
-        node->persisted = some_content();
+        node->cached = some_content(m->form);
+        node->persisted = some_content(m->form);
         node->next = some_node(m, 30);
         node->waits = chance(50) ? 0 : (u32)(random_bits() & (bit(m->t) - 1));
     }
     for (u32 k = 0; k < MAX_THREADS; k++)
         random_thread(m, &m->threads[k]);
+}
+
+/* 18: one index above the record's width, or one where the record ends already, which is no part of it. */
+static void index_above_width(Machine *m)
+{
+    u64 index = (u64)LARGEST + 1 + below(2);
+    m->form = NARROW;
+    switch (below(5)) {
+    case 0: m->head_index = index; break;
+    case 1: m->persisted_head_index = index; break;
+    case 2: m->nodes[below(chance(80) ? m->n : MAX_NODES)].cached.index = index; break;
+    case 3: m->nodes[below(chance(80) ? m->n : MAX_NODES)].persisted.index = index; break;
+    default: m->threads[below(chance(80) ? m->t : MAX_THREADS)].head_read_index = index; break;
+    }
 }
 
 /* The record some run has reached. */
@@ -97,6 +115,8 @@ void generate_record_item(u64 seed, u64 number, u8 *item)
         record_of_run(&m);
     else
         random_record(&m);
+    if (kind >= 4 && m.form == NARROW && chance(10))
+        index_above_width(&m);
     record_to_bytes(&m, item);
     some_record_event(&m, item + RECORD_BYTES);
     aim_at_step(&m, item + RECORD_BYTES);

@@ -83,6 +83,7 @@ static void recover(Machine *m)
 
 void start(Machine *m, u32 t, const Image *image)
 {
+    m->form = image->form;
     m->n = image->n;
     m->t = t;
     m->persisted_head_index = image->head_index;
@@ -93,6 +94,7 @@ void start(Machine *m, u32 t, const Image *image)
 
 void persisted_image(const Machine *m, Image *image)
 {
+    image->form = m->form;
     image->n = m->n;
     image->head_index = m->persisted_head_index;
     for (u32 i = 0; i < m->n; i++)

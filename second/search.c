@@ -4,6 +4,7 @@
 static const char *const machine_names[MACHINES] = {
     "right", "index-first", "retire-same-dequeue", "empty-no-persist", "consecutive", "equal-twice",
     "waits-for-nobody", "a10-no-persist", "d6-no-persist", "a4-left-out",
+    "worn-by-32", "nodes-first", "low-half-twice", "lowest-cleared", "stops-at-first",
 };
 
 u32 machine_of_name(const char *name)
@@ -39,7 +40,7 @@ static void copy(u8 *to, const u8 *from, u64 length)
 
 static u64 events_from(const u8 *bytes)
 {
-    return SCHEDULE_HEAD + image_length(bytes[SCHEDULE_HEAD + 5]);
+    return SCHEDULE_HEAD + image_length(form_of(bytes + SCHEDULE_HEAD), bytes[SCHEDULE_HEAD + 5]);
 }
 
 /* Leaves out the events whose entry in `drop` is set; keeps the shorter schedule if it still shows the machine wrong. */
@@ -122,15 +123,15 @@ static int shrink_rest(u32 machine, u8 *bytes, u64 length)
 /* Drops the last node when the schedule does without it. */
 static int shrink_nodes(u32 machine, u8 *bytes, u64 *length)
 {
-    u64 from = events_from(bytes);
+    u64 from = events_from(bytes), node = image_node(form_of(bytes + SCHEDULE_HEAD));
     if (bytes[SCHEDULE_HEAD + 5] <= MIN_NODES)
         return 0;
-    copy(trial, bytes, from - IMAGE_NODE);
-    copy(trial + from - IMAGE_NODE, bytes + from, *length - from);
+    copy(trial, bytes, from - node);
+    copy(trial + from - node, bytes + from, *length - from);
     trial[SCHEDULE_HEAD + 5]--;
-    if (!shows(machine, trial, *length - IMAGE_NODE))
+    if (!shows(machine, trial, *length - node))
         return 0;
-    *length -= IMAGE_NODE;
+    *length -= node;
     copy(bytes, trial, *length);
     return 1;
 }

@@ -16,18 +16,22 @@ enum {
     MAX_CONTENTS = 16,
     MAX_ENDINGS = 65536,
     SCHEDULE_HEAD = 8,
-    IMAGE_HEAD = 10,
-    IMAGE_NODE = 9,
+    IMAGE_LEAST = 10, /* "fewer than 10 bytes left", in every version */
     EVENT_BYTES = 6,
-    MAX_IMAGE = IMAGE_HEAD + IMAGE_NODE * MAX_NODES,
+    MAX_IMAGE = 846, /* 14 + 13 * 64, of version 2 */
     MAX_SCHEDULE = SCHEDULE_HEAD + MAX_IMAGE + EVENT_BYTES * MAX_EVENTS,
     RECORD_BYTES = 1412,
-    CONTENTS_BYTES = 5 + IMAGE_NODE * MAX_NODES + 2,
+    CONTENTS_BYTES = 5 + 9 * MAX_NODES + 2,
+    WIDE_CONTENTS_BYTES = 10 + 13 * MAX_NODES + 2,
+    MOST_ROOM = 65535,
     NONE = 255,    /* no node */
     NO_LINE = 255, /* no line */
     NEVER = 0x7fffffff
 };
-static const u32 LARGEST = 4294967295u;
+static const u32 LARGEST = 4294967295u; /* of 32 bits: an item, and an index of version 1 */
+
+/* An image's form is its version: indices of 32 bits, or of 64. */
+enum { NARROW = 1, WIDE = 2 };
 
 /* Numbers given back, as the paper numbers them. */
 enum {
@@ -50,7 +54,8 @@ enum {
     NO_SUCH_ENDING = 16,
     BUFFER_TOO_SHORT = 17,
     OUT_OF_RANGE = 18,
-    NUMBERS = 19
+    DOES_NOT_FIT = 20,
+    NUMBERS = 21
 };
 
 typedef struct Verdict {
@@ -61,13 +66,14 @@ typedef struct Verdict {
 /* What a line holds. Line 0 uses the index alone; the other two fields stay 0 there. */
 typedef struct Content {
     u32 linked;
-    u32 index;
+    u64 index;
     u32 item;
 } Content;
 
 typedef struct Image {
+    u32 form;
     u32 n;
-    u32 head_index;
+    u64 head_index;
     Content nodes[MAX_NODES];
 } Image;
 
@@ -107,20 +113,21 @@ typedef struct Thread {
     u32 own;             /* node of this enqueue */
     u32 t;               /* Tail as read at A5 */
     u32 head_read;       /* Head's node as read at D1 */
-    u32 head_read_index; /* Head's index as read at D1 */
+    u64 head_read_index; /* Head's index as read at D1 */
     u32 next_read;       /* next as read at D2 */
     u32 item;            /* to be enqueued, or read at D5 */
     u32 held;            /* old dummy of the previous successful dequeue */
 } Thread;
 
 typedef struct Machine {
+    u32 form; /* that of the start's image: it decides when an index is worn out */
     u32 n;
     u32 t;
     u32 head;
-    u32 head_index;
+    u64 head_index;
     u32 tail;
     u64 free; /* bit i: node i is free */
-    u32 persisted_head_index;
+    u64 persisted_head_index;
     Node nodes[MAX_NODES];
     Thread threads[MAX_THREADS];
 } Machine;
@@ -145,6 +152,15 @@ typedef struct Bench {
     History lines[MAX_LINES];
 } Bench;
 
+/* What holding an input against another way of getting its result has found. */
+enum { AGREES = 0, CONTRADICTS = 1, TOO_LARGE = 2 };
+typedef struct Finding {
+    u32 result;
+    u64 ending;
+    const char *why;
+    u64 work;
+} Finding;
+
 /* The wrong machines; each is one `if` at one place of the sources. */
 enum {
     RIGHT = 0,
@@ -157,6 +173,11 @@ enum {
     A10_NO_PERSIST,
     D6_NO_PERSIST,
     A4_LEFT_OUT,
+    WORN_BY_32,
+    NODES_FIRST,
+    LOW_HALF_TWICE,
+    LOWEST_CLEARED,
+    STOPS_AT_FIRST,
     MACHINES
 };
 extern u32 wrong_machine;
@@ -179,7 +200,19 @@ u32 get2(const u8 *from);
 u32 get4(const u8 *from);
 void put2(u8 *to, u32 value);
 void put4(u8 *to, u32 value);
+u64 get8(const u8 *from);
+void put8(u8 *to, u64 value);
 int same_text(const char *a, const char *b);
+
+/* form.c */
+u64 largest_index(u32 form);
+u32 index_bytes(u32 form);
+u32 image_head(u32 form);
+u32 image_node(u32 form);
+u64 image_length(u32 form, u32 n);
+u64 get_index(u32 form, const u8 *from);
+void put_index(u32 form, u8 *to, u64 value);
+u32 form_of(const u8 *image);
 
 /* image.c */
 Verdict verdict(u32 number, u32 place);
@@ -191,7 +224,27 @@ Verdict test_contents(const Image *image);
 Verdict write_image(const Image *image, u8 *buffer, u64 room);
 int is_recovered(const Image *image, u32 node);
 u32 recovered_in_order(const Image *image, u32 *order);
-u64 image_length(u32 n);
+void image_to_bytes(const Image *image, u8 *bytes);
+
+/* convert.c */
+Verdict test_fits(const Image *image);
+Verdict widen(const u8 *bytes, u64 length, u8 *buffer, u64 room);
+Verdict narrow(const u8 *bytes, u64 length, u8 *buffer, u64 room);
+int mode_widened(int count, char **words);
+int mode_narrowed(int count, char **words);
+Finding there_and_back(const u8 *bytes, u64 length);
+Finding same_when_wide(const u8 *bytes, u64 length);
+
+/* mend.c */
+int mode_mended(int count, char **words);
+Finding mend_two_ways(const u8 *bytes, u64 length);
+u64 generate_mendable(u64 number, int with_room, u8 *bytes);
+
+/* replay.c */
+int mode_replayed(int count, char **words);
+int mode_probed(int count, char **words);
+Finding replay_by_parts(const u8 *bytes, u64 length);
+u64 generate_probe(u64 number, u8 *bytes);
 
 /* recovery.c */
 void start(Machine *m, u32 t, const Image *image);
@@ -216,6 +269,7 @@ Content persisted_content(const Machine *m, u32 line);
 
 /* record.c */
 int in_range(const Machine *m);
+int record_holds(const Machine *m);
 void record_to_bytes(const Machine *m, u8 *bytes);
 void record_from_bytes(const u8 *bytes, Machine *m);
 
@@ -245,7 +299,7 @@ void print_endings(const u8 *bytes, u64 length);
 static const u64 NO_SUM = 14695981039346656037u; /* FNV-1a, 64 bits, of no bytes */
 u64 add_to_sum(u64 sum, const u8 *bytes, u64 length);
 void put_sum(u64 sum);
-void contents_from_bytes(const u8 *bytes, Image *image);
+void contents_from_bytes(const u8 *bytes, u64 length, Image *image);
 void print_trace(const u8 *bytes, u64 length);
 void print_trace_sums(const u8 *bytes, u64 length);
 void print_soak(const u8 *bytes, u64 length);
@@ -259,19 +313,21 @@ void print_fresh(const u8 *bytes, u64 length);
 void print_image(const u8 *bytes, u64 length);
 void print_image_again(const u8 *bytes, u64 length);
 void print_schedule(const u8 *bytes, u64 length);
-void print_contents_item(const u8 *item);
+void print_contents_item(const u8 *item, u64 length);
+void print_verdict(Verdict v);
 
 /* counts.c: how often each step, branch, answer and refusal was reached */
 enum {
     AT_STEP = 0, /* + step number 1..19 */
     AT_REPLY = 20, /* + reply number 0..5 */
-    AT_NUMBER = 26, /* + number given back 0..17 */
-    AT_A6_NONE = 44, AT_A6_SOME, AT_A8_LINKS, AT_A8_FAILS, AT_A11_MOVES, AT_A11_LEAVES, AT_A12_MOVES, AT_A12_LEAVES,
+    AT_NUMBER = 26, /* + number given back 0..20 */
+    AT_A6_NONE = AT_NUMBER + NUMBERS, AT_A6_SOME, AT_A8_LINKS, AT_A8_FAILS, AT_A11_MOVES, AT_A11_LEAVES, AT_A12_MOVES, AT_A12_LEAVES,
     AT_D2_NONE, AT_D2_SOME, AT_D4_MOVES, AT_D4_FAILS, AT_D7_HELD_ONE, AT_D7_HELD_NONE,
     AT_RETIRED_FREE, AT_RETIRED_WAITS, AT_ANSWER_FREES, AT_ANSWER_KEEPS_WAITING, AT_A1_REUSED,
     AT_A7_INDEX_TO_LARGEST, AT_WRITE_BACK_HEAD, AT_WRITE_BACK_NODE, AT_BEGIN_ENQUEUE, AT_BEGIN_DEQUEUE, AT_CRASH,
     AT_DUMMY_INDEX_CHANGES, AT_GAP, AT_STALE_LINKED, AT_EQUAL_CONTENT, AT_SIXTEEN, AT_MANY_CRASHES, AT_LONGEST,
     AT_NODES_2, AT_NODES_64, AT_THREADS_1, AT_THREADS_8, AT_ITEM_0, AT_ITEM_LARGEST, AT_EQUAL_IN_FLIGHT,
+    AT_NARROW, AT_WIDE, AT_A7_PASSES_32, AT_A7_WIDE_TO_LARGEST, AT_WORN_NARROW, AT_WORN_WIDE, AT_HIGH_HALF_DECIDES, AT_LOW_HALVES_EQUAL,
     POINTS
 };
 extern u64 reached[];
@@ -280,13 +336,6 @@ int print_counts(void);
 void count_schedule(const Schedule *schedule);
 
 /* plain.c, judge.c, places.c */
-enum { AGREES = 0, CONTRADICTS = 1, TOO_LARGE = 2 };
-typedef struct Finding {
-    u32 result;
-    u64 ending;
-    const char *why;
-    u64 work;
-} Finding;
 Finding plain_way(const u8 *bytes, u64 length);
 Finding judge(const u8 *bytes, u64 length);
 enum { IN_QUEUE, IS_FREE, IS_WAITING, IS_HELD, ENQUEUE_OWNS, DEQUEUE_OWNS, PLACES };
@@ -308,7 +357,12 @@ u64 generate_changed_byte(u64 seed, u64 number, u8 *bytes);
 u64 generate_longer(u8 *bytes);
 void generate_record_item(u64 seed, u64 number, u8 *item);
 void generate_contents_item(u64 seed, u64 number, u8 *item);
+void generate_wide_contents_item(u64 seed, u64 number, u8 *item);
 u64 generate_image(u64 number, u8 *bytes);
+u64 generate_conversion(u64 number, int with_room, u8 *bytes);
+u32 some_form(void);
+u64 some_head_index(u32 form);
+void some_image(Image *image);
 u32 machine_of_name(const char *name);
 int search(u32 machine, u64 seed, u64 tries);
 int check_sequences(void);

@@ -3,14 +3,16 @@
 
 static u8 bytes[2 * MAX_SCHEDULE];
 static u64 length;
+static u32 form; /* of the sequence at hand */
 
 /* An image of zero nodes with a head index. */
-static void open_schedule(u32 n, u32 t, u32 head_index)
+static void open_schedule(u32 n, u32 t, u64 head_index)
 {
     Schedule s;
     Content blank = {0, 0, 0};
     s.t = t;
     s.event_count = 0;
+    s.image.form = form;
     s.image.n = n;
     s.image.head_index = head_index;
     for (u32 i = 0; i < n && i < MAX_NODES; i++)
@@ -18,7 +20,7 @@ static void open_schedule(u32 n, u32 t, u32 head_index)
     s.image.n = n > MAX_NODES ? MAX_NODES : n;
     length = schedule_to_bytes(&s, bytes);
     for (u32 i = MAX_NODES; i < n; i++)
-        for (u32 j = 0; j < IMAGE_NODE; j++)
+        for (u32 j = 0; j < image_node(form); j++)
             bytes[length++] = 0;
     bytes[SCHEDULE_HEAD + 5] = (u8)n;
 }
@@ -67,7 +69,7 @@ static void build_p6_p7(u32 which)
 /* Every enqueue wears out at its seventh step and leaves its item in node 1. */
 static void build_worn(u32 enqueues)
 {
-    open_schedule(2, 1, LARGEST);
+    open_schedule(2, 1, largest_index(form));
     for (u32 i = 1; i <= enqueues; i++) {
         add(BEGIN_ENQUEUE, 0, i);
         steps(0, 7);
@@ -87,6 +89,21 @@ static void build_overtaken(u32 times)
     }
 }
 
+/* The last index of 32 bits as the head index: in version 2 the enqueue goes on beyond it. */
+static void build_past_32(void)
+{
+    open_schedule(2, 1, LARGEST);
+    add(BEGIN_ENQUEUE, 0, 7);
+    steps(0, 11);
+}
+
+/* Only `left` bytes of an all-zero image. */
+static void build_cut_image(u32 n, u32 left)
+{
+    open_schedule(n, 1, 0);
+    length = SCHEDULE_HEAD + left;
+}
+
 static void build_write_backs(u32 n, u32 t, u32 events)
 {
     open_schedule(n, t, 0);
@@ -101,48 +118,81 @@ typedef struct Sequence {
     const char *page; /* the whole page, or its beginning */
     u32 event;        /* this event's answer is stated, unless 0 */
     u32 reply;
+    u32 wide; /* 1: with an image of version 2 */
 } Sequence;
 
-enum { ONE_THREAD, TWO_THREADS, WORN, WORN_WRITTEN, OVERTAKEN, WRITE_BACKS, HEAD_ONLY, ONE_EVENT, NO_BYTES };
+enum { ONE_THREAD, TWO_THREADS, WORN, WORN_WRITTEN, OVERTAKEN, WRITE_BACKS, HEAD_ONLY, ONE_EVENT, NO_BYTES, PAST_32, CUT_IMAGE };
 
 static const Sequence sequences[] = {
-    {"p1", ONE_THREAD, 1, 0, 0, "UQS 1 threads 1 nodes 2 events 10 endings 4\n0 0 -\n1 0 -\n2 0 -\n3 0 7\n", 0, 0},
-    {"p2", ONE_THREAD, 2, 0, 0, "UQS 1 threads 1 nodes 2 events 11 endings 1\n0 0 7\n", 0, 0},
-    {"p3", ONE_THREAD, 3, 0, 0, "UQS 1 threads 1 nodes 2 events 16 endings 2\n0 0 7\n1 1 -\n", 11, DONE},
-    {"p4", ONE_THREAD, 4, 0, 0, "UQS 1 threads 1 nodes 2 events 18 endings 1\n0 1 -\n", 0, 0},
-    {"p5", ONE_THREAD, 5, 0, 0, "UQS 1 threads 1 nodes 2 events 21 endings 1\n0 1 -\n", 20, FULL},
-    {"p6", TWO_THREADS, 6, 0, 0, "UQS 1 threads 2 nodes 3 events 24 endings 3\n0 0 6\n1 0 6\n2 0 6\n", 23, DONE},
-    {"p7", TWO_THREADS, 7, 0, 0, "UQS 1 threads 2 nodes 3 events 25 endings 4\n0 0 6\n1 0 6\n2 0 6\n3 0 5 6\n", 0, 0},
-    {"p8", HEAD_ONLY, 2, 1, 5, "UQS 1 threads 1 nodes 2 events 0 endings 2\n0 5 -\n1 5 -\n", 0, 0},
-    {"p9", HEAD_ONLY, 2, 1, 0, "UQS 1 threads 1 nodes 2 events 0 endings 1\n0 0 -\n", 0, 0},
-    {"p10", WORN, 1, 0, 0, "UQS 1 threads 1 nodes 2 events 8 endings 4\n0 4294967295 -\n", 7, WORN_OUT},
-    {"nodes-1", HEAD_ONLY, 1, 1, 0, "refused 3 at 0\n", 0, 0},
-    {"nodes-2", HEAD_ONLY, 2, 8, 0, "UQS 1 threads 8 nodes 2 events 0 endings 1\n0 0 -\n", 0, 0},
-    {"nodes-64", HEAD_ONLY, 64, 1, 0, "UQS 1 threads 1 nodes 64 events 0 endings 1\n0 0 -\n", 0, 0},
-    {"nodes-65", HEAD_ONLY, 65, 1, 0, "refused 3 at 0\n", 0, 0},
-    {"threads-0", HEAD_ONLY, 2, 0, 0, "refused 4 at 0\n", 0, 0},
-    {"threads-9", HEAD_ONLY, 2, 9, 0, "refused 4 at 0\n", 0, 0},
-    {"events-4096", WRITE_BACKS, 2, 1, 4096, "UQS 1 threads 1 nodes 2 events 4096 endings 1\n0 0 -\n", 0, 0},
-    {"events-4097", WRITE_BACKS, 2, 1, 4097, "refused 5 at 0\n", 0, 0},
-    {"contents-16", WORN, 15, 0, 0, "UQS 1 threads 1 nodes 2 events 120 endings 32\n0 4294967295 -\n", 0, 0},
-    {"contents-17", WORN, 16, 0, 0, "refused 14 at 2\n", 0, 0},
-    {"overtaken-16", OVERTAKEN, 13, 0, 0, "UQS 1 threads 2 nodes 64 events 229 endings 16\n0 0 1 1 1 1 1 1 1 1 1 1 1 1 1\n", 0, 0},
-    {"overtaken-17", OVERTAKEN, 14, 0, 0, "refused 14 at 2\n", 0, 0},
+    {"p1", ONE_THREAD, 1, 0, 0, "UQS 1 threads 1 nodes 2 events 10 endings 4\n0 0 -\n1 0 -\n2 0 -\n3 0 7\n", 0, 0, 0},
+    {"p2", ONE_THREAD, 2, 0, 0, "UQS 1 threads 1 nodes 2 events 11 endings 1\n0 0 7\n", 0, 0, 0},
+    {"p3", ONE_THREAD, 3, 0, 0, "UQS 1 threads 1 nodes 2 events 16 endings 2\n0 0 7\n1 1 -\n", 11, DONE, 0},
+    {"p4", ONE_THREAD, 4, 0, 0, "UQS 1 threads 1 nodes 2 events 18 endings 1\n0 1 -\n", 0, 0, 0},
+    {"p5", ONE_THREAD, 5, 0, 0, "UQS 1 threads 1 nodes 2 events 21 endings 1\n0 1 -\n", 20, FULL, 0},
+    {"p6", TWO_THREADS, 6, 0, 0, "UQS 1 threads 2 nodes 3 events 24 endings 3\n0 0 6\n1 0 6\n2 0 6\n", 23, DONE, 0},
+    {"p7", TWO_THREADS, 7, 0, 0, "UQS 1 threads 2 nodes 3 events 25 endings 4\n0 0 6\n1 0 6\n2 0 6\n3 0 5 6\n", 0, 0, 0},
+    {"p8", HEAD_ONLY, 2, 1, 5, "UQS 1 threads 1 nodes 2 events 0 endings 2\n0 5 -\n1 5 -\n", 0, 0, 0},
+    {"p9", HEAD_ONLY, 2, 1, 0, "UQS 1 threads 1 nodes 2 events 0 endings 1\n0 0 -\n", 0, 0, 0},
+    {"p10", WORN, 1, 0, 0, "UQS 1 threads 1 nodes 2 events 8 endings 4\n0 4294967295 -\n", 7, WORN_OUT, 0},
+    {"nodes-1", HEAD_ONLY, 1, 1, 0, "refused 3 at 0\n", 0, 0, 0},
+    {"nodes-2", HEAD_ONLY, 2, 8, 0, "UQS 1 threads 8 nodes 2 events 0 endings 1\n0 0 -\n", 0, 0, 0},
+    {"nodes-64", HEAD_ONLY, 64, 1, 0, "UQS 1 threads 1 nodes 64 events 0 endings 1\n0 0 -\n", 0, 0, 0},
+    {"nodes-65", HEAD_ONLY, 65, 1, 0, "refused 3 at 0\n", 0, 0, 0},
+    {"threads-0", HEAD_ONLY, 2, 0, 0, "refused 4 at 0\n", 0, 0, 0},
+    {"threads-9", HEAD_ONLY, 2, 9, 0, "refused 4 at 0\n", 0, 0, 0},
+    {"events-4096", WRITE_BACKS, 2, 1, 4096, "UQS 1 threads 1 nodes 2 events 4096 endings 1\n0 0 -\n", 0, 0, 0},
+    {"events-4097", WRITE_BACKS, 2, 1, 4097, "refused 5 at 0\n", 0, 0, 0},
+    {"contents-16", WORN, 15, 0, 0, "UQS 1 threads 1 nodes 2 events 120 endings 32\n0 4294967295 -\n", 0, 0, 0},
+    {"contents-17", WORN, 16, 0, 0, "refused 14 at 2\n", 0, 0, 0},
+    {"overtaken-16", OVERTAKEN, 13, 0, 0, "UQS 1 threads 2 nodes 64 events 229 endings 16\n0 0 1 1 1 1 1 1 1 1 1 1 1 1 1\n", 0, 0, 0},
+    {"overtaken-17", OVERTAKEN, 14, 0, 0, "refused 14 at 2\n", 0, 0, 0},
     /* not in the paper's list: one input for each reading that an input can tell */
-    {"fourteen-at-end", WORN_WRITTEN, 16, 0, 0, "UQS 1 threads 1 nodes 2 events 129 endings 2\n0 4294967295 -\n1 4294967295 -\n", 0, 0},
-    {"last-line", ONE_EVENT, WRITE_BACK, 2, 0, "UQS 1 threads 1 nodes 2 events 1 endings 1\n0 0 -\n", 0, 0},
-    {"line-beyond", ONE_EVENT, WRITE_BACK, 3, 0, "refused 10 at 0\n", 0, 0},
-    {"crash-number", ONE_EVENT, CRASH, 9, 0, "refused 13 at 0\n", 0, 0},
-    {"ten-before-thirteen", ONE_EVENT, STEP, 1, 1, "refused 10 at 0\n", 0, 0},
-    {"thirteen-before-twelve", ONE_EVENT, STEP, 0, 1, "refused 13 at 0\n", 0, 0},
-    {"nine-before-ten", ONE_EVENT, 6, 200, 1, "refused 9 at 0\n", 0, 0},
-    {"empty", NO_BYTES, 0, 0, 0, "refused 1 at 0\n", 0, 0},
+    {"fourteen-at-end", WORN_WRITTEN, 16, 0, 0, "UQS 1 threads 1 nodes 2 events 129 endings 2\n0 4294967295 -\n1 4294967295 -\n", 0, 0, 0},
+    {"last-line", ONE_EVENT, WRITE_BACK, 2, 0, "UQS 1 threads 1 nodes 2 events 1 endings 1\n0 0 -\n", 0, 0, 0},
+    {"line-beyond", ONE_EVENT, WRITE_BACK, 3, 0, "refused 10 at 0\n", 0, 0, 0},
+    {"crash-number", ONE_EVENT, CRASH, 9, 0, "refused 13 at 0\n", 0, 0, 0},
+    {"ten-before-thirteen", ONE_EVENT, STEP, 1, 1, "refused 10 at 0\n", 0, 0, 0},
+    {"thirteen-before-twelve", ONE_EVENT, STEP, 0, 1, "refused 13 at 0\n", 0, 0, 0},
+    {"nine-before-ten", ONE_EVENT, 6, 200, 1, "refused 9 at 0\n", 0, 0, 0},
+    {"empty", NO_BYTES, 0, 0, 0, "refused 1 at 0\n", 0, 0, 0},
+    /* request 107: the same on version 2, with the same pages; the top of 64 bits; beyond 32 bits; the order of an image's refusals */
+    {"p1-wide", ONE_THREAD, 1, 0, 0, "UQS 1 threads 1 nodes 2 events 10 endings 4\n0 0 -\n1 0 -\n2 0 -\n3 0 7\n", 0, 0, 1},
+    {"p2-wide", ONE_THREAD, 2, 0, 0, "UQS 1 threads 1 nodes 2 events 11 endings 1\n0 0 7\n", 0, 0, 1},
+    {"p3-wide", ONE_THREAD, 3, 0, 0, "UQS 1 threads 1 nodes 2 events 16 endings 2\n0 0 7\n1 1 -\n", 11, DONE, 1},
+    {"p4-wide", ONE_THREAD, 4, 0, 0, "UQS 1 threads 1 nodes 2 events 18 endings 1\n0 1 -\n", 0, 0, 1},
+    {"p5-wide", ONE_THREAD, 5, 0, 0, "UQS 1 threads 1 nodes 2 events 21 endings 1\n0 1 -\n", 20, FULL, 1},
+    {"p6-wide", TWO_THREADS, 6, 0, 0, "UQS 1 threads 2 nodes 3 events 24 endings 3\n0 0 6\n1 0 6\n2 0 6\n", 23, DONE, 1},
+    {"p7-wide", TWO_THREADS, 7, 0, 0, "UQS 1 threads 2 nodes 3 events 25 endings 4\n0 0 6\n1 0 6\n2 0 6\n3 0 5 6\n", 0, 0, 1},
+    {"p8-wide", HEAD_ONLY, 2, 1, 5, "UQS 1 threads 1 nodes 2 events 0 endings 2\n0 5 -\n1 5 -\n", 0, 0, 1},
+    {"p9-wide", HEAD_ONLY, 2, 1, 0, "UQS 1 threads 1 nodes 2 events 0 endings 1\n0 0 -\n", 0, 0, 1},
+    {"p10-wide", WORN, 1, 0, 0, "UQS 1 threads 1 nodes 2 events 8 endings 4\n0 18446744073709551615 -\n", 7, WORN_OUT, 1},
+    {"nodes-1-wide", HEAD_ONLY, 1, 1, 0, "refused 3 at 0\n", 0, 0, 1},
+    {"nodes-2-wide", HEAD_ONLY, 2, 8, 0, "UQS 1 threads 8 nodes 2 events 0 endings 1\n0 0 -\n", 0, 0, 1},
+    {"nodes-64-wide", HEAD_ONLY, 64, 1, 0, "UQS 1 threads 1 nodes 64 events 0 endings 1\n0 0 -\n", 0, 0, 1},
+    {"nodes-65-wide", HEAD_ONLY, 65, 1, 0, "refused 3 at 0\n", 0, 0, 1},
+    {"threads-0-wide", HEAD_ONLY, 2, 0, 0, "refused 4 at 0\n", 0, 0, 1},
+    {"threads-9-wide", HEAD_ONLY, 2, 9, 0, "refused 4 at 0\n", 0, 0, 1},
+    {"events-4096-wide", WRITE_BACKS, 2, 1, 4096, "UQS 1 threads 1 nodes 2 events 4096 endings 1\n0 0 -\n", 0, 0, 1},
+    {"events-4097-wide", WRITE_BACKS, 2, 1, 4097, "refused 5 at 0\n", 0, 0, 1},
+    {"contents-16-wide", WORN, 15, 0, 0, "UQS 1 threads 1 nodes 2 events 120 endings 32\n0 18446744073709551615 -\n", 0, 0, 1},
+    {"contents-17-wide", WORN, 16, 0, 0, "refused 14 at 2\n", 0, 0, 1},
+    {"overtaken-16-wide", OVERTAKEN, 13, 0, 0, "UQS 1 threads 2 nodes 64 events 229 endings 16\n0 0 1 1 1 1 1 1 1 1 1 1 1 1 1\n", 0, 0, 1},
+    {"overtaken-17-wide", OVERTAKEN, 14, 0, 0, "refused 14 at 2\n", 0, 0, 1},
+    {"longest", WRITE_BACKS, 64, 8, 4096, "UQS 1 threads 8 nodes 64 events 4096 endings 1\n0 0 -\n", 0, 0, 0},
+    {"longest-wide", WRITE_BACKS, 64, 8, 4096, "UQS 1 threads 8 nodes 64 events 4096 endings 1\n0 0 -\n", 0, 0, 1},
+    {"past-32", PAST_32, 0, 0, 0, "refused 12 at 8\n", 0, 0, 0},
+    {"past-32-wide", PAST_32, 0, 0, 0, "UQS 1 threads 1 nodes 2 events 12 endings 2\n0 4294967295 7\n1 4294967295 7\n", 11, DONE, 1},
+    {"twelve-bytes-one-node-wide", CUT_IMAGE, 1, 12, 0, "refused 3 at 0\n", 0, 0, 1},
+    {"twelve-bytes-two-nodes-wide", CUT_IMAGE, 2, 12, 0, "refused 1 at 0\n", 0, 0, 1},
+    {"ten-bytes-one-node-wide", CUT_IMAGE, 1, 10, 0, "refused 3 at 0\n", 0, 0, 1},
+    {"nine-bytes-one-node-wide", CUT_IMAGE, 1, 9, 0, "refused 1 at 0\n", 0, 0, 1},
 };
 enum { SEQUENCES = sizeof sequences / sizeof sequences[0] };
 
 static void build(const Sequence *s)
 {
     length = 0;
+    form = s->wide ? WIDE : NARROW;
     switch (s->builder) {
     case ONE_THREAD: build_p1_to_p5(s->a); break;
     case TWO_THREADS: build_p6_p7(s->a); break;
@@ -152,6 +202,8 @@ static void build(const Sequence *s)
     case OVERTAKEN: build_overtaken(s->a); break;
     case WRITE_BACKS: build_write_backs(s->a, s->b, s->c); break;
     case HEAD_ONLY: open_schedule(s->a, s->b, s->c); break;
+    case PAST_32: build_past_32(); break;
+    case CUT_IMAGE: build_cut_image(s->a, s->b); break;
     default: break;
     }
 }

@@ -1,0 +1,48 @@
+/* The two forms of an image: version 1 with indices of 32 bits, version 2 with indices of 64. */
+#include "second.h"
+
+u64 largest_index(u32 form)
+{
+    return form == WIDE ? ~(u64)0 : LARGEST;
+}
+
+u32 index_bytes(u32 form)
+{
+    return form == WIDE ? 8 : 4;
+}
+
+/* mark (3), version (2), N (1), head index: "header 14 bytes" in version 2, 10 in version 1 */
+u32 image_head(u32 form)
+{
+    return 6 + index_bytes(form);
+}
+
+/* linked (1), index, item (4): "nodes 13" in version 2, 9 in version 1 */
+u32 image_node(u32 form)
+{
+    return 5 + index_bytes(form);
+}
+
+u64 image_length(u32 form, u32 n)
+{
+    return image_head(form) + (u64)image_node(form) * n;
+}
+
+u64 get_index(u32 form, const u8 *from)
+{
+    return form == WIDE ? get8(from) : get4(from);
+}
+
+void put_index(u32 form, u8 *to, u64 value)
+{
+    if (form == WIDE)
+        put8(to, value);
+    else
+        put4(to, (u32)value);
+}
+
+/* The form by which an image's bytes are laid out; anything but version 2 is laid out as version 1 (and refused unless it is 1). */
+u32 form_of(const u8 *image)
+{
+    return get2(image + 3) == 2 ? WIDE : NARROW;
+}
