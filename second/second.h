@@ -215,6 +215,7 @@ void put_index(u32 form, u8 *to, u64 value);
 u32 form_of(const u8 *image);
 
 /* image.c */
+extern u32 only_form; /* 0, or the one form that is taken for the time being */
 Verdict verdict(u32 number, u32 place);
 Verdict read_image_head(const u8 *bytes, u64 length, Image *image);
 Verdict read_image_nodes(const u8 *bytes, Image *image);

@@ -35,6 +35,7 @@ void print_soak(const u8 *bytes, u64 length)
     u64 taken = 0, items = 0;
     if (length != 10)
         stop("a long run has 10 bytes");
+    image.form = NARROW;
     image.n = bytes[0];
     image.head_index = 0;
     start(&machine, bytes[1], &image);
