@@ -149,12 +149,12 @@ int agree_on_start(const u8 *bytes, u64 length)
     Image image;
     Machine machine;
     u64 skip = length < SCHEDULE_HEAD ? length : SCHEDULE_HEAD;
-    u64 rest = length - skip, room = chance(90) ? RECORD_BYTES + below(9) : below(RECORD_BYTES);
+    u64 rest = length - skip, room = chance(90) ? record_bytes() + below(9) : below((u32)record_bytes());
     u32 threads = below(chance(80) ? 9 : 256);
     if (image_in(bytes, length) < rest)
         rest = image_in(bytes, length);
     Verdict v = threads < 1 || threads > MAX_THREADS ? verdict(WRONG_T, 0) : read_image(bytes + skip, rest, &image);
-    if (v.number == TAKEN && room < RECORD_BYTES)
+    if (v.number == TAKEN && room < record_bytes())
         v = verdict(BUFFER_TOO_SHORT, 0);
     fill_both(ours, theirs, ROOM);
     if (v.number == TAKEN) {
@@ -165,60 +165,63 @@ int agree_on_start(const u8 *bytes, u64 length)
         && same_bytes("uq_start, the record", ours, theirs, ROOM);
 }
 
-static int agree_on_places(const u8 *record, const Machine *m)
+static int agree_on_places(const u8 *record, const Machine *m, Verdict read)
 {
     u8 ours[9], theirs[9];
     u32 counts[PLACES] = {0}, room = below(9);
-    Verdict v = verdict(!in_range(m) ? OUT_OF_RANGE : room < PLACES ? BUFFER_TOO_SHORT : TAKEN, 0);
+    Verdict v = read.number != TAKEN ? read : verdict(room < PLACES ? BUFFER_TOO_SHORT : TAKEN, 0);
     fill_both(ours, theirs, 9);
     if (v.number == TAKEN) {
         count_places(m, counts);
         for (u32 i = 0; i < PLACES; i++)
             theirs[i] = (u8)counts[i];
     }
-    return same_number("uq_places", uq_places(record, RECORD_BYTES, ours, room), packed(v, 0))
+    return same_number("uq_places", uq_places(record, record_bytes(), ours, room), packed(v, 0))
         && same_bytes("uq_places, the buffer", ours, theirs, 9);
 }
 
-static int agree_on_save(const u8 *record, const Machine *m)
+static int agree_on_save(const u8 *record, const Machine *m, Verdict read)
 {
     static u8 ours[ROOM], theirs[ROOM];
     Image image;
     u64 room = below(1000);
-    Verdict v = verdict(OUT_OF_RANGE, 0);
+    Verdict v = read;
     fill_both(ours, theirs, ROOM);
-    if (in_range(m)) {
+    if (v.number == TAKEN) {
         persisted_image(m, &image);
         v = write_image(&image, theirs, room);
     }
-    return same_number("uq_save", uq_save(record, RECORD_BYTES, ours, room), packed(v, 0))
+    return same_number("uq_save", uq_save(record, record_bytes(), ours, room), packed(v, 0))
         && same_bytes("uq_save, the buffer", ours, theirs, ROOM);
 }
 
 /* One event on a record, most of which no run leads to; a record of another length is refused by 1. */
 int agree_on_record(u64 seed, u64 number)
 {
-    u8 item[RECORD_BYTES + EVENT_BYTES + 8], theirs[RECORD_BYTES];
+    u8 item[MOST_RECORD + EVENT_BYTES + 8], theirs[MOST_RECORD];
+    u64 whole = record_bytes();
     Machine machine;
     Reply reply;
     generate_record_item(seed, number, item);
     if (chance(20)) {
-        u64 length = RECORD_BYTES;
-        spoil(item, &length, RECORD_BYTES);
+        u64 length = whole;
+        spoil(item, &length, whole);
     }
-    Event event = {item[RECORD_BYTES], item[RECORD_BYTES + 1], get4(item + RECORD_BYTES + 2)};
-    record_from_bytes(item, &machine);
-    if (!agree_on_places(item, &machine) || !agree_on_save(item, &machine))
+    Event event = {item[whole], item[whole + 1], get4(item + whole + 2)};
+    Verdict read = record_from_bytes(item, whole, &machine);
+    if (!agree_on_places(item, &machine, read) || !agree_on_save(item, &machine, read))
         return 0;
-    for (u32 i = 0; i < RECORD_BYTES; i++)
+    for (u32 i = 0; i < whole; i++)
         theirs[i] = item[i];
-    u64 length = chance(95) ? RECORD_BYTES : below(RECORD_BYTES);
-    Verdict v = length == RECORD_BYTES ? perform(&machine, &event, &reply) : verdict(WRONG_LENGTH, 0);
+    u64 length = chance(95) ? whole : below((u32)whole);
+    Verdict v = length != whole ? verdict(WRONG_LENGTH, 0) : read;
+    if (v.number == TAKEN)
+        v = perform(&machine, &event, &reply);
     if (v.number == TAKEN)
         record_to_bytes(&machine, theirs);
     u64 value = v.number == TAKEN ? reply.value + 4294967296u * (u64)reply.number : 0;
     return same_number("uq_event", uq_event(item, length, (uint8_t)event.kind, (uint8_t)event.number, event.item), packed(v, value))
-        && same_bytes("uq_event, the record", item, theirs, RECORD_BYTES);
+        && same_bytes("uq_event, the record", item, theirs, whole);
 }
 
 /* The verdict on a history, with a buffer about as long as the order may be. */

@@ -4,7 +4,7 @@
 static void step_d1(Machine *m, Thread *self)
 {
     self->head_read = m->head;
-    self->head_read_index = m->head_index;
+    self->head_read_index = m->lines[0];
     self->step = D2;
 }
 
@@ -24,10 +24,10 @@ static void step_d3(Machine *m, u32 k, Reply *reply)
 
 static void step_d4(Machine *m, Thread *self)
 {
-    if (m->head == self->head_read && m->head_index == self->head_read_index) {
+    if (m->head == self->head_read && m->lines[0] == self->head_read_index) {
         reach(AT_D4_MOVES);
         m->head = self->next_read;
-        m->head_index = m->nodes[self->next_read].cached.index;
+        m->lines[0] = m->nodes[self->next_read].cached.index;
         self->step = D5;
     } else {
         reach(AT_D4_FAILS);

@@ -10,23 +10,26 @@ u64 bit(u32 i)
 
 Content cached_content(const Machine *m, u32 line)
 {
-    Content head = {0, m->head_index, 0};
-    return line == 0 ? head : m->nodes[line - 1].cached;
+    u32 heads = head_lines(m->form, m->t);
+    Content head = {0, line < heads ? m->lines[line] : 0, 0};
+    return line < heads ? head : m->nodes[line - heads].cached;
 }
 
 Content persisted_content(const Machine *m, u32 line)
 {
-    Content head = {0, m->persisted_head_index, 0};
-    return line == 0 ? head : m->nodes[line - 1].persisted;
+    u32 heads = head_lines(m->form, m->t);
+    Content head = {0, line < heads ? m->persisted_lines[line] : 0, 0};
+    return line < heads ? head : m->nodes[line - heads].persisted;
 }
 
 /* A line is written back whole. */
 void persist(Machine *m, u32 line, Reply *reply)
 {
-    if (line == 0)
-        m->persisted_head_index = m->head_index;
+    u32 heads = head_lines(m->form, m->t);
+    if (line < heads)
+        m->persisted_lines[line] = m->lines[line];
     else
-        m->nodes[line - 1].persisted = m->nodes[line - 1].cached;
+        m->nodes[line - heads].persisted = m->nodes[line - heads].cached;
     reply->written = line;
 }
 

@@ -136,21 +136,24 @@ static int mode_schedules(int count, char **words)
 static int mode_record(int count, char **words)
 {
     (void)count, (void)words;
-    u8 item[RECORD_BYTES + EVENT_BYTES];
-    while (read_exactly(item, sizeof item))
-        print_record_item(item);
+    u8 item[MOST_RECORD + EVENT_BYTES];
+    while (read_exactly(item, record_bytes() + EVENT_BYTES))
+        print_record_item(item, record_bytes() + EVENT_BYTES);
     return 0;
 }
 
 static int mode_records(int count, char **words)
 {
-    u64 length;
     (void)count, (void)words;
-    while (read_next(&length)) {
-        if (length != RECORD_BYTES + EVENT_BYTES)
-            stop("a record with an event has 1418 bytes");
-        print_record_item(input);
-    }
+    return each_input(print_record_item);
+}
+
+/* How many bytes a record has with an event behind it: what `frames` is to be told for them. */
+static int mode_record_bytes(int count, char **words)
+{
+    (void)count, (void)words;
+    put_number(record_bytes() + EVENT_BYTES);
+    put_text("\n");
     return 0;
 }
 
@@ -160,7 +163,7 @@ static int mode_generate(int count, char **words)
         stop("use: generate SEED COUNT SHAPE");
     u64 seed = number_from(words[0]), wanted = number_from(words[1]);
     for (u64 i = 0; i < wanted; i++) {
-        u8 head[4], item[RECORD_BYTES + EVENT_BYTES];
+        u8 head[4], item[MOST_RECORD + EVENT_BYTES];
         if (same_text(words[2], "contents")) {
             generate_contents_item(seed, i, item);
             put_bytes(item, CONTENTS_BYTES);
@@ -173,7 +176,7 @@ static int mode_generate(int count, char **words)
         }
         if (same_text(words[2], "records")) {
             generate_record_item(seed, i, item);
-            put_bytes(item, sizeof item);
+            put_bytes(item, record_bytes() + EVENT_BYTES);
             continue;
         }
         u64 length = same_text(words[2], "histories") ? generate_history(seed, i, input)
@@ -339,6 +342,8 @@ static int mode_sequence(int count, char **words)
 }
 
 static int mode_wrong(int count, char **words);
+static int mode_with(int count, char **words);
+static int mode_without(int count, char **words);
 
 static const struct {
     const char *name;
@@ -355,6 +360,7 @@ static const struct {
     {"mended", mode_mended}, {"mend-two-ways", mode_mend_two_ways},
     {"replayed", mode_replayed}, {"probed", mode_probed}, {"replay-by-parts", mode_replay_by_parts},
     {"judged", mode_judged}, {"drawn", mode_drawn}, {"histories", mode_histories},
+    {"with", mode_with}, {"without", mode_without}, {"switches", mode_switches}, {"record-bytes", mode_record_bytes},
     {"wrong", mode_wrong}, {"search", mode_search}, {"frame", mode_frame}, {"frames", mode_frames},
     {"cuts", mode_cuts}, {"values", mode_values}, {"sequence", mode_sequence}, {"sequences", mode_sequences},
     {"words", mode_words}, {"unwords", mode_unwords}, {"words-many", mode_words_many}, {"unwords-many", mode_unwords_many}, {"pieces-many", mode_pieces_many},
@@ -375,6 +381,24 @@ static int mode_wrong(int count, char **words)
         stop("use: wrong NAME MODE ...");
     wrong_machine = machine_of_name(words[0]);
     return run_mode(count - 1, words + 1);
+}
+
+static int turned(int count, char **words, u32 to)
+{
+    if (count < 2)
+        stop("use: with NAME MODE ..., without NAME MODE ...");
+    turn(words[0], to);
+    return run_mode(count - 1, words + 1);
+}
+
+static int mode_with(int count, char **words)
+{
+    return turned(count, words, 1);
+}
+
+static int mode_without(int count, char **words)
+{
+    return turned(count, words, 0);
 }
 
 int main(int count, char **words)

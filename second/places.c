@@ -69,7 +69,7 @@ const char *misplaced(const Machine *m)
 
 static int same_bytes(const u8 *a, const u8 *b)
 {
-    for (u32 i = 0; i < RECORD_BYTES; i++)
+    for (u32 i = 0; i < record_bytes(); i++)
         if (a[i] != b[i])
             return 0;
     return 1;
@@ -78,19 +78,17 @@ static int same_bytes(const u8 *a, const u8 *b)
 /* Performs the event twice: in the run, and on the record alone as it comes out of its bytes. */
 static const char *next_event(const Schedule *s, u32 number)
 {
-    u8 before[RECORD_BYTES], alone[RECORD_BYTES], after[RECORD_BYTES];
+    u8 before[MOST_RECORD], alone[MOST_RECORD], after[MOST_RECORD];
     Machine copy;
-    Reply reply, reply_alone;
+    Reply reply, reply_alone = {NOTHING, 0, NO_LINE, 0};
     Event e = event_at(s, number);
-    int whole = record_holds(&the_bench.machine);
     record_to_bytes(&the_bench.machine, before);
-    record_from_bytes(before, &copy);
-    Verdict v_alone = perform(&copy, &e, &reply_alone);
+    Verdict v_alone = record_from_bytes(before, record_bytes(), &copy);
+    if (v_alone.number == TAKEN)
+        v_alone = perform(&copy, &e, &reply_alone);
     Verdict v = bench_event(&the_bench, &e, number, &reply);
     if (v.number == TWINS || v.number == NO_DUMMY || v.number == OUT_OF_RANGE)
         return "a run was refused by 7, 8 or 18";
-    if (!whole)
-        return v.number == TAKEN ? 0 : "a refused event";
     record_to_bytes(&copy, alone);
     record_to_bytes(&the_bench.machine, after);
     if (v.number != v_alone.number || reply.number != reply_alone.number || reply.value != reply_alone.value ||

@@ -61,13 +61,21 @@ static int thread_in_range(const Machine *m, const Thread *thread)
     return thread->step != A12 || m->nodes[thread->t].next != NONE;
 }
 
+static int head_lines_in_range(const Machine *m)
+{
+    for (u32 line = 0; line < head_lines(m->form, m->t); line++)
+        if (!index_in_range(m, m->lines[line]) || !index_in_range(m, m->persisted_lines[line]))
+            return 0;
+    return 1;
+}
+
 int in_range(const Machine *m)
 {
     if (m->form != NARROW && m->form != WIDE)
         return 0;
-    if (!index_in_range(m, m->head_index) || !index_in_range(m, m->persisted_head_index))
-        return 0;
     if (m->n < MIN_NODES || m->n > MAX_NODES || m->t < 1 || m->t > MAX_THREADS)
+        return 0;
+    if (!head_lines_in_range(m))
         return 0;
     if (m->head >= m->n || m->tail >= m->n || (m->free & ~low_bits(m->n)) != 0)
         return 0;
@@ -80,90 +88,116 @@ int in_range(const Machine *m)
     return 1;
 }
 
-/* Whether the bytes below have room for this machine: an index has four of them. */
-int record_holds(const Machine *m)
+/* ---- the bytes: a mark, the version, the form, then every field in one order. The same walk writes and reads. */
+
+typedef struct Walk {
+    u8 *to;         /* where a field is written, or 0 when fields are read */
+    const u8 *from; /* where a field is read */
+    u64 at;
+} Walk;
+
+static void field(Walk *walk, u32 bytes, u64 *value)
 {
-    return m->form == NARROW;
+    u64 read = 0;
+    for (u32 i = 0; i < bytes; i++, walk->at++) {
+        if (walk->to)
+            walk->to[walk->at] = (u8)(*value >> 8 * i);
+        else
+            read |= (u64)walk->from[walk->at] << 8 * i;
+    }
+    if (!walk->to)
+        *value = read;
 }
 
-static void node_to_bytes(const Node *node, u8 *at)
+static void field32(Walk *walk, u32 bytes, u32 *value)
 {
-    put4(at, node->cached.item);
-    at[4] = (u8)node->next;
-    at[5] = (u8)node->cached.linked;
-    put4(at + 6, node->cached.index);
-    at[10] = (u8)node->waits;
-    at[11] = (u8)node->persisted.linked;
-    put4(at + 12, node->persisted.index);
-    put4(at + 16, node->persisted.item);
+    u64 wide = *value;
+    field(walk, bytes, &wide);
+    *value = (u32)wide;
 }
 
-static void node_from_bytes(const u8 *at, Node *node)
+static void walk_head_lines(Walk *walk, u64 *lines)
 {
-    node->cached.item = get4(at);
-    node->next = at[4];
-    node->cached.linked = at[5];
-    node->cached.index = get4(at + 6);
-    node->waits = at[10];
-    node->persisted.linked = at[11];
-    node->persisted.index = get4(at + 12);
-    node->persisted.item = get4(at + 16);
+    for (u32 line = 0; line < record_head_lines(); line++)
+        field(walk, 8, &lines[line]);
+    for (u32 line = record_head_lines(); line < MAX_THREADS && !walk->to; line++)
+        lines[line] = 0;
 }
 
-static void thread_to_bytes(const Thread *thread, u8 *at)
+static void walk_node(Walk *walk, Node *node)
 {
-    at[0] = (u8)thread->step;
-    at[1] = (u8)thread->own;
-    at[2] = (u8)thread->t;
-    at[3] = (u8)thread->head_read;
-    put4(at + 4, thread->head_read_index);
-    at[8] = (u8)thread->next_read;
-    put4(at + 9, thread->item);
-    at[13] = (u8)thread->held;
+    field32(walk, 4, &node->cached.item);
+    field32(walk, 1, &node->next);
+    field32(walk, 1, &node->cached.linked);
+    field(walk, 8, &node->cached.index);
+    field32(walk, 1, &node->waits);
+    field32(walk, 1, &node->persisted.linked);
+    field(walk, 8, &node->persisted.index);
+    field32(walk, 4, &node->persisted.item);
 }
 
-static void thread_from_bytes(const u8 *at, Thread *thread)
+static void walk_thread(Walk *walk, Thread *thread)
 {
-    thread->step = at[0];
-    thread->own = at[1];
-    thread->t = at[2];
-    thread->head_read = at[3];
-    thread->head_read_index = get4(at + 4);
-    thread->next_read = at[8];
-    thread->item = get4(at + 9);
-    thread->held = at[13];
+    field32(walk, 1, &thread->step);
+    field32(walk, 1, &thread->own);
+    field32(walk, 1, &thread->t);
+    field32(walk, 1, &thread->head_read);
+    field(walk, 8, &thread->head_read_index);
+    field32(walk, 1, &thread->next_read);
+    field32(walk, 4, &thread->item);
+    field32(walk, 1, &thread->held);
 }
 
-enum { RECORD_HEAD = 20, RECORD_NODE = 20, RECORD_THREAD = 14 };
+/* Behind the mark and the version. */
+static void walk_machine(Walk *walk, Machine *m)
+{
+    field32(walk, 1, &m->form);
+    field32(walk, 1, &m->n);
+    field32(walk, 1, &m->t);
+    field32(walk, 1, &m->head);
+    walk_head_lines(walk, m->lines);
+    field32(walk, 1, &m->tail);
+    field(walk, 8, &m->free);
+    walk_head_lines(walk, m->persisted_lines);
+    for (u32 i = 0; i < MAX_NODES; i++)
+        walk_node(walk, &m->nodes[i]);
+    for (u32 k = 0; k < MAX_THREADS; k++)
+        walk_thread(walk, &m->threads[k]);
+}
+
+/* What is on or off does not change while the program runs. */
+u64 record_bytes(void)
+{
+    static u8 nowhere[MOST_RECORD];
+    static Machine blank;
+    static u64 known;
+    if (known == 0) {
+        Walk walk = {nowhere, 0, RECORD_MARK};
+        walk_machine(&walk, &blank);
+        known = walk.at;
+    }
+    return known;
+}
 
 void record_to_bytes(const Machine *m, u8 *bytes)
 {
-    bytes[0] = (u8)m->n;
-    bytes[1] = (u8)m->t;
-    bytes[2] = (u8)m->head;
-    put4(bytes + 3, m->head_index);
-    bytes[7] = (u8)m->tail;
-    put4(bytes + 8, (u32)m->free);
-    put4(bytes + 12, (u32)(m->free >> 32));
-    put4(bytes + 16, m->persisted_head_index);
-    for (u32 i = 0; i < MAX_NODES; i++)
-        node_to_bytes(&m->nodes[i], bytes + RECORD_HEAD + RECORD_NODE * i);
-    for (u32 k = 0; k < MAX_THREADS; k++)
-        thread_to_bytes(&m->threads[k], bytes + RECORD_HEAD + RECORD_NODE * MAX_NODES + RECORD_THREAD * k);
+    Machine copy = *m;
+    Walk walk = {bytes, 0, RECORD_MARK};
+    bytes[0] = 'U';
+    bytes[1] = 'Q';
+    bytes[2] = 'M';
+    put2(bytes + 3, RECORD_VERSION);
+    walk_machine(&walk, &copy);
 }
 
-void record_from_bytes(const u8 *bytes, Machine *m)
+/* A record's bytes: a wrong length (1), a wrong mark or version (2), then 18. */
+Verdict record_from_bytes(const u8 *bytes, u64 length, Machine *m)
 {
-    m->form = NARROW;
-    m->n = bytes[0];
-    m->t = bytes[1];
-    m->head = bytes[2];
-    m->head_index = get4(bytes + 3);
-    m->tail = bytes[7];
-    m->free = (u64)get4(bytes + 8) | (u64)get4(bytes + 12) << 32;
-    m->persisted_head_index = get4(bytes + 16);
-    for (u32 i = 0; i < MAX_NODES; i++)
-        node_from_bytes(bytes + RECORD_HEAD + RECORD_NODE * i, &m->nodes[i]);
-    for (u32 k = 0; k < MAX_THREADS; k++)
-        thread_from_bytes(bytes + RECORD_HEAD + RECORD_NODE * MAX_NODES + RECORD_THREAD * k, &m->threads[k]);
+    Walk walk = {0, bytes, RECORD_MARK};
+    if (length != record_bytes())
+        return verdict(WRONG_LENGTH, 0);
+    walk_machine(&walk, m);
+    if (bytes[0] != 'U' || bytes[1] != 'Q' || bytes[2] != 'M' || get2(bytes + 3) != RECORD_VERSION)
+        return verdict(WRONG_MARK, 0);
+    return verdict(in_range(m) ? TAKEN : OUT_OF_RANGE, 0);
 }

@@ -26,7 +26,7 @@ static void random_thread(const Machine *m, Thread *thread)
     thread->own = some_node(m, 2);
     thread->t = some_node(m, 2);
     thread->head_read = chance(50) ? m->head : some_node(m, 2);
-    thread->head_read_index = chance(50) ? m->head_index : some_index(m->form);
+    thread->head_read_index = chance(50) ? m->lines[0] : some_index(m->form);
     thread->next_read = some_node(m, 2);
     thread->item = (u32)random_bits();
     thread->held = some_node(m, 30);
@@ -39,10 +39,10 @@ static void random_record(Machine *m)
     m->n = chance(70) ? 2 + below(4) : 2 + below(63);
     m->t = 1 + below(8);
     m->head = below(m->n);
-    m->head_index = some_index(m->form);
+    m->lines[0] = some_index(m->form);
     m->tail = below(m->n);
     m->free = chance(20) ? 0 : random_bits() & (m->n == 64 ? ~(u64)0 : bit(m->n) - 1);
-    m->persisted_head_index = some_index(m->form);
+    m->persisted_lines[0] = some_index(m->form);
     for (u32 i = 0; i < MAX_NODES; i++) {
         Node *node = &m->nodes[i];
         node->cached = some_content(m->form);
@@ -60,8 +60,8 @@ static void index_above_width(Machine *m)
     u64 index = (u64)LARGEST + 1 + below(2);
     m->form = NARROW;
     switch (below(5)) {
-    case 0: m->head_index = index; break;
-    case 1: m->persisted_head_index = index; break;
+    case 0: m->lines[0] = index; break;
+    case 1: m->persisted_lines[0] = index; break;
     case 2: m->nodes[below(chance(80) ? m->n : MAX_NODES)].cached.index = index; break;
     case 3: m->nodes[below(chance(80) ? m->n : MAX_NODES)].persisted.index = index; break;
     default: m->threads[below(chance(80) ? m->t : MAX_THREADS)].head_read_index = index; break;
@@ -106,23 +106,35 @@ static void aim_at_step(const Machine *m, u8 *at)
             at[1] = (u8)k;
 }
 
+/* A wrong mark or version, which stands before 18; a form that there is not. */
+static void spoil_beginning(u8 *item)
+{
+    if (chance(60))
+        item[below(RECORD_MARK)] ^= (u8)(1 + below(255));
+    else
+        item[RECORD_MARK] = (u8)(chance(50) ? 0 : 3 + below(253));
+}
+
 void generate_record_item(u64 seed, u64 number, u8 *item)
 {
     Machine m;
+    u64 length = record_bytes();
     seed_random(seed, number);
     u32 kind = below(10);
     if (kind < 4)
         record_of_run(&m);
     else
         random_record(&m);
-    if (kind >= 4 && m.form == NARROW && chance(10))
+    if (kind >= 4 && chance(5))
         index_above_width(&m);
     record_to_bytes(&m, item);
-    some_record_event(&m, item + RECORD_BYTES);
-    aim_at_step(&m, item + RECORD_BYTES);
+    some_record_event(&m, item + length);
+    aim_at_step(&m, item + length);
     if (kind == 3 || kind == 9) /* one byte spoilt, most often out of range */
-        item[chance(50) ? below(20) : chance(50) ? RECORD_BYTES - 1 - below(112) : below(RECORD_BYTES)] = (u8)random_bits();
+        item[chance(50) ? RECORD_MARK + below(28) : chance(50) ? length - 1 - below(150) : below((u32)length)] = (u8)random_bits();
     if (kind == 8 && chance(20)) /* every byte string is some record */
-        for (u32 i = 2; i < RECORD_BYTES; i++)
+        for (u64 i = RECORD_MARK + 3; i < length; i++)
             item[i] = (u8)random_bits();
+    if (chance(4))
+        spoil_beginning(item);
 }

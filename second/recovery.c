@@ -25,7 +25,11 @@ static void no_operations(Machine *m)
 
 static void read_persisted_anew(Machine *m)
 {
-    m->head_index = m->persisted_head_index;
+    for (u32 line = 0; line < MAX_THREADS; line++) {
+        if (line >= head_lines(m->form, m->t))
+            m->persisted_lines[line] = 0;
+        m->lines[line] = m->persisted_lines[line];
+    }
     for (u32 i = 0; i < MAX_NODES; i++) {
         if (i >= m->n)
             m->nodes[i].persisted = ZERO;
@@ -72,9 +76,9 @@ static void recover(Machine *m)
     u32 dummy = lowest_not_recovered(&image, order, count);
     read_persisted_anew(m);
     no_operations(m);
-    if (m->nodes[dummy].cached.index != m->head_index)
+    if (m->nodes[dummy].cached.index != m->lines[0])
         reach(AT_DUMMY_INDEX_CHANGES);
-    m->nodes[dummy].cached.index = m->head_index;
+    m->nodes[dummy].cached.index = m->lines[0];
     link_queue(m, dummy, order, count);
     for (u32 j = 0; j < count; j++)
         if (image.nodes[order[j]].index != image.head_index + 1 + j)
@@ -86,7 +90,7 @@ void start(Machine *m, u32 t, const Image *image)
     m->form = image->form;
     m->n = image->n;
     m->t = t;
-    m->persisted_head_index = image->head_index;
+    m->persisted_lines[0] = image->head_index;
     for (u32 i = 0; i < image->n; i++)
         m->nodes[i].persisted = image->nodes[i];
     recover(m);
@@ -96,7 +100,7 @@ void persisted_image(const Machine *m, Image *image)
 {
     image->form = m->form;
     image->n = m->n;
-    image->head_index = m->persisted_head_index;
+    image->head_index = m->persisted_lines[0];
     for (u32 i = 0; i < m->n; i++)
         image->nodes[i] = m->nodes[i].persisted;
 }

@@ -20,7 +20,9 @@ enum {
     EVENT_BYTES = 6,
     MAX_IMAGE = 846, /* 14 + 13 * 64, of version 2 */
     MAX_SCHEDULE = SCHEDULE_HEAD + MAX_IMAGE + EVENT_BYTES * MAX_EVENTS,
-    RECORD_BYTES = 1412,
+    RECORD_MARK = 5,        /* "UQM" and the version */
+    RECORD_VERSION = 2,
+    MOST_RECORD = 4096,     /* more than any record has */
     CONTENTS_BYTES = 5 + 9 * MAX_NODES + 2,
     WIDE_CONTENTS_BYTES = 10 + 13 * MAX_NODES + 2,
     MOST_ROOM = 65535,
@@ -124,10 +126,10 @@ typedef struct Machine {
     u32 n;
     u32 t;
     u32 head;
-    u64 head_index;
+    u64 lines[MAX_THREADS]; /* the head lines' indices: line 0 is Head's */
     u32 tail;
     u64 free; /* bit i: node i is free */
-    u64 persisted_head_index;
+    u64 persisted_lines[MAX_THREADS];
     Node nodes[MAX_NODES];
     Thread threads[MAX_THREADS];
 } Machine;
@@ -182,6 +184,13 @@ enum {
 };
 extern u32 wrong_machine;
 
+/* switches.c: the requests that may be on or off */
+enum { ROTATION, SWITCHES };
+int on(u32 which);
+void turn(const char *name, u32 to);
+u32 record_head_lines(void);
+int mode_switches(int count, char **words);
+
 /* io.c */
 extern u8 input[];
 enum { INPUT_KEPT = 1 << 20 };
@@ -213,6 +222,7 @@ u64 image_length(u32 form, u32 n);
 u64 get_index(u32 form, const u8 *from);
 void put_index(u32 form, u8 *to, u64 value);
 u32 form_of(const u8 *image);
+u32 head_lines(u32 form, u32 t);
 
 /* image.c */
 extern u32 only_form; /* 0, or the one form that is taken for the time being */
@@ -270,9 +280,9 @@ Content persisted_content(const Machine *m, u32 line);
 
 /* record.c */
 int in_range(const Machine *m);
-int record_holds(const Machine *m);
+u64 record_bytes(void);
 void record_to_bytes(const Machine *m, u8 *bytes);
-void record_from_bytes(const u8 *bytes, Machine *m);
+Verdict record_from_bytes(const u8 *bytes, u64 length, Machine *m);
 
 /* schedule.c */
 Verdict read_schedule(const u8 *bytes, u64 length, Schedule *schedule);
@@ -306,7 +316,7 @@ void print_trace_sums(const u8 *bytes, u64 length);
 void print_soak(const u8 *bytes, u64 length);
 void count_once(const u8 *bytes, u64 length);
 int print_once(void);
-void print_record_item(const u8 *item);
+void print_record_item(const u8 *bytes, u64 length);
 void print_place_counts(const u8 *bytes, u64 length);
 void print_saved(const u8 *bytes, u64 length);
 void print_start(const u8 *bytes, u64 length);

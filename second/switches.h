@@ -1,0 +1,13 @@
+/* Which requests of the second year have landed. Each is one line: 0 before its landing, 1 from then on. A word in front of a mode turns one on or off for
+   a run: `with NAME MODE ...`, `without NAME MODE ...`. */
+#ifndef SWITCHES_H
+#define SWITCHES_H
+
+enum {
+    ROTATION_LANDED = 0 /* request 106, `rotation` */
+};
+
+/* How many head lines a machine record's bytes have, cached and persisted: 1, so 1,970 bytes. A record with room for eight of each would have 2,082. */
+enum { RECORD_HEAD_LINES = 1 };
+
+#endif
