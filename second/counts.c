@@ -37,6 +37,7 @@ static const char *const names[POINTS] = {
     [AT_A7_WIDE_TO_LARGEST] = "A7 stores the largest index of 64 bits",
     [AT_WORN_NARROW] = "Worn out at 32 bits", [AT_WORN_WIDE] = "Worn out at 64 bits",
     [AT_HIGH_HALF_DECIDES] = "recovered or not by the high half alone", [AT_LOW_HALVES_EQUAL] = "recovered nodes with equal low halves",
+    [AT_A1_ROUND] = "A1 goes round past the end", [AT_A1_LAST_AGAIN] = "A1 hands the last one out again", [AT_A1_NOT_LOWEST] = "A1 takes another node than the lowest",
 };
 
 void reach(u32 point)
@@ -93,7 +94,7 @@ int print_counts(void)
 {
     int missing = 0;
     for (u32 i = 0; i < POINTS; i++) {
-        if (!names[i])
+        if (!names[i] || (!on(ROTATION) && i >= AT_A1_ROUND && i <= AT_A1_NOT_LOWEST))
             continue;
         put_number(reached[i]);
         put_text(" ");

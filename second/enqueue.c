@@ -9,14 +9,38 @@ static u32 lowest_free(const Machine *m)
     return NONE;
 }
 
+/* Request 106: "the first free node after the one last handed out, going round past the end", that one itself at the end of the round. */
+static u32 next_free(const Machine *m)
+{
+    u32 first = wrong_machine == FROM_LAST ? 0 : 1;
+    for (u32 i = first; i < first + m->n; i++)
+        if (m->free & bit((m->last + i) % m->n))
+            return (m->last + i) % m->n;
+    return NONE;
+}
+
+static void hand_out(Machine *m, u32 node)
+{
+    if (node < m->last)
+        reach(AT_A1_ROUND);
+    if (node == m->last)
+        reach(AT_A1_LAST_AGAIN);
+    if (node != lowest_free(m))
+        reach(AT_A1_NOT_LOWEST);
+    if (wrong_machine != LAST_FORGOTTEN)
+        m->last = node;
+}
+
 static void step_a1(Machine *m, u32 k, Reply *reply)
 {
     Thread *self = &m->threads[k];
-    u32 node = lowest_free(m);
+    u32 node = on(ROTATION) ? next_free(m) : lowest_free(m);
     if (node == NONE) {
         answer(m, k, FULL, 0, reply);
         return;
     }
+    if (on(ROTATION))
+        hand_out(m, node);
     m->free &= ~bit(node);
     self->own = node;
     if (m->nodes[node].cached.index != 0)

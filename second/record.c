@@ -77,6 +77,8 @@ int in_range(const Machine *m)
         return 0;
     if (!head_lines_in_range(m))
         return 0;
+    if (on(ROTATION) && m->last >= m->n)
+        return 0;
     if (m->head >= m->n || m->tail >= m->n || (m->free & ~low_bits(m->n)) != 0)
         return 0;
     for (u32 i = 0; i < m->n; i++)
@@ -163,6 +165,8 @@ static void walk_machine(Walk *walk, Machine *m)
         walk_node(walk, &m->nodes[i]);
     for (u32 k = 0; k < MAX_THREADS; k++)
         walk_thread(walk, &m->threads[k]);
+    if (on(ROTATION))
+        field32(walk, 1, &m->last);
 }
 
 /* What is on or off does not change while the program runs. */

@@ -41,6 +41,7 @@ static void random_record(Machine *m)
     m->head = below(m->n);
     m->lines[0] = some_index(m->form);
     m->tail = below(m->n);
+    m->last = below(m->n);
     m->free = chance(20) ? 0 : random_bits() & (m->n == 64 ? ~(u64)0 : bit(m->n) - 1);
     m->persisted_lines[0] = some_index(m->form);
     for (u32 i = 0; i < MAX_NODES; i++) {
@@ -131,7 +132,7 @@ void generate_record_item(u64 seed, u64 number, u8 *item)
     some_record_event(&m, item + length);
     aim_at_step(&m, item + length);
     if (kind == 3 || kind == 9) /* one byte spoilt, most often out of range */
-        item[chance(50) ? RECORD_MARK + below(28) : chance(50) ? length - 1 - below(150) : below((u32)length)] = (u8)random_bits();
+        item[chance(50) ? RECORD_MARK + below(28) : chance(50) ? length - 1 - below(chance(10) ? 1 : 150) : below((u32)length)] = (u8)random_bits();
     if (kind == 8 && chance(20)) /* every byte string is some record */
         for (u64 i = RECORD_MARK + 3; i < length; i++)
             item[i] = (u8)random_bits();

@@ -80,6 +80,7 @@ static void recover(Machine *m)
         reach(AT_DUMMY_INDEX_CHANGES);
     m->nodes[dummy].cached.index = m->lines[0];
     link_queue(m, dummy, order, count);
+    m->last = wrong_machine == TAIL_LAST ? m->tail : dummy; /* "After a start the dummy counts as last handed out." */
     for (u32 j = 0; j < count; j++)
         if (image.nodes[order[j]].index != image.head_index + 1 + j)
             reach(AT_GAP);

@@ -5,6 +5,7 @@ static const char *const machine_names[MACHINES] = {
     "right", "index-first", "retire-same-dequeue", "empty-no-persist", "consecutive", "equal-twice",
     "waits-for-nobody", "a10-no-persist", "d6-no-persist", "a4-left-out",
     "worn-by-32", "nodes-first", "low-half-twice", "lowest-cleared", "stops-at-first",
+    "from-last", "tail-last", "last-forgotten",
 };
 
 u32 machine_of_name(const char *name)

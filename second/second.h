@@ -129,6 +129,7 @@ typedef struct Machine {
     u64 lines[MAX_THREADS]; /* the head lines' indices: line 0 is Head's */
     u32 tail;
     u64 free; /* bit i: node i is free */
+    u32 last; /* request 106: the node last handed out */
     u64 persisted_lines[MAX_THREADS];
     Node nodes[MAX_NODES];
     Thread threads[MAX_THREADS];
@@ -180,6 +181,9 @@ enum {
     LOW_HALF_TWICE,
     LOWEST_CLEARED,
     STOPS_AT_FIRST,
+    FROM_LAST,
+    TAIL_LAST,
+    LAST_FORGOTTEN,
     MACHINES
 };
 extern u32 wrong_machine;
@@ -339,6 +343,7 @@ enum {
     AT_DUMMY_INDEX_CHANGES, AT_GAP, AT_STALE_LINKED, AT_EQUAL_CONTENT, AT_SIXTEEN, AT_MANY_CRASHES, AT_LONGEST,
     AT_NODES_2, AT_NODES_64, AT_THREADS_1, AT_THREADS_8, AT_ITEM_0, AT_ITEM_LARGEST, AT_EQUAL_IN_FLIGHT,
     AT_NARROW, AT_WIDE, AT_A7_PASSES_32, AT_A7_WIDE_TO_LARGEST, AT_WORN_NARROW, AT_WORN_WIDE, AT_HIGH_HALF_DECIDES, AT_LOW_HALVES_EQUAL,
+    AT_A1_ROUND, AT_A1_LAST_AGAIN, AT_A1_NOT_LOWEST,
     POINTS
 };
 extern u64 reached[];

@@ -97,6 +97,28 @@ static void build_past_32(void)
     steps(0, 11);
 }
 
+/* Enqueues that wear out at their seventh step, on more than two nodes. */
+static void build_worn_on(u32 n, u32 enqueues)
+{
+    open_schedule(n, 1, largest_index(form));
+    for (u32 i = 1; i <= enqueues; i++) {
+        add(BEGIN_ENQUEUE, 0, i);
+        steps(0, 7);
+    }
+}
+
+/* Four nodes; the one at `node` is queued with index 1 and item 4. An enqueue of 9 takes a node and stores its item. */
+static void build_queue_at(u32 node)
+{
+    open_schedule(4, 1, 0);
+    u8 *at = bytes + SCHEDULE_HEAD + image_head(form) + image_node(form) * node;
+    at[0] = 1;
+    put_index(form, at + 1, 1);
+    put4(at + 1 + index_bytes(form), 4);
+    add(BEGIN_ENQUEUE, 0, 9);
+    steps(0, 2);
+}
+
 /* Only `left` bytes of an all-zero image. */
 static void build_cut_image(u32 n, u32 left)
 {
@@ -119,74 +141,91 @@ typedef struct Sequence {
     u32 event;        /* this event's answer is stated, unless 0 */
     u32 reply;
     u32 wide; /* 1: with an image of version 2 */
+    u32 on, off; /* bits of the requests that must be on, or off, for what is stated */
 } Sequence;
 
-enum { ONE_THREAD, TWO_THREADS, WORN, WORN_WRITTEN, OVERTAKEN, WRITE_BACKS, HEAD_ONLY, ONE_EVENT, NO_BYTES, PAST_32, CUT_IMAGE };
+enum { ONE_THREAD, TWO_THREADS, WORN, WORN_WRITTEN, OVERTAKEN, WRITE_BACKS, HEAD_ONLY, ONE_EVENT, NO_BYTES, PAST_32, CUT_IMAGE, WORN_ON, QUEUE_AT };
 
 static const Sequence sequences[] = {
-    {"p1", ONE_THREAD, 1, 0, 0, "UQS 1 threads 1 nodes 2 events 10 endings 4\n0 0 -\n1 0 -\n2 0 -\n3 0 7\n", 0, 0, 0},
-    {"p2", ONE_THREAD, 2, 0, 0, "UQS 1 threads 1 nodes 2 events 11 endings 1\n0 0 7\n", 0, 0, 0},
-    {"p3", ONE_THREAD, 3, 0, 0, "UQS 1 threads 1 nodes 2 events 16 endings 2\n0 0 7\n1 1 -\n", 11, DONE, 0},
-    {"p4", ONE_THREAD, 4, 0, 0, "UQS 1 threads 1 nodes 2 events 18 endings 1\n0 1 -\n", 0, 0, 0},
-    {"p5", ONE_THREAD, 5, 0, 0, "UQS 1 threads 1 nodes 2 events 21 endings 1\n0 1 -\n", 20, FULL, 0},
-    {"p6", TWO_THREADS, 6, 0, 0, "UQS 1 threads 2 nodes 3 events 24 endings 3\n0 0 6\n1 0 6\n2 0 6\n", 23, DONE, 0},
-    {"p7", TWO_THREADS, 7, 0, 0, "UQS 1 threads 2 nodes 3 events 25 endings 4\n0 0 6\n1 0 6\n2 0 6\n3 0 5 6\n", 0, 0, 0},
-    {"p8", HEAD_ONLY, 2, 1, 5, "UQS 1 threads 1 nodes 2 events 0 endings 2\n0 5 -\n1 5 -\n", 0, 0, 0},
-    {"p9", HEAD_ONLY, 2, 1, 0, "UQS 1 threads 1 nodes 2 events 0 endings 1\n0 0 -\n", 0, 0, 0},
-    {"p10", WORN, 1, 0, 0, "UQS 1 threads 1 nodes 2 events 8 endings 4\n0 4294967295 -\n", 7, WORN_OUT, 0},
-    {"nodes-1", HEAD_ONLY, 1, 1, 0, "refused 3 at 0\n", 0, 0, 0},
-    {"nodes-2", HEAD_ONLY, 2, 8, 0, "UQS 1 threads 8 nodes 2 events 0 endings 1\n0 0 -\n", 0, 0, 0},
-    {"nodes-64", HEAD_ONLY, 64, 1, 0, "UQS 1 threads 1 nodes 64 events 0 endings 1\n0 0 -\n", 0, 0, 0},
-    {"nodes-65", HEAD_ONLY, 65, 1, 0, "refused 3 at 0\n", 0, 0, 0},
-    {"threads-0", HEAD_ONLY, 2, 0, 0, "refused 4 at 0\n", 0, 0, 0},
-    {"threads-9", HEAD_ONLY, 2, 9, 0, "refused 4 at 0\n", 0, 0, 0},
-    {"events-4096", WRITE_BACKS, 2, 1, 4096, "UQS 1 threads 1 nodes 2 events 4096 endings 1\n0 0 -\n", 0, 0, 0},
-    {"events-4097", WRITE_BACKS, 2, 1, 4097, "refused 5 at 0\n", 0, 0, 0},
-    {"contents-16", WORN, 15, 0, 0, "UQS 1 threads 1 nodes 2 events 120 endings 32\n0 4294967295 -\n", 0, 0, 0},
-    {"contents-17", WORN, 16, 0, 0, "refused 14 at 2\n", 0, 0, 0},
-    {"overtaken-16", OVERTAKEN, 13, 0, 0, "UQS 1 threads 2 nodes 64 events 229 endings 16\n0 0 1 1 1 1 1 1 1 1 1 1 1 1 1\n", 0, 0, 0},
-    {"overtaken-17", OVERTAKEN, 14, 0, 0, "refused 14 at 2\n", 0, 0, 0},
+    {"p1", ONE_THREAD, 1, 0, 0, "UQS 1 threads 1 nodes 2 events 10 endings 4\n0 0 -\n1 0 -\n2 0 -\n3 0 7\n", 0, 0, 0, 0, 0},
+    {"p2", ONE_THREAD, 2, 0, 0, "UQS 1 threads 1 nodes 2 events 11 endings 1\n0 0 7\n", 0, 0, 0, 0, 0},
+    {"p3", ONE_THREAD, 3, 0, 0, "UQS 1 threads 1 nodes 2 events 16 endings 2\n0 0 7\n1 1 -\n", 11, DONE, 0, 0, 0},
+    {"p4", ONE_THREAD, 4, 0, 0, "UQS 1 threads 1 nodes 2 events 18 endings 1\n0 1 -\n", 0, 0, 0, 0, 0},
+    {"p5", ONE_THREAD, 5, 0, 0, "UQS 1 threads 1 nodes 2 events 21 endings 1\n0 1 -\n", 20, FULL, 0, 0, 0},
+    {"p6", TWO_THREADS, 6, 0, 0, "UQS 1 threads 2 nodes 3 events 24 endings 3\n0 0 6\n1 0 6\n2 0 6\n", 23, DONE, 0, 0, 0},
+    {"p7", TWO_THREADS, 7, 0, 0, "UQS 1 threads 2 nodes 3 events 25 endings 4\n0 0 6\n1 0 6\n2 0 6\n3 0 5 6\n", 0, 0, 0, 0, 0},
+    {"p8", HEAD_ONLY, 2, 1, 5, "UQS 1 threads 1 nodes 2 events 0 endings 2\n0 5 -\n1 5 -\n", 0, 0, 0, 0, 0},
+    {"p9", HEAD_ONLY, 2, 1, 0, "UQS 1 threads 1 nodes 2 events 0 endings 1\n0 0 -\n", 0, 0, 0, 0, 0},
+    {"p10", WORN, 1, 0, 0, "UQS 1 threads 1 nodes 2 events 8 endings 4\n0 4294967295 -\n", 7, WORN_OUT, 0, 0, 0},
+    {"nodes-1", HEAD_ONLY, 1, 1, 0, "refused 3 at 0\n", 0, 0, 0, 0, 0},
+    {"nodes-2", HEAD_ONLY, 2, 8, 0, "UQS 1 threads 8 nodes 2 events 0 endings 1\n0 0 -\n", 0, 0, 0, 0, 0},
+    {"nodes-64", HEAD_ONLY, 64, 1, 0, "UQS 1 threads 1 nodes 64 events 0 endings 1\n0 0 -\n", 0, 0, 0, 0, 0},
+    {"nodes-65", HEAD_ONLY, 65, 1, 0, "refused 3 at 0\n", 0, 0, 0, 0, 0},
+    {"threads-0", HEAD_ONLY, 2, 0, 0, "refused 4 at 0\n", 0, 0, 0, 0, 0},
+    {"threads-9", HEAD_ONLY, 2, 9, 0, "refused 4 at 0\n", 0, 0, 0, 0, 0},
+    {"events-4096", WRITE_BACKS, 2, 1, 4096, "UQS 1 threads 1 nodes 2 events 4096 endings 1\n0 0 -\n", 0, 0, 0, 0, 0},
+    {"events-4097", WRITE_BACKS, 2, 1, 4097, "refused 5 at 0\n", 0, 0, 0, 0, 0},
+    {"contents-16", WORN, 15, 0, 0, "UQS 1 threads 1 nodes 2 events 120 endings 32\n0 4294967295 -\n", 0, 0, 0, 0, 0},
+    {"contents-17", WORN, 16, 0, 0, "refused 14 at 2\n", 0, 0, 0, 0, 0},
+    {"overtaken-16", OVERTAKEN, 13, 0, 0, "UQS 1 threads 2 nodes 64 events 229 endings 16\n0 0 1 1 1 1 1 1 1 1 1 1 1 1 1\n", 0, 0, 0, 0, 0},
+    {"overtaken-17", OVERTAKEN, 14, 0, 0, "refused 14 at 2\n", 0, 0, 0, 0, 0},
     /* not in the paper's list: one input for each reading that an input can tell */
-    {"fourteen-at-end", WORN_WRITTEN, 16, 0, 0, "UQS 1 threads 1 nodes 2 events 129 endings 2\n0 4294967295 -\n1 4294967295 -\n", 0, 0, 0},
-    {"last-line", ONE_EVENT, WRITE_BACK, 2, 0, "UQS 1 threads 1 nodes 2 events 1 endings 1\n0 0 -\n", 0, 0, 0},
-    {"line-beyond", ONE_EVENT, WRITE_BACK, 3, 0, "refused 10 at 0\n", 0, 0, 0},
-    {"crash-number", ONE_EVENT, CRASH, 9, 0, "refused 13 at 0\n", 0, 0, 0},
-    {"ten-before-thirteen", ONE_EVENT, STEP, 1, 1, "refused 10 at 0\n", 0, 0, 0},
-    {"thirteen-before-twelve", ONE_EVENT, STEP, 0, 1, "refused 13 at 0\n", 0, 0, 0},
-    {"nine-before-ten", ONE_EVENT, 6, 200, 1, "refused 9 at 0\n", 0, 0, 0},
-    {"empty", NO_BYTES, 0, 0, 0, "refused 1 at 0\n", 0, 0, 0},
+    {"fourteen-at-end", WORN_WRITTEN, 16, 0, 0, "UQS 1 threads 1 nodes 2 events 129 endings 2\n0 4294967295 -\n1 4294967295 -\n", 0, 0, 0, 0, 0},
+    {"last-line", ONE_EVENT, WRITE_BACK, 2, 0, "UQS 1 threads 1 nodes 2 events 1 endings 1\n0 0 -\n", 0, 0, 0, 0, 0},
+    {"line-beyond", ONE_EVENT, WRITE_BACK, 3, 0, "refused 10 at 0\n", 0, 0, 0, 0, 0},
+    {"crash-number", ONE_EVENT, CRASH, 9, 0, "refused 13 at 0\n", 0, 0, 0, 0, 0},
+    {"ten-before-thirteen", ONE_EVENT, STEP, 1, 1, "refused 10 at 0\n", 0, 0, 0, 0, 0},
+    {"thirteen-before-twelve", ONE_EVENT, STEP, 0, 1, "refused 13 at 0\n", 0, 0, 0, 0, 0},
+    {"nine-before-ten", ONE_EVENT, 6, 200, 1, "refused 9 at 0\n", 0, 0, 0, 0, 0},
+    {"empty", NO_BYTES, 0, 0, 0, "refused 1 at 0\n", 0, 0, 0, 0, 0},
     /* request 107: the same on version 2, with the same pages; the top of 64 bits; beyond 32 bits; the order of an image's refusals */
-    {"p1-wide", ONE_THREAD, 1, 0, 0, "UQS 1 threads 1 nodes 2 events 10 endings 4\n0 0 -\n1 0 -\n2 0 -\n3 0 7\n", 0, 0, 1},
-    {"p2-wide", ONE_THREAD, 2, 0, 0, "UQS 1 threads 1 nodes 2 events 11 endings 1\n0 0 7\n", 0, 0, 1},
-    {"p3-wide", ONE_THREAD, 3, 0, 0, "UQS 1 threads 1 nodes 2 events 16 endings 2\n0 0 7\n1 1 -\n", 11, DONE, 1},
-    {"p4-wide", ONE_THREAD, 4, 0, 0, "UQS 1 threads 1 nodes 2 events 18 endings 1\n0 1 -\n", 0, 0, 1},
-    {"p5-wide", ONE_THREAD, 5, 0, 0, "UQS 1 threads 1 nodes 2 events 21 endings 1\n0 1 -\n", 20, FULL, 1},
-    {"p6-wide", TWO_THREADS, 6, 0, 0, "UQS 1 threads 2 nodes 3 events 24 endings 3\n0 0 6\n1 0 6\n2 0 6\n", 23, DONE, 1},
-    {"p7-wide", TWO_THREADS, 7, 0, 0, "UQS 1 threads 2 nodes 3 events 25 endings 4\n0 0 6\n1 0 6\n2 0 6\n3 0 5 6\n", 0, 0, 1},
-    {"p8-wide", HEAD_ONLY, 2, 1, 5, "UQS 1 threads 1 nodes 2 events 0 endings 2\n0 5 -\n1 5 -\n", 0, 0, 1},
-    {"p9-wide", HEAD_ONLY, 2, 1, 0, "UQS 1 threads 1 nodes 2 events 0 endings 1\n0 0 -\n", 0, 0, 1},
-    {"p10-wide", WORN, 1, 0, 0, "UQS 1 threads 1 nodes 2 events 8 endings 4\n0 18446744073709551615 -\n", 7, WORN_OUT, 1},
-    {"nodes-1-wide", HEAD_ONLY, 1, 1, 0, "refused 3 at 0\n", 0, 0, 1},
-    {"nodes-2-wide", HEAD_ONLY, 2, 8, 0, "UQS 1 threads 8 nodes 2 events 0 endings 1\n0 0 -\n", 0, 0, 1},
-    {"nodes-64-wide", HEAD_ONLY, 64, 1, 0, "UQS 1 threads 1 nodes 64 events 0 endings 1\n0 0 -\n", 0, 0, 1},
-    {"nodes-65-wide", HEAD_ONLY, 65, 1, 0, "refused 3 at 0\n", 0, 0, 1},
-    {"threads-0-wide", HEAD_ONLY, 2, 0, 0, "refused 4 at 0\n", 0, 0, 1},
-    {"threads-9-wide", HEAD_ONLY, 2, 9, 0, "refused 4 at 0\n", 0, 0, 1},
-    {"events-4096-wide", WRITE_BACKS, 2, 1, 4096, "UQS 1 threads 1 nodes 2 events 4096 endings 1\n0 0 -\n", 0, 0, 1},
-    {"events-4097-wide", WRITE_BACKS, 2, 1, 4097, "refused 5 at 0\n", 0, 0, 1},
-    {"contents-16-wide", WORN, 15, 0, 0, "UQS 1 threads 1 nodes 2 events 120 endings 32\n0 18446744073709551615 -\n", 0, 0, 1},
-    {"contents-17-wide", WORN, 16, 0, 0, "refused 14 at 2\n", 0, 0, 1},
-    {"overtaken-16-wide", OVERTAKEN, 13, 0, 0, "UQS 1 threads 2 nodes 64 events 229 endings 16\n0 0 1 1 1 1 1 1 1 1 1 1 1 1 1\n", 0, 0, 1},
-    {"overtaken-17-wide", OVERTAKEN, 14, 0, 0, "refused 14 at 2\n", 0, 0, 1},
-    {"longest", WRITE_BACKS, 64, 8, 4096, "UQS 1 threads 8 nodes 64 events 4096 endings 1\n0 0 -\n", 0, 0, 0},
-    {"longest-wide", WRITE_BACKS, 64, 8, 4096, "UQS 1 threads 8 nodes 64 events 4096 endings 1\n0 0 -\n", 0, 0, 1},
-    {"past-32", PAST_32, 0, 0, 0, "refused 12 at 8\n", 0, 0, 0},
-    {"past-32-wide", PAST_32, 0, 0, 0, "UQS 1 threads 1 nodes 2 events 12 endings 2\n0 4294967295 7\n1 4294967295 7\n", 11, DONE, 1},
-    {"twelve-bytes-one-node-wide", CUT_IMAGE, 1, 12, 0, "refused 3 at 0\n", 0, 0, 1},
-    {"twelve-bytes-two-nodes-wide", CUT_IMAGE, 2, 12, 0, "refused 1 at 0\n", 0, 0, 1},
-    {"ten-bytes-one-node-wide", CUT_IMAGE, 1, 10, 0, "refused 3 at 0\n", 0, 0, 1},
-    {"nine-bytes-one-node-wide", CUT_IMAGE, 1, 9, 0, "refused 1 at 0\n", 0, 0, 1},
+    {"p1-wide", ONE_THREAD, 1, 0, 0, "UQS 1 threads 1 nodes 2 events 10 endings 4\n0 0 -\n1 0 -\n2 0 -\n3 0 7\n", 0, 0, 1, 0, 0},
+    {"p2-wide", ONE_THREAD, 2, 0, 0, "UQS 1 threads 1 nodes 2 events 11 endings 1\n0 0 7\n", 0, 0, 1, 0, 0},
+    {"p3-wide", ONE_THREAD, 3, 0, 0, "UQS 1 threads 1 nodes 2 events 16 endings 2\n0 0 7\n1 1 -\n", 11, DONE, 1, 0, 0},
+    {"p4-wide", ONE_THREAD, 4, 0, 0, "UQS 1 threads 1 nodes 2 events 18 endings 1\n0 1 -\n", 0, 0, 1, 0, 0},
+    {"p5-wide", ONE_THREAD, 5, 0, 0, "UQS 1 threads 1 nodes 2 events 21 endings 1\n0 1 -\n", 20, FULL, 1, 0, 0},
+    {"p6-wide", TWO_THREADS, 6, 0, 0, "UQS 1 threads 2 nodes 3 events 24 endings 3\n0 0 6\n1 0 6\n2 0 6\n", 23, DONE, 1, 0, 0},
+    {"p7-wide", TWO_THREADS, 7, 0, 0, "UQS 1 threads 2 nodes 3 events 25 endings 4\n0 0 6\n1 0 6\n2 0 6\n3 0 5 6\n", 0, 0, 1, 0, 0},
+    {"p8-wide", HEAD_ONLY, 2, 1, 5, "UQS 1 threads 1 nodes 2 events 0 endings 2\n0 5 -\n1 5 -\n", 0, 0, 1, 0, 0},
+    {"p9-wide", HEAD_ONLY, 2, 1, 0, "UQS 1 threads 1 nodes 2 events 0 endings 1\n0 0 -\n", 0, 0, 1, 0, 0},
+    {"p10-wide", WORN, 1, 0, 0, "UQS 1 threads 1 nodes 2 events 8 endings 4\n0 18446744073709551615 -\n", 7, WORN_OUT, 1, 0, 0},
+    {"nodes-1-wide", HEAD_ONLY, 1, 1, 0, "refused 3 at 0\n", 0, 0, 1, 0, 0},
+    {"nodes-2-wide", HEAD_ONLY, 2, 8, 0, "UQS 1 threads 8 nodes 2 events 0 endings 1\n0 0 -\n", 0, 0, 1, 0, 0},
+    {"nodes-64-wide", HEAD_ONLY, 64, 1, 0, "UQS 1 threads 1 nodes 64 events 0 endings 1\n0 0 -\n", 0, 0, 1, 0, 0},
+    {"nodes-65-wide", HEAD_ONLY, 65, 1, 0, "refused 3 at 0\n", 0, 0, 1, 0, 0},
+    {"threads-0-wide", HEAD_ONLY, 2, 0, 0, "refused 4 at 0\n", 0, 0, 1, 0, 0},
+    {"threads-9-wide", HEAD_ONLY, 2, 9, 0, "refused 4 at 0\n", 0, 0, 1, 0, 0},
+    {"events-4096-wide", WRITE_BACKS, 2, 1, 4096, "UQS 1 threads 1 nodes 2 events 4096 endings 1\n0 0 -\n", 0, 0, 1, 0, 0},
+    {"events-4097-wide", WRITE_BACKS, 2, 1, 4097, "refused 5 at 0\n", 0, 0, 1, 0, 0},
+    {"contents-16-wide", WORN, 15, 0, 0, "UQS 1 threads 1 nodes 2 events 120 endings 32\n0 18446744073709551615 -\n", 0, 0, 1, 0, 0},
+    {"contents-17-wide", WORN, 16, 0, 0, "refused 14 at 2\n", 0, 0, 1, 0, 0},
+    {"overtaken-16-wide", OVERTAKEN, 13, 0, 0, "UQS 1 threads 2 nodes 64 events 229 endings 16\n0 0 1 1 1 1 1 1 1 1 1 1 1 1 1\n", 0, 0, 1, 0, 0},
+    {"overtaken-17-wide", OVERTAKEN, 14, 0, 0, "refused 14 at 2\n", 0, 0, 1, 0, 0},
+    {"longest", WRITE_BACKS, 64, 8, 4096, "UQS 1 threads 8 nodes 64 events 4096 endings 1\n0 0 -\n", 0, 0, 0, 0, 0},
+    {"longest-wide", WRITE_BACKS, 64, 8, 4096, "UQS 1 threads 8 nodes 64 events 4096 endings 1\n0 0 -\n", 0, 0, 1, 0, 0},
+    {"past-32", PAST_32, 0, 0, 0, "refused 12 at 8\n", 0, 0, 0, 0, 0},
+    {"past-32-wide", PAST_32, 0, 0, 0, "UQS 1 threads 1 nodes 2 events 12 endings 2\n0 4294967295 7\n1 4294967295 7\n", 11, DONE, 1, 0, 0},
+    {"twelve-bytes-one-node-wide", CUT_IMAGE, 1, 12, 0, "refused 3 at 0\n", 0, 0, 1, 0, 0},
+    {"twelve-bytes-two-nodes-wide", CUT_IMAGE, 2, 12, 0, "refused 1 at 0\n", 0, 0, 1, 0, 0},
+    {"ten-bytes-one-node-wide", CUT_IMAGE, 1, 10, 0, "refused 3 at 0\n", 0, 0, 1, 0, 0},
+    {"nine-bytes-one-node-wide", CUT_IMAGE, 1, 9, 0, "refused 1 at 0\n", 0, 0, 1, 0, 0},
+    /* request 106: four enqueues wear out on nodes 1, 2, 3, 1 in rotation and on node 1 alone without; 16 on two nodes in turn; what a start counts as last */
+    {"worn-four", WORN_ON, 4, 4, 0, "UQS 1 threads 1 nodes 4 events 32 endings 10\n0 4294967295 -\n", 0, 0, 0, 0, 1 << ROTATION},
+    {"worn-four", WORN_ON, 4, 4, 0, "UQS 1 threads 1 nodes 4 events 32 endings 24\n0 4294967295 -\n", 0, 0, 0, 1 << ROTATION, 0},
+    {"worn-two-nodes", WORN_ON, 3, 16, 0, "refused 14 at 2\n", 0, 0, 0, 0, 1 << ROTATION},
+    {"worn-two-nodes", WORN_ON, 3, 16, 0, "UQS 1 threads 1 nodes 3 events 128 endings 162\n0 4294967295 -\n", 0, 0, 0, 1 << ROTATION, 0},
+    {"worn-two-nodes-17", WORN_ON, 3, 31, 0, "refused 14 at 2\n", 0, 0, 0, 1 << ROTATION, 0},
+    {"queued-behind-free", QUEUE_AT, 2, 0, 0, "UQS 1 threads 1 nodes 4 events 3 endings 2\n0 0 4\n1 0 4\n", 0, 0, 0, 0, 0},
 };
+/* Whether what is stated holds with the requests that are on. */
+static int stated(const Sequence *s)
+{
+    for (u32 i = 0; i < SWITCHES; i++)
+        if ((s->on & bit(i) && !on(i)) || (s->off & bit(i) && on(i)))
+            return 0;
+    return 1;
+}
+
 enum { SEQUENCES = sizeof sequences / sizeof sequences[0] };
 
 static void build(const Sequence *s)
@@ -204,6 +243,8 @@ static void build(const Sequence *s)
     case HEAD_ONLY: open_schedule(s->a, s->b, s->c); break;
     case PAST_32: build_past_32(); break;
     case CUT_IMAGE: build_cut_image(s->a, s->b); break;
+    case WORN_ON: build_worn_on(s->a, s->b); break;
+    case QUEUE_AT: build_queue_at(s->a); break;
     default: break;
     }
 }
@@ -245,6 +286,8 @@ int check_sequences(void)
 {
     int failed = 0;
     for (u32 i = 0; i < SEQUENCES; i++) {
+        if (!stated(&sequences[i]))
+            continue;
         build(&sequences[i]);
         int good = page_is(sequences[i].page) && reply_is(sequences[i].event, sequences[i].reply);
         put_text(good ? "ok " : "FAILED ");
