@@ -48,7 +48,7 @@ static void fill_both(u8 *a, u8 *b, u64 length)
 static u64 image_in(const u8 *bytes, u64 length)
 {
     const u8 *image = bytes + SCHEDULE_HEAD;
-    return length < SCHEDULE_HEAD + IMAGE_LEAST ? length + 1 : image_length(form_of(image), image[5]);
+    return length < SCHEDULE_HEAD + IMAGE_LEAST ? length + 1 : length_in(image);
 }
 
 int agree_on_bytes(const u8 *bytes, u64 length)
@@ -71,7 +71,7 @@ int agree_on_ending(const u8 *bytes, u64 length)
     Schedule schedule;
     u64 count = 0;
     u32 taken = endings_of(bytes, length, &schedule, &the_bench, &count).number == TAKEN;
-    u64 whole = taken ? image_length(schedule.image.form, schedule.image.n) : below(600);
+    u64 whole = taken ? length_of(&schedule.image) : below(600);
     u64 k = chance(70) && count > 0 ? below((u32)count) : chance(50) ? count : chance(50) ? count + below(3) : random_bits();
     u64 room = chance(60) ? whole + below(40) : chance(50) ? whole : chance(50) ? whole - 1 : below(1000);
     fill_both(ours, theirs, ROOM);

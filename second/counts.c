@@ -9,6 +9,7 @@ static const char *const names[POINTS] = {
     [AT_STEP + A9] = "A9", [AT_STEP + A10] = "A10", [AT_STEP + A11] = "A11", [AT_STEP + A12] = "A12",
     [AT_STEP + D1] = "D1", [AT_STEP + D2] = "D2", [AT_STEP + D3] = "D3", [AT_STEP + D4] = "D4",
     [AT_STEP + D5] = "D5", [AT_STEP + D6] = "D6", [AT_STEP + D7] = "D7",
+    [AT_STEP + S3] = "S3", [AT_STEP + S6] = "S6", [AT_DESKS] = "image UQP", [AT_LARGEST_NOT_FIRST] = "the largest index is not the first desk's",
     [AT_REPLY + DONE] = "answer Done", [AT_REPLY + FULL] = "answer Full", [AT_REPLY + WORN_OUT] = "answer Worn out",
     [AT_REPLY + AN_ITEM] = "answer item", [AT_REPLY + EMPTY] = "answer Empty",
     [AT_NUMBER + 0] = "taken", [AT_NUMBER + 1] = "refused 1", [AT_NUMBER + 2] = "refused 2",
@@ -63,7 +64,7 @@ static void count_halves(const Image *image)
 void count_schedule(const Schedule *s)
 {
     u32 crashes = 0;
-    reach(s->image.form == WIDE ? AT_WIDE : AT_NARROW);
+    reach(s->image.form == DESKS ? AT_DESKS : s->image.form == WIDE ? AT_WIDE : AT_NARROW);
     count_halves(&s->image);
     for (u32 i = 0; i < s->event_count; i++) {
         Event e = event_at(s, i);
@@ -89,12 +90,22 @@ void count_schedule(const Schedule *s)
         reach(AT_THREADS_8);
 }
 
+/* A point of a request that is off cannot be reached. */
+static int due(u32 point)
+{
+    if (point >= AT_A1_ROUND && point <= AT_A1_NOT_LOWEST)
+        return on(ROTATION);
+    if (point == AT_STEP + S3 || point == AT_STEP + S6 || point == AT_DESKS || point == AT_LARGEST_NOT_FIRST)
+        return on(DESKS_TOO);
+    return 1;
+}
+
 /* Prints every point that has a name; gives the number of those never reached. */
 int print_counts(void)
 {
     int missing = 0;
     for (u32 i = 0; i < POINTS; i++) {
-        if (!names[i] || (!on(ROTATION) && i >= AT_A1_ROUND && i <= AT_A1_NOT_LOWEST))
+        if (!names[i] || !due(i))
             continue;
         put_number(reached[i]);
         put_text(" ");

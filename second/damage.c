@@ -13,12 +13,15 @@ static u32 form_in(const u8 *bytes)
 
 static u8 *node_of(u8 *bytes, u32 node)
 {
-    return bytes + SCHEDULE_HEAD + image_head(form_in(bytes)) + image_node(form_in(bytes)) * node;
+    return bytes + SCHEDULE_HEAD + nodes_in(bytes + SCHEDULE_HEAD) + image_node(form_in(bytes)) * node;
 }
 
 static void put_head_index(u8 *bytes, u64 index)
 {
-    put_index(form_in(bytes), bytes + SCHEDULE_HEAD + 6, index);
+    if (form_in(bytes) != DESKS)
+        put_index(form_in(bytes), bytes + SCHEDULE_HEAD + 6, index);
+    for (u32 k = 0; form_in(bytes) == DESKS && k < bytes[SCHEDULE_HEAD + 6] && k < MAX_THREADS; k++)
+        put4(bytes + SCHEDULE_HEAD + 7 + 4 * k, (u32)index);
 }
 
 static void put_node_index(u8 *bytes, u32 node, u64 index)
@@ -100,14 +103,14 @@ static void fill_image(u8 *bytes)
 
 static u64 spoil_event(u32 number, u8 *bytes, u64 length)
 {
-    u32 t = bytes[5], n = nodes_of(bytes);
+    u32 t = bytes[5], lines = nodes_of(bytes) + head_lines(form_in(bytes), bytes[5]);
     u32 field = 1 + below(1000);
     switch (number) {
     case UNKNOWN_KIND:
         return append_event(bytes, length, chance(50) ? 0 : 6 + below(250), below(256), below(2));
     case NUMBER_TOO_LARGE:
         if (chance(50))
-            return append_event(bytes, length, WRITE_BACK, n + 1 + below(255 - n), below(2));
+            return append_event(bytes, length, WRITE_BACK, lines + below(256 - lines), below(2));
         return append_event(bytes, length, 1 + below(3), t + below(255 - t), below(2));
     case BEGIN_ON_BUSY:
         length = append_event(bytes, length, CRASH, 0, 0);
@@ -123,6 +126,15 @@ static u64 spoil_event(u32 number, u8 *bytes, u64 length)
     }
 }
 
+/* 4: no T, too large a T, or (of "UQP") two that differ */
+static void change_threads(u8 *bytes)
+{
+    if (form_in(bytes) == DESKS && chance(70))
+        bytes[chance(50) ? 5 : SCHEDULE_HEAD + 6] = (u8)(chance(50) ? 1 + below(8) : chance(50) ? 0 : 9 + below(247));
+    else
+        bytes[5] = (u8)(chance(50) ? 0 : 9 + below(247));
+}
+
 /* Aims at refusal 1 to 13 in turn. */
 u64 generate_refused(u64 number, u8 *bytes)
 {
@@ -132,7 +144,7 @@ u64 generate_refused(u64 number, u8 *bytes)
     case WRONG_LENGTH: return change_length(bytes, length);
     case WRONG_MARK: change_mark(bytes); return length;
     case WRONG_N: bytes[SCHEDULE_HEAD + 5] = (u8)(chance(50) ? below(2) : 65 + below(191)); return length;
-    case WRONG_T: bytes[5] = (u8)(chance(50) ? 0 : 9 + below(247)); return length;
+    case WRONG_T: change_threads(bytes); return length;
     case TOO_MANY_EVENTS: put2(bytes + 6, 4097 + below(61439)); return length;
     case WRONG_LINKED: spoil_linked(bytes); return length;
     case TWINS: make_twins(bytes); return length;
@@ -218,7 +230,7 @@ u64 generate_image(u64 number, u8 *bytes)
     u64 length = number % 3 == 0 ? generate_valid(bytes, 0) : number % 3 == 1 ? generate_refused(random_bits() % 13, bytes)
                                                                              : generate_damaged(number, bytes);
     u64 left = length > SCHEDULE_HEAD ? length - SCHEDULE_HEAD : 0;
-    u64 whole = image_length(form_in(bytes), bytes[SCHEDULE_HEAD + 5]);
+    u64 whole = length_in(bytes + SCHEDULE_HEAD);
     for (u64 i = 0; i < left; i++)
         bytes[i] = bytes[SCHEDULE_HEAD + i];
     if (left > whole && !chance(5))
@@ -243,9 +255,9 @@ static void some_contents(u64 number, u32 layout, u8 *item)
     generate_image(number, bytes);
     u32 form = form_of(bytes);
     item[0] = bytes[5];
-    put_index(layout, item + 1, get_index(form, bytes + 6));
+    put_index(layout, item + 1, get_index(form, bytes + (form == DESKS ? 7 : 6)));
     for (u32 i = 0; i < MAX_NODES; i++) {
-        const u8 *from = bytes + image_head(form) + image_node(form) * i;
+        const u8 *from = bytes + nodes_in(bytes) + image_node(form) * i;
         u8 *to = item + 1 + index_bytes(layout) + image_node(layout) * i;
         to[0] = from[0];
         put_index(layout, to + 1, get_index(form, from + 1));
@@ -319,13 +331,14 @@ u64 generate_conversion(u64 number, int with_room, u8 *bytes)
         length = generate_image(number, bytes);
     } else {
         image.n = chance(50) ? 2 + below(5) : 2 + below(63);
+        image.t = 1;
         some_image(&image);
         if (kind < 5)
             make_fit(&image);
         else if (kind < 7 && image.form == WIDE)
             make_too_wide(&image);
         image_to_bytes(&image, bytes);
-        length = image_length(image.form, image.n);
+        length = length_of(&image);
     }
     if (with_room) {
         u32 other = form_of(bytes) == WIDE ? NARROW : WIDE;

@@ -1,10 +1,11 @@
-/* Dequeue, step by step: one function a step, D1 to D7. */
+/* Dequeue, step by step: one function a step, D1 to D7, and the two stores of "UQP". */
 #include "second.h"
 
 static void step_d1(Machine *m, Thread *self)
 {
     self->head_read = m->head;
-    self->head_read_index = m->lines[0];
+    if (m->form != DESKS) /* there "Head is a node number only" */
+        self->head_read_index = m->lines[0];
     self->step = D2;
 }
 
@@ -12,22 +13,37 @@ static void step_d2(Machine *m, Thread *self)
 {
     self->next_read = m->nodes[self->head_read].next;
     reach(self->next_read == NONE ? AT_D2_NONE : AT_D2_SOME);
-    self->step = self->next_read == NONE ? D3 : D4;
+    self->step = self->next_read != NONE ? D4 : m->form == DESKS ? S3 : D3;
+}
+
+/* The line that D3 and D6 persist: Head's, or the desk's own. */
+static u32 own_line(const Machine *m, u32 k)
+{
+    return m->form == DESKS && wrong_machine != PERSIST_LINE_0 ? k : 0;
+}
+
+/* "In place of D3 it does so with the index of the node it found last" */
+static void step_s3(Machine *m, u32 k)
+{
+    Thread *self = &m->threads[k];
+    m->lines[wrong_machine == S3_LINE_0 ? 0 : k] = m->nodes[self->head_read].cached.index;
+    self->step = D3;
 }
 
 static void step_d3(Machine *m, u32 k, Reply *reply)
 {
     if (wrong_machine != EMPTY_NO_PERSIST)
-        persist(m, 0, reply);
+        persist(m, own_line(m, k), reply);
     answer(m, k, EMPTY, 0, reply);
 }
 
 static void step_d4(Machine *m, Thread *self)
 {
-    if (m->head == self->head_read && m->lines[0] == self->head_read_index) {
+    if (m->head == self->head_read && (m->form == DESKS || m->lines[0] == self->head_read_index)) {
         reach(AT_D4_MOVES);
         m->head = self->next_read;
-        m->lines[0] = m->nodes[self->next_read].cached.index;
+        if (m->form != DESKS)
+            m->lines[0] = m->nodes[self->next_read].cached.index;
         self->step = D5;
     } else {
         reach(AT_D4_FAILS);
@@ -38,14 +54,23 @@ static void step_d4(Machine *m, Thread *self)
 static void step_d5(Machine *m, Thread *self)
 {
     self->item = m->nodes[self->next_read].cached.item;
+    self->step = m->form == DESKS ? S6 : D6;
+}
+
+/* "In place of D6 the thread stores the new dummy's index in its line, then persists that line as a second step" */
+static void step_s6(Machine *m, u32 k)
+{
+    Thread *self = &m->threads[k];
+    u32 stored = wrong_machine == S6_OLD_DUMMY ? self->head_read : self->next_read;
+    m->lines[k] = m->nodes[stored].cached.index;
     self->step = D6;
 }
 
-static void step_d6(Machine *m, Thread *self, Reply *reply)
+static void step_d6(Machine *m, u32 k, Reply *reply)
 {
     if (wrong_machine != D6_NO_PERSIST)
-        persist(m, 0, reply);
-    self->step = D7;
+        persist(m, own_line(m, k), reply);
+    m->threads[k].step = D7;
 }
 
 static void step_d7(Machine *m, u32 k, Reply *reply)
@@ -73,7 +98,9 @@ void step_of_dequeue(Machine *m, u32 k, Reply *reply)
     case D3: step_d3(m, k, reply); break;
     case D4: step_d4(m, self); break;
     case D5: step_d5(m, self); break;
-    case D6: step_d6(m, self, reply); break;
+    case D6: step_d6(m, k, reply); break;
     case D7: step_d7(m, k, reply); break;
+    case S3: step_s3(m, k); break;
+    case S6: step_s6(m, k); break;
     }
 }

@@ -41,13 +41,13 @@ static void begin_line(Bench *bench, u32 line)
 
 static void begin_all_lines(Bench *bench)
 {
-    for (u32 line = 0; line <= bench->machine.n; line++)
+    for (u32 line = 0; line < line_count(&bench->machine); line++)
         begin_line(bench, line);
 }
 
 static void note_all_lines(Bench *bench)
 {
-    for (u32 line = 0; line <= bench->machine.n; line++)
+    for (u32 line = 0; line < line_count(&bench->machine); line++)
         note_line(bench, line);
 }
 
@@ -90,13 +90,13 @@ Verdict run_schedule(Bench *bench, const Schedule *schedule)
 Verdict count_endings(const Bench *bench, u64 *count)
 {
     *count = 1;
-    for (u32 line = 0; line <= bench->machine.n; line++) {
+    for (u32 line = 0; line < line_count(&bench->machine); line++) {
         if (bench->lines[line].count > MAX_CONTENTS)
             return verdict(TOO_MANY_CONTENTS, line);
         if (bench->lines[line].count == MAX_CONTENTS)
             reach(AT_SIXTEEN);
     }
-    for (u32 line = 0; line <= bench->machine.n; line++) {
+    for (u32 line = 0; line < line_count(&bench->machine); line++) {
         *count *= bench->lines[line].count;
         if (*count > MAX_ENDINGS)
             return verdict(TOO_MANY_ENDINGS, 0);
@@ -115,17 +115,25 @@ Verdict endings_of(const u8 *bytes, u64 length, Schedule *schedule, Bench *bench
     return v;
 }
 
-/* Line 0 turns slowest and line N fastest. */
+/* Line 0 turns slowest and the last node's line fastest. */
 void ending_image(const Bench *bench, u64 k, Image *image)
 {
     image->form = bench->machine.form; /* "endings keep the start image's form" */
     image->n = bench->machine.n;
-    for (u32 line = bench->machine.n; line >= 1; line--) {
+    image->t = bench->machine.t;
+    u32 heads = head_lines(image->form, image->t);
+    for (u32 line = line_count(&bench->machine); line-- > 0;) {
         const History *history = &bench->lines[line];
-        image->nodes[line - 1] = history->list[k % history->count];
+        Content chosen = history->list[k % history->count];
         k /= history->count;
+        if (line >= heads)
+            image->nodes[line - heads] = chosen;
+        else if (image->form == DESKS)
+            image->desks[line] = chosen.index;
+        else
+            image->head_index = chosen.index;
     }
-    image->head_index = bench->lines[0].list[k].index;
+    take_largest(image);
 }
 
 /* Ending k as an image in a lent buffer: the run, 14, 15, then 16, then 17. */

@@ -122,7 +122,7 @@ static void step_a9(Machine *m, Thread *self)
 static void step_a10(Machine *m, Thread *self, Reply *reply)
 {
     if (wrong_machine != A10_NO_PERSIST)
-        persist(m, self->own + 1, reply);
+        persist(m, head_lines(m->form, m->t) + self->own, reply);
     self->step = following(A10);
 }
 

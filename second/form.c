@@ -1,4 +1,4 @@
-/* The two forms of an image: version 1 with indices of 32 bits, version 2 with indices of 64. */
+/* The forms of an image: "UQI" version 1 with indices of 32 bits, version 2 with indices of 64, and "UQP" with one head index per desk. */
 #include "second.h"
 
 u64 largest_index(u32 form)
@@ -44,12 +44,31 @@ void put_index(u32 form, u8 *to, u64 value)
 /* The lines in front of the nodes' lines. */
 u32 head_lines(u32 form, u32 t)
 {
-    (void)form, (void)t;
-    return 1;
+    return form == DESKS ? t : 1;
 }
 
 /* The form by which an image's bytes are laid out; anything but version 2 is laid out as version 1 (and refused unless it is 1). */
 u32 form_of(const u8 *image)
 {
+    if (on(DESKS_TOO) && image[2] == 'P')
+        return DESKS;
     return get2(image + 3) == 2 ? WIDE : NARROW;
+}
+
+/* Where the nodes begin in an image's bytes: behind N and the head index, or behind N, T and T indices of 4 bytes. */
+u64 nodes_in(const u8 *image)
+{
+    return form_of(image) == DESKS ? 7 + 4 * (u64)image[6] : image_head(form_of(image));
+}
+
+/* The length that an image's bytes ask for. */
+u64 length_in(const u8 *image)
+{
+    return nodes_in(image) + (u64)image_node(form_of(image)) * image[5];
+}
+
+u64 length_of(const Image *image)
+{
+    u64 nodes = image->form == DESKS ? 7 + 4 * (u64)image->t : image_head(image->form);
+    return nodes + (u64)image_node(image->form) * image->n;
 }

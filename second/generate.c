@@ -31,9 +31,25 @@ static u32 some_item(Plan *plan)
     }
 }
 
+u32 wanted_form;
+
 u32 some_form(void)
 {
+    if (wanted_form != 0)
+        return wanted_form;
+    if (on(DESKS_TOO) && chance(50))
+        return DESKS;
     return chance(50) ? NARROW : WIDE;
+}
+
+/* Of "UQP" at least one desk has the index; the others have it too, or a lower one. */
+void set_head_index(Image *image, u64 index)
+{
+    image->head_index = index;
+    for (u32 k = 0; image->form == DESKS && k < image->t; k++)
+        image->desks[k] = chance(40) ? index : index - (u64)below(index < 9 ? (u32)index + 1 : 9);
+    if (image->form == DESKS)
+        image->desks[below(image->t)] = index;
 }
 
 /* Any index of the form; in version 2 some have one half zero or all ones. */
@@ -119,13 +135,13 @@ void some_image(Image *image)
 {
     Content blank = {0, 0, 0};
     image->form = some_form();
-    image->head_index = 0;
+    set_head_index(image, 0);
     for (u32 i = 0; i < image->n; i++)
         image->nodes[i] = blank;
     u32 kind = below(10);
     if (kind < 4)
         return;
-    image->head_index = some_head_index(image->form);
+    set_head_index(image, some_head_index(image->form));
     if (kind == 4)
         return;
     queued_image(image, kind == 5 ? image->n - 1 : below(image->n));
@@ -135,7 +151,7 @@ static u64 endings_now(u32 *fullest)
 {
     u64 product = 1;
     *fullest = 0;
-    for (u32 line = 0; line <= side.machine.n; line++) {
+    for (u32 line = 0; line < line_count(&side.machine); line++) {
         if (side.lines[line].count > side.lines[*fullest].count)
             *fullest = line;
         if (product < 1000000)
@@ -185,7 +201,7 @@ static Event some_event(Plan *plan)
     if (endings_now(&fullest) > plan->limit)
         return make_event(WRITE_BACK, fullest, 0);
     if (chance(plan->write_back_percent))
-        return make_event(WRITE_BACK, chance(50) ? fullest : below(side.machine.n + 1), 0);
+        return make_event(WRITE_BACK, chance(50) ? fullest : below(line_count(&side.machine)), 0);
     u32 k = some_thread(plan);
     if (side.machine.threads[k].step != IDLE)
         return make_event(STEP, k, 0);
@@ -237,6 +253,7 @@ static u64 generate_small(u8 *bytes, u32 most_events)
     Plan plan;
     s.image.n = chance(40) ? 2 : 2 + below(4);
     s.t = chance(30) ? 1 : 1 + below(4);
+    s.image.t = s.t;
     some_image(&s.image);
     some_plan(&plan, s.t);
     plan.events = below(most_events + 1);
@@ -253,6 +270,7 @@ static u64 generate_bursts(u8 *bytes)
     Plan plan;
     s.image.n = 4 + below(3);
     s.t = 2 + below(2);
+    s.image.t = s.t;
     some_image(&s.image);
     some_plan(&plan, s.t);
     plan.in_bursts = 1;
@@ -272,6 +290,7 @@ static u64 generate_any(u8 *bytes, u32 most_events)
     u32 size = below(5);
     s.image.n = size == 0 ? 64 : size == 1 ? 2 : size == 2 ? 2 + below(8) : 2 + below(63);
     s.t = chance(20) ? 8 : 1 + below(8);
+    s.image.t = s.t;
     some_image(&s.image);
     some_plan(&plan, s.t);
     plan.events = chance(10) ? most_events : below(most_events + 1);
@@ -286,10 +305,11 @@ static u64 generate_worn(u8 *bytes)
     Plan plan;
     s.image.n = 2;
     s.t = 1 + below(2);
+    s.image.t = s.t;
     some_image(&s.image);
-    s.image.head_index = largest_index(s.image.form) - below(2);
+    set_head_index(&s.image, largest_index(s.image.form) - below(2));
     if (test_recovered(&s.image).number != TAKEN)
-        s.image.head_index = largest_index(s.image.form);
+        set_head_index(&s.image, largest_index(s.image.form));
     some_plan(&plan, s.t);
     plan.crash_per_mille = 0;
     plan.write_back_percent = chance(50) ? 0 : 3;
@@ -308,11 +328,12 @@ static u64 generate_wild(u8 *bytes)
     u32 kind = below(3);
     s.image.n = kind == 0 ? 2 + below(3) : 20 + below(45);
     s.t = kind == 0 ? 1 + below(2) : 2 + below(7);
+    s.image.t = s.t;
     some_image(&s.image);
     if (kind == 0) {
         s.image.n = 2;
         some_image(&s.image);
-        s.image.head_index = largest_index(s.image.form); /* nothing is above it, so every enqueue wears out */
+        set_head_index(&s.image, largest_index(s.image.form)); /* nothing is above it, so every enqueue wears out */
     }
     some_plan(&plan, s.t);
     plan.write_back_percent = chance(70) ? 0 : 2;
@@ -376,6 +397,10 @@ u64 generate_input(u64 seed, u64 number, const char *shape, u8 *bytes)
         return generate_mendable(number, 0, bytes);
     if (same_text(shape, "mendable-room"))
         return generate_mendable(number, 1, bytes);
+    if (same_text(shape, "imports"))
+        return generate_import(number, bytes);
+    if (same_text(shape, "exports"))
+        return generate_export(number, bytes);
     if (same_text(shape, "probes"))
         return generate_probe(number, bytes);
     if (same_text(shape, "mixed"))

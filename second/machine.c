@@ -8,6 +8,11 @@ u64 bit(u32 i)
     return (u64)1 << i;
 }
 
+u32 line_count(const Machine *m)
+{
+    return head_lines(m->form, m->t) + m->n;
+}
+
 Content cached_content(const Machine *m, u32 line)
 {
     u32 heads = head_lines(m->form, m->t);
@@ -81,7 +86,7 @@ Verdict test_event(const Machine *m, const Event *e)
     if (e->kind == BEGIN_ENQUEUE || e->kind == BEGIN_DEQUEUE || e->kind == STEP)
         if (e->number >= m->t)
             return verdict(NUMBER_TOO_LARGE, 0);
-    if (e->kind == WRITE_BACK && e->number > m->n)
+    if (e->kind == WRITE_BACK && e->number >= line_count(m))
         return verdict(NUMBER_TOO_LARGE, 0);
     if (e->kind != BEGIN_ENQUEUE && e->item != 0)
         return verdict(FIELD_NOT_ZERO, 0);
@@ -123,7 +128,7 @@ static void step(Machine *m, u32 k, Reply *reply)
 
 static void write_back(Machine *m, u32 line, Reply *reply)
 {
-    reach(line == 0 ? AT_WRITE_BACK_HEAD : AT_WRITE_BACK_NODE);
+    reach(line < head_lines(m->form, m->t) ? AT_WRITE_BACK_HEAD : AT_WRITE_BACK_NODE);
     persist(m, line, reply);
 }
 

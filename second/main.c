@@ -281,6 +281,11 @@ static int mode_there_and_back(int count, char **words)
     return mode_hold(count, words, there_and_back);
 }
 
+static int mode_out_and_in(int count, char **words)
+{
+    return mode_hold(count, words, out_and_in);
+}
+
 static int mode_mend_two_ways(int count, char **words)
 {
     return mode_hold(count, words, mend_two_ways);
@@ -341,6 +346,12 @@ static int mode_sequence(int count, char **words)
     return count == 1 ? print_sequence(words[0]) : 2;
 }
 
+static int mode_sequence_names(int count, char **words)
+{
+    (void)count, (void)words;
+    return print_sequence_names();
+}
+
 static int mode_wrong(int count, char **words);
 static int mode_with(int count, char **words);
 static int mode_without(int count, char **words);
@@ -357,12 +368,13 @@ static const struct {
     {"contents", mode_contents}, {"contents-many", mode_contents_many}, {"generate", mode_generate},
     {"counts", mode_counts}, {"plain", mode_plain}, {"judge", mode_judge}, {"places", mode_places},
     {"widened", mode_widened}, {"narrowed", mode_narrowed}, {"there-and-back", mode_there_and_back}, {"same-when-wide", mode_same_when_wide},
+    {"imported", mode_imported}, {"exported", mode_exported}, {"out-and-in", mode_out_and_in},
     {"mended", mode_mended}, {"mend-two-ways", mode_mend_two_ways},
     {"replayed", mode_replayed}, {"probed", mode_probed}, {"replay-by-parts", mode_replay_by_parts},
     {"judged", mode_judged}, {"drawn", mode_drawn}, {"histories", mode_histories},
     {"with", mode_with}, {"without", mode_without}, {"switches", mode_switches}, {"record-bytes", mode_record_bytes},
     {"wrong", mode_wrong}, {"search", mode_search}, {"frame", mode_frame}, {"frames", mode_frames},
-    {"cuts", mode_cuts}, {"values", mode_values}, {"sequence", mode_sequence}, {"sequences", mode_sequences},
+    {"cuts", mode_cuts}, {"values", mode_values}, {"sequence", mode_sequence}, {"sequence-names", mode_sequence_names}, {"sequences", mode_sequences},
     {"words", mode_words}, {"unwords", mode_unwords}, {"words-many", mode_words_many}, {"unwords-many", mode_unwords_many}, {"pieces-many", mode_pieces_many},
 };
 

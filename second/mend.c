@@ -53,7 +53,7 @@ static void mend_no_dummy(Image *image, Mending *mending)
 /* "every image that passes 1 to 3": 1, 2, 3, 1. What read_image_nodes says (6, 7, 8) is what is to be mended. */
 static Verdict read_damaged(const u8 *bytes, u64 length, Image *image)
 {
-    Verdict v = read_image_head(bytes, length, image);
+    Verdict v = read_uqi_head(bytes, length, image);
     if (v.number != TAKEN)
         return v;
     if (length != image_length(image->form, image->n))

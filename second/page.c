@@ -112,7 +112,7 @@ void print_endings(const u8 *bytes, u64 length)
         print_refusal(v);
         return;
     }
-    u64 whole = image_length(schedule.image.form, schedule.image.n);
+    u64 whole = length_of(&schedule.image);
     put_text("endings ");
     put_number(count);
     put_text("\n");
@@ -129,7 +129,7 @@ static void print_written_again(const Image *image)
     if (v.number != TAKEN)
         print_refusal(v);
     else
-        put_hex(buffer, image_length(image->form, image->n));
+        put_hex(buffer, length_of(image));
 }
 
 /* An image alone: its verdict or, when taken, the image written again. */

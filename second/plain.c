@@ -33,7 +33,7 @@ static void find_last_start(const Schedule *s)
 
 static void write_back_due(Machine *m, const u32 *moments, u32 moment)
 {
-    for (u32 line = 0; line <= m->n; line++) {
+    for (u32 line = 0; line < line_count(m); line++) {
         Reply reply;
         Event e = {WRITE_BACK, line, 0};
         if (moments[line] == moment)
@@ -57,24 +57,32 @@ static int same_image(const Image *a, const Image *b)
 {
     if (a->form != b->form || a->n != b->n || a->head_index != b->head_index)
         return 0;
+    for (u32 k = 0; a->form == DESKS && k < a->t; k++)
+        if (a->desks[k] != b->desks[k])
+            return 0;
     for (u32 i = 0; i < a->n; i++)
         if (!same_content(a->nodes[i], b->nodes[i]))
             return 0;
     return 1;
 }
 
-static u64 combinations(u32 n)
+static u32 lines_of(const Schedule *s)
+{
+    return head_lines(s->image.form, s->t) + s->image.n;
+}
+
+static u64 combinations(u32 lines)
 {
     u64 runs = 1;
-    for (u32 line = 0; line <= n && runs <= MOST_RUNS; line++)
+    for (u32 line = 0; line < lines && runs <= MOST_RUNS; line++)
         runs *= moment_count;
     return runs;
 }
 
-/* Line N fastest, line 0 slowest; gives 0 after the last combination. */
-static int next_combination(u32 *moments, u32 n)
+/* The last line fastest, line 0 slowest; gives 0 after the last combination. */
+static int next_combination(u32 *moments, u32 lines)
 {
-    for (u32 line = n + 1; line-- > 0;) {
+    for (u32 line = lines; line-- > 0;) {
         if (++moments[line] < moment_count)
             return 1;
         moments[line] = 0;
@@ -101,7 +109,7 @@ static Finding every_combination(const Schedule *s, u64 count)
             known++;
         if (known == found && found < MAX_ENDINGS)
             left[found++] = image;
-    } while (next_combination(moments, s->image.n));
+    } while (next_combination(moments, lines_of(s)));
     if (found != count)
         return finding(CONTRADICTS, found, "the plain way leaves another number of images", runs);
     for (u64 k = 0; k < count; k++) {
@@ -133,7 +141,7 @@ static u64 images_of_line(const Schedule *s, u32 line)
 static Finding line_by_line(const Schedule *s, u64 count)
 {
     u64 distance = 1, runs = 0;
-    for (u32 line = s->image.n + 1; line-- > 0;) {
+    for (u32 line = lines_of(s); line-- > 0;) {
         u64 found = images_of_line(s, line);
         runs += moment_count;
         if (found * distance > count)
@@ -166,7 +174,7 @@ static Finding sampled(const Schedule *s, u64 count, Finding f)
     for (u32 i = 0; i < SAMPLES; i++) {
         u32 moments[MAX_LINES];
         Image image;
-        for (u32 line = 0; line <= s->image.n; line++)
+        for (u32 line = 0; line < lines_of(s); line++)
             moments[line] = below(moment_count);
         run_with(s, moments, &image);
         f.work++;
@@ -185,9 +193,9 @@ Finding plain_way(const u8 *bytes, u64 length)
     if (v.number != TAKEN)
         return finding(TOO_LARGE, 0, "no page", 0);
     if (plant_now)
-        the_bench.lines[s.image.n].list[0].item ^= 1;
+        the_bench.lines[lines_of(&s) - 1].list[0].item ^= 1;
     find_last_start(&s);
-    if (combinations(s.image.n) <= MOST_RUNS)
+    if (combinations(lines_of(&s)) <= MOST_RUNS)
         return every_combination(&s, count);
     if (count > 2000)
         return finding(TOO_LARGE, 0, "too many endings", 0);

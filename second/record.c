@@ -35,17 +35,17 @@ static int uses_t(u32 step)
 
 static int uses_head_read(u32 step)
 {
-    return step == D2 || step == D4 || step == D7;
+    return step == D2 || step == D4 || step == D7 || step == S3;
 }
 
 static int uses_next_read(u32 step)
 {
-    return step == D4 || step == D5;
+    return step == D4 || step == D5 || step == S6;
 }
 
 static int thread_in_range(const Machine *m, const Thread *thread)
 {
-    if (thread->step >= STEPS || !index_in_range(m, thread->head_read_index))
+    if (thread->step >= (m->form == DESKS ? STEPS_OF_DESKS : STEPS) || !index_in_range(m, thread->head_read_index))
         return 0;
     if (!is_node_or_none(m, thread->own) || !is_node_or_none(m, thread->t) || !is_node_or_none(m, thread->head_read) ||
         !is_node_or_none(m, thread->next_read) || !is_node_or_none(m, thread->held))
@@ -71,7 +71,7 @@ static int head_lines_in_range(const Machine *m)
 
 int in_range(const Machine *m)
 {
-    if (m->form != NARROW && m->form != WIDE)
+    if (m->form != NARROW && m->form != WIDE && (m->form != DESKS || !on(DESKS_TOO)))
         return 0;
     if (m->n < MIN_NODES || m->n > MAX_NODES || m->t < 1 || m->t > MAX_THREADS)
         return 0;

@@ -22,7 +22,7 @@ static Content some_content(u32 form)
 
 static void random_thread(const Machine *m, Thread *thread)
 {
-    thread->step = chance(20) ? IDLE : below(STEPS);
+    thread->step = chance(20) ? IDLE : below(m->form == DESKS || chance(2) ? STEPS_OF_DESKS : STEPS);
     thread->own = some_node(m, 2);
     thread->t = some_node(m, 2);
     thread->head_read = chance(50) ? m->head : some_node(m, 2);
@@ -39,11 +39,13 @@ static void random_record(Machine *m)
     m->n = chance(70) ? 2 + below(4) : 2 + below(63);
     m->t = 1 + below(8);
     m->head = below(m->n);
-    m->lines[0] = some_index(m->form);
+    for (u32 line = 0; line < MAX_THREADS; line++)
+        m->lines[line] = some_index(m->form);
     m->tail = below(m->n);
     m->last = below(m->n);
     m->free = chance(20) ? 0 : random_bits() & (m->n == 64 ? ~(u64)0 : bit(m->n) - 1);
-    m->persisted_lines[0] = some_index(m->form);
+    for (u32 line = 0; line < MAX_THREADS; line++)
+        m->persisted_lines[line] = some_index(m->form);
     for (u32 i = 0; i < MAX_NODES; i++) {
         Node *node = &m->nodes[i];
         node->cached = some_content(m->form);
@@ -59,10 +61,10 @@ static void random_record(Machine *m)
 static void index_above_width(Machine *m)
 {
     u64 index = (u64)LARGEST + 1 + below(2);
-    m->form = NARROW;
+    m->form = m->form == DESKS ? DESKS : NARROW;
     switch (below(5)) {
-    case 0: m->lines[0] = index; break;
-    case 1: m->persisted_lines[0] = index; break;
+    case 0: m->lines[below(record_head_lines())] = index; break;
+    case 1: m->persisted_lines[below(record_head_lines())] = index; break;
     case 2: m->nodes[below(chance(80) ? m->n : MAX_NODES)].cached.index = index; break;
     case 3: m->nodes[below(chance(80) ? m->n : MAX_NODES)].persisted.index = index; break;
     default: m->threads[below(chance(80) ? m->t : MAX_THREADS)].head_read_index = index; break;
@@ -91,7 +93,7 @@ static void some_record_event(const Machine *m, u8 *at)
     else if (which == 1)
         e.kind = BEGIN_DEQUEUE;
     else if (which == 2)
-        e.kind = WRITE_BACK, e.number = below(m->n + 2);
+        e.kind = WRITE_BACK, e.number = below(line_count(m) + 1);
     else if (which == 3)
         e.kind = CRASH, e.number = chance(90) ? 0 : 1;
     else if (which == 4)

@@ -76,9 +76,9 @@ static void recover(Machine *m)
     u32 dummy = lowest_not_recovered(&image, order, count);
     read_persisted_anew(m);
     no_operations(m);
-    if (m->nodes[dummy].cached.index != m->lines[0])
+    if (m->nodes[dummy].cached.index != image.head_index)
         reach(AT_DUMMY_INDEX_CHANGES);
-    m->nodes[dummy].cached.index = m->lines[0];
+    m->nodes[dummy].cached.index = image.head_index;
     link_queue(m, dummy, order, count);
     m->last = wrong_machine == TAIL_LAST ? m->tail : dummy; /* "After a start the dummy counts as last handed out." */
     for (u32 j = 0; j < count; j++)
@@ -92,6 +92,8 @@ void start(Machine *m, u32 t, const Image *image)
     m->n = image->n;
     m->t = t;
     m->persisted_lines[0] = image->head_index;
+    for (u32 k = 0; image->form == DESKS && k < t; k++)
+        m->persisted_lines[k] = image->desks[k];
     for (u32 i = 0; i < image->n; i++)
         m->nodes[i].persisted = image->nodes[i];
     recover(m);
@@ -101,7 +103,11 @@ void persisted_image(const Machine *m, Image *image)
 {
     image->form = m->form;
     image->n = m->n;
+    image->t = m->t;
     image->head_index = m->persisted_lines[0];
+    for (u32 k = 0; image->form == DESKS && k < m->t; k++)
+        image->desks[k] = m->persisted_lines[k];
+    take_largest(image);
     for (u32 i = 0; i < m->n; i++)
         image->nodes[i] = m->nodes[i].persisted;
 }

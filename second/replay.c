@@ -31,9 +31,11 @@ static Verdict read_probe(const u8 *bytes, u64 length, Schedule *s)
     if (s->event_count > MAX_EVENTS)
         return verdict(TOO_MANY_EVENTS, 0);
     Verdict v = read_image_head(bytes + SCHEDULE_HEAD, length - SCHEDULE_HEAD, &s->image);
+    if (v.number == TAKEN && s->image.form == DESKS && s->image.t != s->t)
+        v = verdict(WRONG_T, 0);
     if (v.number != TAKEN)
         return v;
-    u64 before_events = SCHEDULE_HEAD + image_length(s->image.form, s->image.n);
+    u64 before_events = SCHEDULE_HEAD + length_of(&s->image);
     if (length != before_events + (u64)PROBE_EVENT * s->event_count)
         return verdict(WRONG_LENGTH, 0);
     s->events = bytes + before_events;
@@ -222,7 +224,7 @@ Finding replay_by_parts(const u8 *bytes, u64 length)
     Verdict v, given = replay(bytes, length, &d);
     if (length < SCHEDULE_HEAD + IMAGE_LEAST || length > sizeof copy || get2(bytes + 6) > MAX_EVENTS)
         return finding(given.number != TAKEN ? AGREES : CONTRADICTS, 0, "taken, and cannot be");
-    u64 before_events = SCHEDULE_HEAD + image_length(form_of(bytes + SCHEDULE_HEAD), bytes[SCHEDULE_HEAD + 5]);
+    u64 before_events = SCHEDULE_HEAD + length_in(bytes + SCHEDULE_HEAD);
     u32 count = get2(bytes + 6);
     if (length != before_events + (u64)PROBE_EVENT * count)
         return finding(given.number >= WRONG_LENGTH && given.number <= WRONG_T ? AGREES : CONTRADICTS, 0, "not refused for its length");
@@ -249,7 +251,7 @@ static u64 recorded_run(const u8 *schedule, u64 length, u8 *bytes)
 {
     Schedule s;
     Machine m;
-    u64 before_events = SCHEDULE_HEAD + image_length(form_of(schedule + SCHEDULE_HEAD), schedule[SCHEDULE_HEAD + 5]);
+    u64 before_events = SCHEDULE_HEAD + length_in(schedule + SCHEDULE_HEAD);
     int running = read_schedule(schedule, length, &s).number == TAKEN;
     if (before_events > length)
         before_events = length;
@@ -317,7 +319,7 @@ u64 generate_probe(u64 number, u8 *bytes)
     u64 length = kind < 7 ? generate_valid(schedule, chance(60)) : kind < 9 ? generate_refused(random_bits() % 13, schedule)
                                                                            : generate_damaged(number, schedule);
     length = recorded_run(schedule, length, bytes);
-    u64 before_events = SCHEDULE_HEAD + image_length(form_of(bytes + SCHEDULE_HEAD), bytes[SCHEDULE_HEAD + 5]);
+    u64 before_events = SCHEDULE_HEAD + length_in(bytes + SCHEDULE_HEAD);
     u32 count = length > before_events ? (u32)((length - before_events) / PROBE_EVENT) : 0;
     if (count > 0 && kind >= 3 && chance(80))
         change_one_answer(bytes + before_events, count);

@@ -23,9 +23,11 @@ Verdict read_schedule(const u8 *bytes, u64 length, Schedule *s)
     if (v.number != TAKEN)
         return v;
     v = read_image_head(bytes + SCHEDULE_HEAD, length - SCHEDULE_HEAD, &s->image);
+    if (v.number == TAKEN && s->image.form == DESKS && s->image.t != s->t)
+        v = verdict(WRONG_T, 0); /* "a schedule whose two T differ is 4, right after the image's own 4" */
     if (v.number != TAKEN)
         return v;
-    u64 before_events = SCHEDULE_HEAD + image_length(s->image.form, s->image.n);
+    u64 before_events = SCHEDULE_HEAD + length_of(&s->image);
     if (length != before_events + (u64)EVENT_BYTES * s->event_count)
         return verdict(WRONG_LENGTH, 0);
     s->events = bytes + before_events;
@@ -56,5 +58,5 @@ u64 schedule_to_bytes(const Schedule *s, u8 *bytes)
     bytes[5] = (u8)s->t;
     put2(bytes + 6, s->event_count);
     image_to_bytes(&s->image, bytes + SCHEDULE_HEAD);
-    return SCHEDULE_HEAD + image_length(s->image.form, s->image.n);
+    return SCHEDULE_HEAD + length_of(&s->image);
 }

@@ -6,6 +6,7 @@ static const char *const machine_names[MACHINES] = {
     "waits-for-nobody", "a10-no-persist", "d6-no-persist", "a4-left-out",
     "worn-by-32", "nodes-first", "low-half-twice", "lowest-cleared", "stops-at-first",
     "from-last", "tail-last", "last-forgotten",
+    "s6-old-dummy", "s3-line-0", "persist-line-0", "first-desk", "last-desk",
 };
 
 u32 machine_of_name(const char *name)
@@ -41,7 +42,7 @@ static void copy(u8 *to, const u8 *from, u64 length)
 
 static u64 events_from(const u8 *bytes)
 {
-    return SCHEDULE_HEAD + image_length(form_of(bytes + SCHEDULE_HEAD), bytes[SCHEDULE_HEAD + 5]);
+    return SCHEDULE_HEAD + length_in(bytes + SCHEDULE_HEAD);
 }
 
 /* Leaves out the events whose entry in `drop` is set; keeps the shorter schedule if it still shows the machine wrong. */
@@ -114,9 +115,9 @@ static int try_byte(u32 machine, u8 *bytes, u64 length, u64 at, u8 value)
 static int shrink_rest(u32 machine, u8 *bytes, u64 length)
 {
     int shrunk = 0;
-    if (bytes[5] > 1)
+    if (bytes[5] > 1 && form_of(bytes + SCHEDULE_HEAD) != DESKS)
         shrunk |= try_byte(machine, bytes, length, 5, (u8)(bytes[5] - 1));
-    for (u64 at = SCHEDULE_HEAD + 6; at < events_from(bytes); at++)
+    for (u64 at = SCHEDULE_HEAD + 7; at < events_from(bytes); at++)
         shrunk |= try_byte(machine, bytes, length, at, 0);
     return shrunk;
 }

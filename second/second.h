@@ -10,8 +10,8 @@ typedef unsigned long long u64;
 enum {
     MIN_NODES = 2,
     MAX_NODES = 64,
-    MAX_LINES = MAX_NODES + 1,
     MAX_THREADS = 8,
+    MAX_LINES = MAX_NODES + MAX_THREADS,
     MAX_EVENTS = 4096,
     MAX_CONTENTS = 16,
     MAX_ENDINGS = 65536,
@@ -32,8 +32,8 @@ enum {
 };
 static const u32 LARGEST = 4294967295u; /* of 32 bits: an item, and an index of version 1 */
 
-/* An image's form is its version: indices of 32 bits, or of 64. */
-enum { NARROW = 1, WIDE = 2 };
+/* An image's form: "UQI" version 1 with indices of 32 bits, version 2 with 64; "UQP" version 1 with one head index per desk (request 101). */
+enum { NARROW = 1, WIDE = 2, DESKS = 4 };
 
 /* Numbers given back, as the paper numbers them. */
 enum {
@@ -75,7 +75,9 @@ typedef struct Content {
 typedef struct Image {
     u32 form;
     u32 n;
-    u64 head_index;
+    u32 t;          /* of "UQP" alone */
+    u64 head_index; /* of "UQP" the largest of the desks' */
+    u64 desks[MAX_THREADS];
     Content nodes[MAX_NODES];
 } Image;
 
@@ -100,7 +102,9 @@ enum {
     IDLE = 0,
     A1 = 1, A2, A3, A4, A5, A6, A7, A8, A9, A10, A11, A12,
     D1 = 13, D2, D3, D4, D5, D6, D7,
-    STEPS = 20
+    STEPS = 20, /* of "UQI" */
+    S3 = 20, S6, /* "UQP": the stores before D3's and D6's persist */
+    STEPS_OF_DESKS
 };
 
 typedef struct Node {
@@ -184,12 +188,17 @@ enum {
     FROM_LAST,
     TAIL_LAST,
     LAST_FORGOTTEN,
+    S6_OLD_DUMMY,
+    S3_LINE_0,
+    PERSIST_LINE_0,
+    FIRST_DESK,
+    LAST_DESK,
     MACHINES
 };
 extern u32 wrong_machine;
 
 /* switches.c: the requests that may be on or off */
-enum { ROTATION, SWITCHES };
+enum { ROTATION, DESKS_TOO, SWITCHES };
 int on(u32 which);
 void turn(const char *name, u32 to);
 u32 record_head_lines(void);
@@ -221,6 +230,9 @@ int same_text(const char *a, const char *b);
 u64 largest_index(u32 form);
 u32 index_bytes(u32 form);
 u32 image_head(u32 form);
+u64 nodes_in(const u8 *image);
+u64 length_in(const u8 *image);
+u64 length_of(const Image *image);
 u32 image_node(u32 form);
 u64 image_length(u32 form, u32 n);
 u64 get_index(u32 form, const u8 *from);
@@ -230,6 +242,9 @@ u32 head_lines(u32 form, u32 t);
 
 /* image.c */
 extern u32 only_form; /* 0, or the one form that is taken for the time being */
+Verdict read_image_beginning(const u8 *bytes, u64 length, u64 least, Image *image);
+Verdict read_uqi_head(const u8 *bytes, u64 length, Image *image);
+void take_largest(Image *image);
 Verdict verdict(u32 number, u32 place);
 Verdict read_image_head(const u8 *bytes, u64 length, Image *image);
 Verdict read_image_nodes(const u8 *bytes, Image *image);
@@ -249,6 +264,13 @@ int mode_widened(int count, char **words);
 int mode_narrowed(int count, char **words);
 Finding there_and_back(const u8 *bytes, u64 length);
 Finding same_when_wide(const u8 *bytes, u64 length);
+
+/* desks.c */
+int mode_imported(int count, char **words);
+int mode_exported(int count, char **words);
+Finding out_and_in(const u8 *bytes, u64 length);
+u64 generate_import(u64 number, u8 *bytes);
+u64 generate_export(u64 number, u8 *bytes);
 
 /* mend.c */
 int mode_mended(int count, char **words);
@@ -279,6 +301,7 @@ void retire(Machine *m, u32 k, u32 node);
 u32 following(u32 step);
 Verdict test_event(const Machine *m, const Event *event);
 Verdict perform(Machine *m, const Event *event, Reply *reply);
+u32 line_count(const Machine *m);
 Content cached_content(const Machine *m, u32 line);
 Content persisted_content(const Machine *m, u32 line);
 
@@ -333,9 +356,9 @@ void print_verdict(Verdict v);
 
 /* counts.c: how often each step, branch, answer and refusal was reached */
 enum {
-    AT_STEP = 0, /* + step number 1..19 */
-    AT_REPLY = 20, /* + reply number 0..5 */
-    AT_NUMBER = 26, /* + number given back 0..20 */
+    AT_STEP = 0, /* + step number 1..21 */
+    AT_REPLY = 32, /* + reply number 0..5 */
+    AT_NUMBER = 38, /* + number given back 0..20 */
     AT_A6_NONE = AT_NUMBER + NUMBERS, AT_A6_SOME, AT_A8_LINKS, AT_A8_FAILS, AT_A11_MOVES, AT_A11_LEAVES, AT_A12_MOVES, AT_A12_LEAVES,
     AT_D2_NONE, AT_D2_SOME, AT_D4_MOVES, AT_D4_FAILS, AT_D7_HELD_ONE, AT_D7_HELD_NONE,
     AT_RETIRED_FREE, AT_RETIRED_WAITS, AT_ANSWER_FREES, AT_ANSWER_KEEPS_WAITING, AT_A1_REUSED,
@@ -343,6 +366,7 @@ enum {
     AT_DUMMY_INDEX_CHANGES, AT_GAP, AT_STALE_LINKED, AT_EQUAL_CONTENT, AT_SIXTEEN, AT_MANY_CRASHES, AT_LONGEST,
     AT_NODES_2, AT_NODES_64, AT_THREADS_1, AT_THREADS_8, AT_ITEM_0, AT_ITEM_LARGEST, AT_EQUAL_IN_FLIGHT,
     AT_NARROW, AT_WIDE, AT_A7_PASSES_32, AT_A7_WIDE_TO_LARGEST, AT_WORN_NARROW, AT_WORN_WIDE, AT_HIGH_HALF_DECIDES, AT_LOW_HALVES_EQUAL,
+    AT_DESKS, AT_LARGEST_NOT_FIRST,
     AT_A1_ROUND, AT_A1_LAST_AGAIN, AT_A1_NOT_LOWEST,
     POINTS
 };
@@ -377,12 +401,15 @@ void generate_wide_contents_item(u64 seed, u64 number, u8 *item);
 u64 generate_image(u64 number, u8 *bytes);
 u64 generate_conversion(u64 number, int with_room, u8 *bytes);
 u32 some_form(void);
+extern u32 wanted_form; /* 0, or the form that some_form gives */
+void set_head_index(Image *image, u64 index);
 u64 some_head_index(u32 form);
 void some_image(Image *image);
 u32 machine_of_name(const char *name);
 int search(u32 machine, u64 seed, u64 tries);
 int check_sequences(void);
 int print_sequence(const char *name);
+int print_sequence_names(void);
 
 /* main.c, streams.c */
 u64 number_from(const char *text);

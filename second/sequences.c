@@ -14,7 +14,10 @@ static void open_schedule(u32 n, u32 t, u64 head_index)
     s.event_count = 0;
     s.image.form = form;
     s.image.n = n;
+    s.image.t = t;
     s.image.head_index = head_index;
+    for (u32 k = 0; k < MAX_THREADS; k++)
+        s.image.desks[k] = head_index;
     for (u32 i = 0; i < n && i < MAX_NODES; i++)
         s.image.nodes[i] = blank;
     s.image.n = n > MAX_NODES ? MAX_NODES : n;
@@ -48,8 +51,10 @@ static void build_p1_to_p5(u32 which)
     if (which < 3)
         return;
     add(BEGIN_DEQUEUE, 0, 0);
-    steps(0, which == 3 ? 3 : which == 4 ? 5 : 6);
-    if (which < 5)
+    steps(0, which == 3 ? 3 : which == 4 ? 5 : form == DESKS ? 7 : 6);
+    if (which == 6)
+        length -= EVENT_BYTES, put2(bytes + 6, get2(bytes + 6) - 1); /* all but the last step of the dequeue */
+    if (which != 5)
         return;
     add(BEGIN_ENQUEUE, 0, 8);
     steps(0, 1);
@@ -140,11 +145,11 @@ typedef struct Sequence {
     const char *page; /* the whole page, or its beginning */
     u32 event;        /* this event's answer is stated, unless 0 */
     u32 reply;
-    u32 wide; /* 1: with an image of version 2 */
+    u32 wide; /* 1: with an image of version 2; 2: with a "UQP" one */
     u32 on, off; /* bits of the requests that must be on, or off, for what is stated */
 } Sequence;
 
-enum { ONE_THREAD, TWO_THREADS, WORN, WORN_WRITTEN, OVERTAKEN, WRITE_BACKS, HEAD_ONLY, ONE_EVENT, NO_BYTES, PAST_32, CUT_IMAGE, WORN_ON, QUEUE_AT };
+enum { ONE_THREAD, TWO_THREADS, WORN, WORN_WRITTEN, OVERTAKEN, WRITE_BACKS, HEAD_ONLY, ONE_EVENT, NO_BYTES, PAST_32, CUT_IMAGE, WORN_ON, QUEUE_AT, TWO_T };
 
 static const Sequence sequences[] = {
     {"p1", ONE_THREAD, 1, 0, 0, "UQS 1 threads 1 nodes 2 events 10 endings 4\n0 0 -\n1 0 -\n2 0 -\n3 0 7\n", 0, 0, 0, 0, 0},
@@ -215,6 +220,24 @@ static const Sequence sequences[] = {
     {"worn-two-nodes", WORN_ON, 3, 16, 0, "refused 14 at 2\n", 0, 0, 0, 0, 1 << ROTATION},
     {"worn-two-nodes", WORN_ON, 3, 16, 0, "UQS 1 threads 1 nodes 3 events 128 endings 162\n0 4294967295 -\n", 0, 0, 0, 1 << ROTATION, 0},
     {"worn-two-nodes-17", WORN_ON, 3, 31, 0, "refused 14 at 2\n", 0, 0, 0, 1 << ROTATION, 0},
+    /* request 101: P1 to P10 on "UQP": the head's move is no content, the store before D6's persist is; the order of the two T */
+    {"p1-desks", ONE_THREAD, 1, 0, 0, "UQS 1 threads 1 nodes 2 events 10 endings 4\n0 0 -\n1 0 -\n2 0 -\n3 0 7\n", 0, 0, 2, 1 << DESKS_TOO, 0},
+    {"p2-desks", ONE_THREAD, 2, 0, 0, "UQS 1 threads 1 nodes 2 events 11 endings 1\n0 0 7\n", 0, 0, 2, 1 << DESKS_TOO, 0},
+    {"p3-desks", ONE_THREAD, 3, 0, 0, "UQS 1 threads 1 nodes 2 events 16 endings 1\n0 0 7\n", 11, DONE, 2, 1 << DESKS_TOO, 0},
+    {"p4-desks", ONE_THREAD, 4, 0, 0, "UQS 1 threads 1 nodes 2 events 18 endings 2\n0 0 7\n1 1 -\n", 0, 0, 2, 1 << DESKS_TOO, 0},
+    {"p4-persisted-desks", ONE_THREAD, 6, 0, 0, "UQS 1 threads 1 nodes 2 events 19 endings 1\n0 1 -\n", 0, 0, 2, 1 << DESKS_TOO, 0},
+    {"p5-desks", ONE_THREAD, 5, 0, 0, "UQS 1 threads 1 nodes 2 events 22 endings 1\n0 1 -\n", 21, FULL, 2, 1 << DESKS_TOO, 0},
+    {"p6-desks", TWO_THREADS, 6, 0, 0, "UQS 1 threads 2 nodes 3 events 24 endings 3\n0 0 6\n1 0 6\n2 0 6\n", 23, DONE, 2, 1 << DESKS_TOO, 0},
+    {"p7-desks", TWO_THREADS, 7, 0, 0, "UQS 1 threads 2 nodes 3 events 25 endings 4\n0 0 6\n1 0 6\n2 0 6\n3 0 5 6\n", 0, 0, 2, 1 << DESKS_TOO, 0},
+    {"p8-desks", HEAD_ONLY, 2, 1, 5, "UQS 1 threads 1 nodes 2 events 0 endings 2\n0 5 -\n1 5 -\n", 0, 0, 2, 1 << DESKS_TOO, 0},
+    {"p9-desks", HEAD_ONLY, 2, 1, 0, "UQS 1 threads 1 nodes 2 events 0 endings 1\n0 0 -\n", 0, 0, 2, 1 << DESKS_TOO, 0},
+    {"p10-desks", WORN, 1, 0, 0, "UQS 1 threads 1 nodes 2 events 8 endings 4\n0 4294967295 -\n", 7, WORN_OUT, 2, 1 << DESKS_TOO, 0},
+    {"two-t-desks", TWO_T, 2, 2, 0, "refused 4 at 0\n", 0, 0, 2, 1 << DESKS_TOO, 0},
+    {"no-t-desks", TWO_T, 2, 0, 0, "refused 4 at 0\n", 0, 0, 2, 1 << DESKS_TOO, 0},
+    {"one-node-two-t-desks", TWO_T, 1, 2, 0, "refused 3 at 0\n", 0, 0, 2, 1 << DESKS_TOO, 0},
+    {"nine-bytes-desks", CUT_IMAGE, 2, 9, 0, "refused 1 at 0\n", 0, 0, 2, 1 << DESKS_TOO, 0},
+    {"last-line-desks", ONE_EVENT, WRITE_BACK, 2, 0, "UQS 1 threads 1 nodes 2 events 1 endings 1\n0 0 -\n", 0, 0, 2, 1 << DESKS_TOO, 0},
+    {"p1-desks-off", ONE_THREAD, 1, 0, 0, "refused 2 at 0\n", 0, 0, 2, 0, 1 << DESKS_TOO},
     {"queued-behind-free", QUEUE_AT, 2, 0, 0, "UQS 1 threads 1 nodes 4 events 3 endings 2\n0 0 4\n1 0 4\n", 0, 0, 0, 0, 0},
 };
 /* Whether what is stated holds with the requests that are on. */
@@ -231,7 +254,7 @@ enum { SEQUENCES = sizeof sequences / sizeof sequences[0] };
 static void build(const Sequence *s)
 {
     length = 0;
-    form = s->wide ? WIDE : NARROW;
+    form = s->wide == 2 ? DESKS : s->wide == 1 ? WIDE : NARROW;
     switch (s->builder) {
     case ONE_THREAD: build_p1_to_p5(s->a); break;
     case TWO_THREADS: build_p6_p7(s->a); break;
@@ -245,6 +268,7 @@ static void build(const Sequence *s)
     case CUT_IMAGE: build_cut_image(s->a, s->b); break;
     case WORN_ON: build_worn_on(s->a, s->b); break;
     case QUEUE_AT: build_queue_at(s->a); break;
+    case TWO_T: open_schedule(s->a, s->b, 0); bytes[5] = 1; break;
     default: break;
     }
 }
@@ -307,4 +331,15 @@ int print_sequence(const char *name)
             return 0;
         }
     return 2;
+}
+
+/* The sequences that are stated with the requests that are on. */
+int print_sequence_names(void)
+{
+    for (u32 i = 0; i < SEQUENCES; i++)
+        if (stated(&sequences[i])) {
+            put_text(sequences[i].name);
+            put_text("\n");
+        }
+    return 0;
 }

@@ -2,8 +2,8 @@
 #include "second.h"
 #include "switches.h"
 
-static u32 turned[SWITCHES] = {ROTATION_LANDED};
-static const char *const names[SWITCHES] = {"rotation"};
+static u32 turned[SWITCHES] = {ROTATION_LANDED, DESKS_LANDED};
+static const char *const names[SWITCHES] = {"rotation", "desks"};
 
 int on(u32 which)
 {
@@ -22,7 +22,7 @@ void turn(const char *name, u32 to)
 
 u32 record_head_lines(void)
 {
-    return RECORD_HEAD_LINES;
+    return on(DESKS_TOO) ? RECORD_HEAD_LINES_WITH_DESKS : RECORD_HEAD_LINES;
 }
 
 /* A line a request: its name, and whether it has landed (or was turned on). */

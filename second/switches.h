@@ -4,10 +4,11 @@
 #define SWITCHES_H
 
 enum {
-    ROTATION_LANDED = 0 /* request 106, `rotation` */
+    ROTATION_LANDED = 0, /* request 106, `rotation` */
+    DESKS_LANDED = 0     /* request 101, `desks` */
 };
 
-/* How many head lines a machine record's bytes have, cached and persisted: 1, so 1,970 bytes. A record with room for eight of each would have 2,082. */
-enum { RECORD_HEAD_LINES = 1 };
+/* How many head lines a machine record's bytes have, cached and persisted: 1, so 1,970 bytes; 8 from request 101 on, so 2,082. */
+enum { RECORD_HEAD_LINES = 1, RECORD_HEAD_LINES_WITH_DESKS = 8 };
 
 #endif
