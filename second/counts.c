@@ -17,7 +17,7 @@ static const char *const names[POINTS] = {
     [AT_NUMBER + 6] = "refused 6", [AT_NUMBER + 7] = "refused 7", [AT_NUMBER + 8] = "refused 8",
     [AT_NUMBER + 9] = "refused 9", [AT_NUMBER + 10] = "refused 10", [AT_NUMBER + 11] = "refused 11",
     [AT_NUMBER + 12] = "refused 12", [AT_NUMBER + 13] = "refused 13", [AT_NUMBER + 14] = "refused 14",
-    [AT_NUMBER + 15] = "refused 15", [AT_NUMBER + 16] = "refused 16", [AT_NUMBER + 17] = "refused 17",
+    [AT_NUMBER + 15] = "refused 15", [AT_NUMBER + 16] = "refused 16", [AT_NUMBER + 17] = "refused 17", [AT_NUMBER + 19] = "refused 19",
     [AT_A6_NONE] = "A6 none", [AT_A6_SOME] = "A6 some", [AT_A8_LINKS] = "A8 links", [AT_A8_FAILS] = "A8 retries",
     [AT_A11_MOVES] = "A11 moves Tail", [AT_A11_LEAVES] = "A11 leaves Tail",
     [AT_A12_MOVES] = "A12 moves Tail", [AT_A12_LEAVES] = "A12 leaves Tail",
@@ -97,6 +97,8 @@ static int due(u32 point)
         return on(ROTATION);
     if (point == AT_STEP + S3 || point == AT_STEP + S6 || point == AT_DESKS || point == AT_LARGEST_NOT_FIRST)
         return on(DESKS_TOO);
+    if (point == AT_NUMBER + CLEAN_LINE)
+        return on(CLEAN);
     return 1;
 }
 

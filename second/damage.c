@@ -119,6 +119,9 @@ static u64 spoil_event(u32 number, u8 *bytes, u64 length)
     case STEP_ON_IDLE:
         length = append_event(bytes, length, CRASH, 0, 0);
         return append_event(bytes, length, STEP, below(t), 0);
+    case CLEAN_LINE: /* behind a crash Head's line is clean */
+        length = append_event(bytes, length, CRASH, 0, 0);
+        return append_event(bytes, length, WRITE_BACK, 0, chance(20) ? 1 : 0);
     default: /* 13 */
         if (chance(30))
             return append_event(bytes, length, CRASH, 1 + below(255), chance(50) ? 0 : field);
@@ -139,7 +142,9 @@ static void change_threads(u8 *bytes)
 u64 generate_refused(u64 number, u8 *bytes)
 {
     u64 length = generate_valid(bytes, 1);
-    u32 aim = 1 + (u32)(number % 13);
+    u32 aim = 1 + (u32)(number % (on(CLEAN) ? 14 : 13));
+    if (aim == 14)
+        aim = CLEAN_LINE;
     switch (aim) {
     case WRONG_LENGTH: return change_length(bytes, length);
     case WRONG_MARK: change_mark(bytes); return length;

@@ -147,12 +147,19 @@ void some_image(Image *image)
     queued_image(image, kind == 5 ? image->n - 1 : below(image->n));
 }
 
+/* A line that may be written back. */
+static int may_be_written(u32 line)
+{
+    return !on(CLEAN) || !is_clean(&side.machine, line);
+}
+
+/* The line of most contents among those that may be written back, or NO_LINE. */
 static u64 endings_now(u32 *fullest)
 {
     u64 product = 1;
-    *fullest = 0;
+    *fullest = NO_LINE;
     for (u32 line = 0; line < line_count(&side.machine); line++) {
-        if (side.lines[line].count > side.lines[*fullest].count)
+        if (may_be_written(line) && (*fullest == NO_LINE || side.lines[line].count > side.lines[*fullest].count))
             *fullest = line;
         if (product < 1000000)
             product *= side.lines[line].count;
@@ -198,10 +205,12 @@ static Event some_event(Plan *plan)
     u32 fullest;
     if (below(1000) < plan->crash_per_mille)
         return make_event(CRASH, 0, 0);
-    if (endings_now(&fullest) > plan->limit)
+    if (endings_now(&fullest) > plan->limit && fullest != NO_LINE)
         return make_event(WRITE_BACK, fullest, 0);
-    if (chance(plan->write_back_percent))
-        return make_event(WRITE_BACK, chance(50) ? fullest : below(line_count(&side.machine)), 0);
+    if (chance(plan->write_back_percent) && fullest != NO_LINE) {
+        u32 line = chance(50) ? fullest : below(line_count(&side.machine));
+        return make_event(WRITE_BACK, may_be_written(line) ? line : fullest, 0);
+    }
     u32 k = some_thread(plan);
     if (side.machine.threads[k].step != IDLE)
         return make_event(STEP, k, 0);

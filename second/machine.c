@@ -2,6 +2,7 @@
 #include "second.h"
 
 u32 wrong_machine = RIGHT;
+int clean_waived;
 
 u64 bit(u32 i)
 {
@@ -78,7 +79,21 @@ u32 following(u32 step)
     return step + 1;
 }
 
-/* 9, 10, 13, then 11 or 12; for a crash 7 and 8 after 13. The place is the event's, which the caller knows. */
+/* Request 102: "a line whose cached and persisted contents are equal" */
+int is_clean(const Machine *m, u32 line)
+{
+    Content cached = cached_content(m, line), persisted = persisted_content(m, line);
+    if (wrong_machine == CLEAN_WITHOUT_ITEM)
+        cached.item = persisted.item;
+    return same_content(cached, persisted);
+}
+
+static int clean_write_back(const Machine *m, const Event *e)
+{
+    return on(CLEAN) && !clean_waived && e->kind == WRITE_BACK && is_clean(m, e->number);
+}
+
+/* 9, 10, 13, then 11 or 12 or 19; for a crash 7 and 8 after 13. The place is the event's, which the caller knows. */
 Verdict test_event(const Machine *m, const Event *e)
 {
     if (e->kind < BEGIN_ENQUEUE || e->kind > CRASH)
@@ -88,6 +103,8 @@ Verdict test_event(const Machine *m, const Event *e)
             return verdict(NUMBER_TOO_LARGE, 0);
     if (e->kind == WRITE_BACK && e->number >= line_count(m))
         return verdict(NUMBER_TOO_LARGE, 0);
+    if (wrong_machine == CLEAN_BEFORE_ZEROS && clean_write_back(m, e))
+        return verdict(CLEAN_LINE, 0);
     if (e->kind != BEGIN_ENQUEUE && e->item != 0)
         return verdict(FIELD_NOT_ZERO, 0);
     if (e->kind == CRASH && e->number != 0)
@@ -97,6 +114,8 @@ Verdict test_event(const Machine *m, const Event *e)
             return verdict(BEGIN_ON_BUSY, 0);
     if (e->kind == STEP && m->threads[e->number].step == IDLE)
         return verdict(STEP_ON_IDLE, 0);
+    if (clean_write_back(m, e))
+        return verdict(CLEAN_LINE, 0);
     if (e->kind == CRASH) {
         Image image;
         persisted_image(m, &image);

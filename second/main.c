@@ -286,6 +286,11 @@ static int mode_out_and_in(int count, char **words)
     return mode_hold(count, words, out_and_in);
 }
 
+static int mode_clean_or_same(int count, char **words)
+{
+    return mode_hold(count, words, clean_or_same);
+}
+
 static int mode_mend_two_ways(int count, char **words)
 {
     return mode_hold(count, words, mend_two_ways);
@@ -369,6 +374,7 @@ static const struct {
     {"counts", mode_counts}, {"plain", mode_plain}, {"judge", mode_judge}, {"places", mode_places},
     {"widened", mode_widened}, {"narrowed", mode_narrowed}, {"there-and-back", mode_there_and_back}, {"same-when-wide", mode_same_when_wide},
     {"imported", mode_imported}, {"exported", mode_exported}, {"out-and-in", mode_out_and_in},
+    {"clean-or-same", mode_clean_or_same},
     {"mended", mode_mended}, {"mend-two-ways", mode_mend_two_ways},
     {"replayed", mode_replayed}, {"probed", mode_probed}, {"replay-by-parts", mode_replay_by_parts},
     {"judged", mode_judged}, {"drawn", mode_drawn}, {"histories", mode_histories},

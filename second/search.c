@@ -7,6 +7,7 @@ static const char *const machine_names[MACHINES] = {
     "worn-by-32", "nodes-first", "low-half-twice", "lowest-cleared", "stops-at-first",
     "from-last", "tail-last", "last-forgotten",
     "s6-old-dummy", "s3-line-0", "persist-line-0", "first-desk", "last-desk",
+    "clean-without-item", "clean-before-zeros",
 };
 
 u32 machine_of_name(const char *name)

@@ -56,6 +56,7 @@ enum {
     NO_SUCH_ENDING = 16,
     BUFFER_TOO_SHORT = 17,
     OUT_OF_RANGE = 18,
+    CLEAN_LINE = 19,
     DOES_NOT_FIT = 20,
     NUMBERS = 21
 };
@@ -193,14 +194,17 @@ enum {
     PERSIST_LINE_0,
     FIRST_DESK,
     LAST_DESK,
+    CLEAN_WITHOUT_ITEM,
+    CLEAN_BEFORE_ZEROS,
     MACHINES
 };
 extern u32 wrong_machine;
 
 /* switches.c: the requests that may be on or off */
-enum { ROTATION, DESKS_TOO, SWITCHES };
+enum { ROTATION, DESKS_TOO, CLEAN, SWITCHES };
 int on(u32 which);
 void turn(const char *name, u32 to);
+void set(u32 which, u32 to);
 u32 record_head_lines(void);
 int mode_switches(int count, char **words);
 
@@ -272,6 +276,9 @@ Finding out_and_in(const u8 *bytes, u64 length);
 u64 generate_import(u64 number, u8 *bytes);
 u64 generate_export(u64 number, u8 *bytes);
 
+/* clean.c */
+Finding clean_or_same(const u8 *bytes, u64 length);
+
 /* mend.c */
 int mode_mended(int count, char **words);
 Finding mend_two_ways(const u8 *bytes, u64 length);
@@ -300,6 +307,8 @@ void answer(Machine *m, u32 k, u32 number, u32 value, Reply *reply);
 void retire(Machine *m, u32 k, u32 node);
 u32 following(u32 step);
 Verdict test_event(const Machine *m, const Event *event);
+int is_clean(const Machine *m, u32 line);
+extern int clean_waived; /* 1 while 19 is not given, in the runs of the plain way */
 Verdict perform(Machine *m, const Event *event, Reply *reply);
 u32 line_count(const Machine *m);
 Content cached_content(const Machine *m, u32 line);

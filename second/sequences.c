@@ -102,6 +102,17 @@ static void build_past_32(void)
     steps(0, 11);
 }
 
+/* Node 1's item goes from 0 to 1 and back, so its line is clean when it is written back. */
+static void build_came_back(void)
+{
+    open_schedule(2, 1, largest_index(form));
+    add(BEGIN_ENQUEUE, 0, 1);
+    steps(0, 7);
+    add(BEGIN_ENQUEUE, 0, 0);
+    steps(0, 7);
+    add(WRITE_BACK, 2, 0);
+}
+
 /* Enqueues that wear out at their seventh step, on more than two nodes. */
 static void build_worn_on(u32 n, u32 enqueues)
 {
@@ -134,8 +145,14 @@ static void build_cut_image(u32 n, u32 left)
 static void build_write_backs(u32 n, u32 t, u32 events)
 {
     open_schedule(n, t, 0);
-    for (u32 i = 0; i < events; i++)
-        add(WRITE_BACK, 0, 0);
+    for (u32 i = 0; i < events; i++) {
+        if (!on(CLEAN))
+            add(WRITE_BACK, 0, 0);
+        else if (i % 2 == 0) /* a write-back of a clean line is refused: dequeues begun, each cut off by a crash */
+            add(BEGIN_DEQUEUE, 0, 0);
+        else
+            add(CRASH, 0, 0);
+    }
 }
 
 typedef struct Sequence {
@@ -149,7 +166,7 @@ typedef struct Sequence {
     u32 on, off; /* bits of the requests that must be on, or off, for what is stated */
 } Sequence;
 
-enum { ONE_THREAD, TWO_THREADS, WORN, WORN_WRITTEN, OVERTAKEN, WRITE_BACKS, HEAD_ONLY, ONE_EVENT, NO_BYTES, PAST_32, CUT_IMAGE, WORN_ON, QUEUE_AT, TWO_T };
+enum { ONE_THREAD, TWO_THREADS, WORN, WORN_WRITTEN, OVERTAKEN, WRITE_BACKS, HEAD_ONLY, ONE_EVENT, NO_BYTES, PAST_32, CUT_IMAGE, WORN_ON, QUEUE_AT, TWO_T, CAME_BACK };
 
 static const Sequence sequences[] = {
     {"p1", ONE_THREAD, 1, 0, 0, "UQS 1 threads 1 nodes 2 events 10 endings 4\n0 0 -\n1 0 -\n2 0 -\n3 0 7\n", 0, 0, 0, 0, 0},
@@ -176,7 +193,7 @@ static const Sequence sequences[] = {
     {"overtaken-17", OVERTAKEN, 14, 0, 0, "refused 14 at 2\n", 0, 0, 0, 0, 0},
     /* not in the paper's list: one input for each reading that an input can tell */
     {"fourteen-at-end", WORN_WRITTEN, 16, 0, 0, "UQS 1 threads 1 nodes 2 events 129 endings 2\n0 4294967295 -\n1 4294967295 -\n", 0, 0, 0, 0, 0},
-    {"last-line", ONE_EVENT, WRITE_BACK, 2, 0, "UQS 1 threads 1 nodes 2 events 1 endings 1\n0 0 -\n", 0, 0, 0, 0, 0},
+    {"last-line", ONE_EVENT, WRITE_BACK, 2, 0, "UQS 1 threads 1 nodes 2 events 1 endings 1\n0 0 -\n", 0, 0, 0, 0, 1 << CLEAN},
     {"line-beyond", ONE_EVENT, WRITE_BACK, 3, 0, "refused 10 at 0\n", 0, 0, 0, 0, 0},
     {"crash-number", ONE_EVENT, CRASH, 9, 0, "refused 13 at 0\n", 0, 0, 0, 0, 0},
     {"ten-before-thirteen", ONE_EVENT, STEP, 1, 1, "refused 10 at 0\n", 0, 0, 0, 0, 0},
@@ -236,8 +253,16 @@ static const Sequence sequences[] = {
     {"no-t-desks", TWO_T, 2, 0, 0, "refused 4 at 0\n", 0, 0, 2, 1 << DESKS_TOO, 0},
     {"one-node-two-t-desks", TWO_T, 1, 2, 0, "refused 3 at 0\n", 0, 0, 2, 1 << DESKS_TOO, 0},
     {"nine-bytes-desks", CUT_IMAGE, 2, 9, 0, "refused 1 at 0\n", 0, 0, 2, 1 << DESKS_TOO, 0},
-    {"last-line-desks", ONE_EVENT, WRITE_BACK, 2, 0, "UQS 1 threads 1 nodes 2 events 1 endings 1\n0 0 -\n", 0, 0, 2, 1 << DESKS_TOO, 0},
+    {"last-line-desks", ONE_EVENT, WRITE_BACK, 2, 0, "UQS 1 threads 1 nodes 2 events 1 endings 1\n0 0 -\n", 0, 0, 2, 1 << DESKS_TOO, 1 << CLEAN},
+    {"last-line-desks", ONE_EVENT, WRITE_BACK, 2, 0, "refused 19 at 0\n", 0, 0, 2, 1 << DESKS_TOO | 1 << CLEAN, 0},
     {"p1-desks-off", ONE_THREAD, 1, 0, 0, "refused 2 at 0\n", 0, 0, 2, 0, 1 << DESKS_TOO},
+    /* request 102 */
+    {"last-line", ONE_EVENT, WRITE_BACK, 2, 0, "refused 19 at 0\n", 0, 0, 0, 1 << CLEAN, 0},
+    {"clean-head", ONE_EVENT, WRITE_BACK, 0, 0, "refused 19 at 0\n", 0, 0, 0, 1 << CLEAN, 0},
+    {"clean-not-zero", ONE_EVENT, WRITE_BACK, 0, 1, "refused 13 at 0\n", 0, 0, 0, 0, 0},
+    {"beyond-not-zero", ONE_EVENT, WRITE_BACK, 3, 1, "refused 10 at 0\n", 0, 0, 0, 0, 0},
+    {"came-back", CAME_BACK, 0, 0, 0, "UQS 1 threads 1 nodes 2 events 17 endings 2\n0 4294967295 -\n1 4294967295 -\n", 0, 0, 0, 0, 1 << CLEAN},
+    {"came-back", CAME_BACK, 0, 0, 0, "refused 19 at 16\n", 0, 0, 0, 1 << CLEAN, 0},
     {"queued-behind-free", QUEUE_AT, 2, 0, 0, "UQS 1 threads 1 nodes 4 events 3 endings 2\n0 0 4\n1 0 4\n", 0, 0, 0, 0, 0},
 };
 /* Whether what is stated holds with the requests that are on. */
@@ -268,6 +293,7 @@ static void build(const Sequence *s)
     case CUT_IMAGE: build_cut_image(s->a, s->b); break;
     case WORN_ON: build_worn_on(s->a, s->b); break;
     case QUEUE_AT: build_queue_at(s->a); break;
+    case CAME_BACK: build_came_back(); break;
     case TWO_T: open_schedule(s->a, s->b, 0); bytes[5] = 1; break;
     default: break;
     }

@@ -2,8 +2,8 @@
 #include "second.h"
 #include "switches.h"
 
-static u32 turned[SWITCHES] = {ROTATION_LANDED, DESKS_LANDED};
-static const char *const names[SWITCHES] = {"rotation", "desks"};
+static u32 turned[SWITCHES] = {ROTATION_LANDED, DESKS_LANDED, CLEAN_LANDED};
+static const char *const names[SWITCHES] = {"rotation", "desks", "clean"};
 
 int on(u32 which)
 {
@@ -18,6 +18,11 @@ void turn(const char *name, u32 to)
             return;
         }
     stop("no such request to turn on or off");
+}
+
+void set(u32 which, u32 to)
+{
+    turned[which] = to;
 }
 
 u32 record_head_lines(void)
