@@ -9,7 +9,9 @@ static const char *const names[POINTS] = {
     [AT_STEP + A9] = "A9", [AT_STEP + A10] = "A10", [AT_STEP + A11] = "A11", [AT_STEP + A12] = "A12",
     [AT_STEP + D1] = "D1", [AT_STEP + D2] = "D2", [AT_STEP + D3] = "D3", [AT_STEP + D4] = "D4",
     [AT_STEP + D5] = "D5", [AT_STEP + D6] = "D6", [AT_STEP + D7] = "D7",
-    [AT_STEP + S3] = "S3", [AT_STEP + S6] = "S6", [AT_DESKS] = "image UQP", [AT_LARGEST_NOT_FIRST] = "the largest index is not the first desk's",
+    [AT_STEP + S3] = "S3", [AT_STEP + S6] = "S6", [AT_STEP + A10_FENCE] = "fence of A10", [AT_STEP + D3_FENCE] = "fence of D3", [AT_STEP + D6_FENCE] = "fence of D6",
+    [AT_FENCE_MOVES] = "a fence moves the persisted content", [AT_FENCE_STAYS] = "a fence finds a later one persisted",
+    [AT_FENCE_NOT_PRESENT] = "a fence leaves a later content behind", [AT_DESKS] = "image UQP", [AT_LARGEST_NOT_FIRST] = "the largest index is not the first desk's",
     [AT_REPLY + DONE] = "answer Done", [AT_REPLY + FULL] = "answer Full", [AT_REPLY + WORN_OUT] = "answer Worn out",
     [AT_REPLY + AN_ITEM] = "answer item", [AT_REPLY + EMPTY] = "answer Empty",
     [AT_NUMBER + 0] = "taken", [AT_NUMBER + 1] = "refused 1", [AT_NUMBER + 2] = "refused 2",
@@ -97,6 +99,8 @@ static int due(u32 point)
         return on(ROTATION);
     if (point == AT_STEP + S3 || point == AT_STEP + S6 || point == AT_DESKS || point == AT_LARGEST_NOT_FIRST)
         return on(DESKS_TOO);
+    if ((point >= AT_STEP + A10_FENCE && point <= AT_STEP + D6_FENCE) || (point >= AT_FENCE_MOVES && point <= AT_FENCE_NOT_PRESENT))
+        return on(FENCES);
     if (point == AT_NUMBER + CLEAN_LINE)
         return on(CLEAN);
     return 1;

@@ -17,7 +17,7 @@ static void step_d2(Machine *m, Thread *self)
 }
 
 /* The line that D3 and D6 persist: Head's, or the desk's own. */
-static u32 own_line(const Machine *m, u32 k)
+u32 own_line(const Machine *m, u32 k)
 {
     return m->form == DESKS && wrong_machine != PERSIST_LINE_0 ? k : 0;
 }
@@ -30,11 +30,26 @@ static void step_s3(Machine *m, u32 k)
     self->step = D3;
 }
 
+/* The persist of D3 or D6: one step, or (request 104) a flush and then a fence. Gives 1 when it is done, 0 while the fence is to come. */
+static int persist_own(Machine *m, u32 k, u32 fence_step, int left_out, Reply *reply)
+{
+    Thread *self = &m->threads[k];
+    int fenced = self->step == fence_step, flushes = on(FENCES) && !fenced;
+    if (flushes)
+        flush(m, k, own_line(m, k));
+    else if (!left_out && fenced)
+        fence(m, k, own_line(m, k), reply);
+    else if (!left_out)
+        persist(m, own_line(m, k), reply);
+    self->step = flushes ? fence_step : self->step;
+    return !flushes;
+}
+
+/* "D3 answers at the fence." */
 static void step_d3(Machine *m, u32 k, Reply *reply)
 {
-    if (wrong_machine != EMPTY_NO_PERSIST)
-        persist(m, own_line(m, k), reply);
-    answer(m, k, EMPTY, 0, reply);
+    if (persist_own(m, k, D3_FENCE, wrong_machine == EMPTY_NO_PERSIST, reply) || wrong_machine == EMPTY_AT_FLUSH)
+        answer(m, k, EMPTY, 0, reply);
 }
 
 static void step_d4(Machine *m, Thread *self)
@@ -68,9 +83,8 @@ static void step_s6(Machine *m, u32 k)
 
 static void step_d6(Machine *m, u32 k, Reply *reply)
 {
-    if (wrong_machine != D6_NO_PERSIST)
-        persist(m, own_line(m, k), reply);
-    m->threads[k].step = D7;
+    if (persist_own(m, k, D6_FENCE, wrong_machine == D6_NO_PERSIST, reply))
+        m->threads[k].step = D7;
 }
 
 static void step_d7(Machine *m, u32 k, Reply *reply)
@@ -100,6 +114,8 @@ void step_of_dequeue(Machine *m, u32 k, Reply *reply)
     case D5: step_d5(m, self); break;
     case D6: step_d6(m, k, reply); break;
     case D7: step_d7(m, k, reply); break;
+    case D3_FENCE: step_d3(m, k, reply); break;
+    case D6_FENCE: step_d6(m, k, reply); break;
     case S3: step_s3(m, k); break;
     case S6: step_s6(m, k); break;
     }

@@ -119,11 +119,19 @@ static void step_a9(Machine *m, Thread *self)
     self->step = following(A9);
 }
 
-static void step_a10(Machine *m, Thread *self, Reply *reply)
+/* One step, or (request 104) a flush and then a fence. */
+static void step_a10(Machine *m, u32 k, Reply *reply)
 {
-    if (wrong_machine != A10_NO_PERSIST)
-        persist(m, head_lines(m->form, m->t) + self->own, reply);
-    self->step = following(A10);
+    Thread *self = &m->threads[k];
+    u32 line = head_lines(m->form, m->t) + self->own;
+    int fenced = self->step == A10_FENCE, flushes = on(FENCES) && !fenced;
+    if (flushes)
+        flush(m, k, line);
+    else if (wrong_machine != A10_NO_PERSIST && fenced)
+        fence(m, k, line, reply);
+    else if (wrong_machine != A10_NO_PERSIST)
+        persist(m, line, reply);
+    self->step = flushes ? A10_FENCE : following(A10);
 }
 
 static void step_a11(Machine *m, u32 k, Reply *reply)
@@ -156,7 +164,8 @@ void step_of_enqueue(Machine *m, u32 k, Reply *reply)
     case A7: step_a7(m, k, reply); break;
     case A8: step_a8(m, self); break;
     case A9: step_a9(m, self); break;
-    case A10: step_a10(m, self, reply); break;
+    case A10: step_a10(m, k, reply); break;
+    case A10_FENCE: step_a10(m, k, reply); break;
     case A11: step_a11(m, k, reply); break;
     case A12: step_a12(m, self); break;
     }

@@ -28,14 +28,45 @@ Content persisted_content(const Machine *m, u32 line)
     return line < heads ? head : m->nodes[line - heads].persisted;
 }
 
-/* A line is written back whole. */
-void persist(Machine *m, u32 line, Reply *reply)
+/* The persisted content of a line becomes the one that its cached copy had at that moment. */
+static void put_persisted(Machine *m, u32 line, Content content, u64 moment)
 {
     u32 heads = head_lines(m->form, m->t);
     if (line < heads)
-        m->persisted_lines[line] = m->lines[line];
+        m->persisted_lines[line] = content.index;
     else
-        m->nodes[line - heads].persisted = m->nodes[line - heads].cached;
+        m->nodes[line - heads].persisted = content;
+    m->since[line] = moment;
+}
+
+/* A line is written back whole. */
+void persist(Machine *m, u32 line, Reply *reply)
+{
+    put_persisted(m, line, cached_content(m, line), m->clock);
+    reply->written = line;
+}
+
+/* Request 104: "Between the two nothing is assured." */
+void flush(Machine *m, u32 k, u32 line)
+{
+    m->threads[k].flushed = 1;
+    m->threads[k].flush_time = m->clock;
+    m->threads[k].flush_content = cached_content(m, line);
+}
+
+/* "From the fence on, the line's contents start no earlier than the one at the flush; if a later one was persisted already, that one stays." */
+void fence(Machine *m, u32 k, u32 line, Reply *reply)
+{
+    Thread *self = &m->threads[k];
+    int later = m->since[line] > self->flush_time;
+    reach(later ? AT_FENCE_STAYS : AT_FENCE_MOVES);
+    if (!same_content(self->flush_content, cached_content(m, line)))
+        reach(AT_FENCE_NOT_PRESENT);
+    if (wrong_machine == FENCE_PRESENT)
+        put_persisted(m, line, cached_content(m, line), m->clock);
+    else if (!later || wrong_machine == FENCE_BACKWARDS)
+        put_persisted(m, line, self->flush_content, self->flush_time);
+    self->flushed = 0;
     reply->written = line;
 }
 
@@ -127,7 +158,7 @@ Verdict test_event(const Machine *m, const Event *e)
 static void begin(Machine *m, const Event *e)
 {
     for (u32 j = 0; j < m->t; j++)
-        if (e->kind == BEGIN_ENQUEUE && m->threads[j].step != IDLE && m->threads[j].step <= A12 && m->threads[j].item == e->item)
+        if (e->kind == BEGIN_ENQUEUE && m->threads[j].step != IDLE && (m->threads[j].step <= A12 || m->threads[j].step == A10_FENCE) && m->threads[j].item == e->item)
             reach(AT_EQUAL_IN_FLIGHT);
     Thread *thread = &m->threads[e->number];
     blank_registers(thread);
@@ -139,7 +170,7 @@ static void begin(Machine *m, const Event *e)
 static void step(Machine *m, u32 k, Reply *reply)
 {
     reach(AT_STEP + m->threads[k].step);
-    if (m->threads[k].step <= A12)
+    if (m->threads[k].step <= A12 || m->threads[k].step == A10_FENCE)
         step_of_enqueue(m, k, reply);
     else
         step_of_dequeue(m, k, reply);
@@ -161,6 +192,7 @@ Verdict perform(Machine *m, const Event *e, Reply *reply)
     Verdict v = test_event(m, e);
     if (v.number != TAKEN)
         return v;
+    m->clock++;
     switch (e->kind) {
     case BEGIN_ENQUEUE:
     case BEGIN_DEQUEUE:

@@ -291,6 +291,11 @@ static int mode_clean_or_same(int count, char **words)
     return mode_hold(count, words, clean_or_same);
 }
 
+static int mode_same_when_fenced(int count, char **words)
+{
+    return mode_hold(count, words, same_when_fenced);
+}
+
 static int mode_mend_two_ways(int count, char **words)
 {
     return mode_hold(count, words, mend_two_ways);
@@ -375,6 +380,7 @@ static const struct {
     {"widened", mode_widened}, {"narrowed", mode_narrowed}, {"there-and-back", mode_there_and_back}, {"same-when-wide", mode_same_when_wide},
     {"imported", mode_imported}, {"exported", mode_exported}, {"out-and-in", mode_out_and_in},
     {"clean-or-same", mode_clean_or_same},
+    {"fenced", mode_fenced}, {"same-when-fenced", mode_same_when_fenced},
     {"mended", mode_mended}, {"mend-two-ways", mode_mend_two_ways},
     {"replayed", mode_replayed}, {"probed", mode_probed}, {"replay-by-parts", mode_replay_by_parts},
     {"judged", mode_judged}, {"drawn", mode_drawn}, {"histories", mode_histories},

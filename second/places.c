@@ -38,7 +38,7 @@ static int dequeue_owns(const Machine *m, u32 node)
     int count = 0;
     for (u32 k = 0; k < m->t; k++) {
         const Thread *thread = &m->threads[k];
-        count += ((thread->step >= D5 && thread->step <= D7) || thread->step == S6) && thread->head_read == node;
+        count += ((thread->step >= D5 && thread->step <= D7) || thread->step == S6 || thread->step == D6_FENCE) && thread->head_read == node;
     }
     return count;
 }

@@ -25,7 +25,7 @@ static int node_in_range(const Machine *m, const Node *node)
 
 static int uses_own(u32 step)
 {
-    return step == A2 || step == A3 || step == A4 || (step >= A7 && step <= A11);
+    return step == A2 || step == A3 || step == A4 || (step >= A7 && step <= A11) || step == A10_FENCE;
 }
 
 static int uses_t(u32 step)
@@ -43,12 +43,25 @@ static int uses_next_read(u32 step)
     return step == D4 || step == D5 || step == S6;
 }
 
+/* Steps 20 and 21 are of "UQP", 22 to 24 of request 104. */
+static int is_step(const Machine *m, u32 step)
+{
+    return step < STEPS || (m->form == DESKS && (step == S3 || step == S6)) || (on(FENCES) && step >= A10_FENCE && step <= D6_FENCE);
+}
+
+static int is_fence(u32 step)
+{
+    return step >= A10_FENCE && step <= D6_FENCE;
+}
+
 static int thread_in_range(const Machine *m, const Thread *thread)
 {
-    if (thread->step >= (m->form == DESKS ? STEPS_OF_DESKS : STEPS) || !index_in_range(m, thread->head_read_index))
+    if (!is_step(m, thread->step) || !index_in_range(m, thread->head_read_index))
         return 0;
     if (!is_node_or_none(m, thread->own) || !is_node_or_none(m, thread->t) || !is_node_or_none(m, thread->head_read) ||
         !is_node_or_none(m, thread->next_read) || !is_node_or_none(m, thread->held))
+        return 0;
+    if (is_fence(thread->step) && !thread->flushed)
         return 0;
     if (uses_own(thread->step) && thread->own == NONE)
         return 0;
@@ -150,6 +163,59 @@ static void walk_thread(Walk *walk, Thread *thread)
     field32(walk, 1, &thread->held);
 }
 
+enum { PASSED = 255 };
+
+static u32 line_of_fence(const Machine *m, u32 k)
+{
+    return m->threads[k].step == A10_FENCE ? head_lines(m->form, m->t) + m->threads[k].own : own_line(m, k);
+}
+
+/* A flush that waits for its fence, with nothing later persisted. */
+static int place_counts(const Machine *m, u32 k)
+{
+    return is_fence(m->threads[k].step) && m->threads[k].flushed && m->since[line_of_fence(m, k)] <= m->threads[k].flush_time;
+}
+
+/* A flush that waits for its fence, in a byte: 0 none, 255 a later content is persisted already, else its place in time among the others that wait, from 1. */
+static u32 place_of_flush(const Machine *m, u32 k)
+{
+    u32 place = 1;
+    if (!is_fence(m->threads[k].step) || !m->threads[k].flushed)
+        return 0;
+    if (m->since[line_of_fence(m, k)] > m->threads[k].flush_time)
+        return PASSED;
+    for (u32 j = 0; j < m->t; j++)
+        place += j != k && place_counts(m, j) && m->threads[j].flush_time < m->threads[k].flush_time;
+    return place;
+}
+
+/* Times that give back the places: what is persisted at 1000, passed flushes before it, the others behind it. */
+static void flush_from_place(Machine *m, u32 k, u32 place)
+{
+    m->clock = 2000;
+    for (u32 line = 0; line < MAX_LINES; line++)
+        m->since[line] = 1000;
+    m->threads[k].flushed = place != 0;
+    m->threads[k].flush_time = place == PASSED ? 1 : 1000 + place;
+}
+
+static void walk_flush(Walk *walk, Machine *m, u32 k)
+{
+    Thread *thread = &m->threads[k];
+    u32 place = walk->to ? place_of_flush(m, k) : 0;
+    Content content = thread->flush_content, none = {0, 0, 0};
+    if (walk->to && place == 0)
+        content = none;
+    field32(walk, 1, &place);
+    field32(walk, 1, &content.linked);
+    field(walk, 8, &content.index);
+    field32(walk, 4, &content.item);
+    if (walk->to)
+        return;
+    thread->flush_content = content;
+    flush_from_place(m, k, place);
+}
+
 /* Behind the mark and the version. */
 static void walk_machine(Walk *walk, Machine *m)
 {
@@ -167,6 +233,8 @@ static void walk_machine(Walk *walk, Machine *m)
         walk_thread(walk, &m->threads[k]);
     if (on(ROTATION))
         field32(walk, 1, &m->last);
+    for (u32 k = 0; on(FENCES) && k < MAX_THREADS; k++)
+        walk_flush(walk, m, k);
 }
 
 /* What is on or off does not change while the program runs. */

@@ -22,7 +22,7 @@ static Content some_content(u32 form)
 
 static void random_thread(const Machine *m, Thread *thread)
 {
-    thread->step = chance(20) ? IDLE : below(m->form == DESKS || chance(2) ? STEPS_OF_DESKS : STEPS);
+    thread->step = chance(20) ? IDLE : below(on(FENCES) || chance(2) ? LAST_STEP + 1 : m->form == DESKS ? A10_FENCE : STEPS);
     thread->own = some_node(m, 2);
     thread->t = some_node(m, 2);
     thread->head_read = chance(50) ? m->head : some_node(m, 2);
@@ -30,6 +30,9 @@ static void random_thread(const Machine *m, Thread *thread)
     thread->next_read = some_node(m, 2);
     thread->item = (u32)random_bits();
     thread->held = some_node(m, 30);
+    thread->flushed = chance(90);
+    thread->flush_time = below(20);
+    thread->flush_content = some_content(m->form);
 }
 
 /* Fields drawn within their ranges (now and then no node where one is used): mostly records that no run leads to. */
@@ -42,6 +45,9 @@ static void random_record(Machine *m)
     for (u32 line = 0; line < MAX_THREADS; line++)
         m->lines[line] = some_index(m->form);
     m->tail = below(m->n);
+    m->clock = 20;
+    for (u32 line = 0; line < MAX_LINES; line++)
+        m->since[line] = chance(70) ? 0 : below(20);
     m->last = below(m->n);
     m->free = chance(20) ? 0 : random_bits() & (m->n == 64 ? ~(u64)0 : bit(m->n) - 1);
     for (u32 line = 0; line < MAX_THREADS; line++)

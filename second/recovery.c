@@ -13,6 +13,9 @@ void blank_registers(Thread *thread)
     thread->head_read_index = 0;
     thread->next_read = NONE;
     thread->item = 0;
+    thread->flushed = 0;
+    thread->flush_time = 0;
+    thread->flush_content = ZERO;
 }
 
 static void no_operations(Machine *m)
@@ -23,8 +26,13 @@ static void no_operations(Machine *m)
     }
 }
 
+/* The persisted contents are of the moment before; what the start stores is of this one. */
 static void read_persisted_anew(Machine *m)
 {
+    m->clock++;
+    for (u32 line = 0; line < MAX_LINES; line++)
+        m->since[line] = m->clock;
+    m->clock++;
     for (u32 line = 0; line < MAX_THREADS; line++) {
         if (line >= head_lines(m->form, m->t))
             m->persisted_lines[line] = 0;
@@ -88,6 +96,7 @@ static void recover(Machine *m)
 
 void start(Machine *m, u32 t, const Image *image)
 {
+    m->clock = 0;
     m->form = image->form;
     m->n = image->n;
     m->t = t;

@@ -8,6 +8,7 @@ static const char *const machine_names[MACHINES] = {
     "from-last", "tail-last", "last-forgotten",
     "s6-old-dummy", "s3-line-0", "persist-line-0", "first-desk", "last-desk",
     "clean-without-item", "clean-before-zeros",
+    "fence-present", "fence-backwards", "empty-at-flush",
 };
 
 u32 machine_of_name(const char *name)

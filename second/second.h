@@ -105,7 +105,8 @@ enum {
     D1 = 13, D2, D3, D4, D5, D6, D7,
     STEPS = 20, /* of "UQI" */
     S3 = 20, S6, /* "UQP": the stores before D3's and D6's persist */
-    STEPS_OF_DESKS
+    A10_FENCE = 22, D3_FENCE, D6_FENCE, /* request 104: A10, D3 and D6 are then the flushes */
+    LAST_STEP = D6_FENCE
 };
 
 typedef struct Node {
@@ -124,6 +125,9 @@ typedef struct Thread {
     u32 next_read;       /* next as read at D2 */
     u32 item;            /* to be enqueued, or read at D5 */
     u32 held;            /* old dummy of the previous successful dequeue */
+    u32 flushed;         /* request 104: 1 between a flush and its fence */
+    u64 flush_time;
+    Content flush_content;
 } Thread;
 
 typedef struct Machine {
@@ -136,6 +140,8 @@ typedef struct Machine {
     u64 free; /* bit i: node i is free */
     u32 last; /* request 106: the node last handed out */
     u64 persisted_lines[MAX_THREADS];
+    u64 clock;               /* moments so far */
+    u64 since[MAX_LINES];    /* the moment of each line's persisted content */
     Node nodes[MAX_NODES];
     Thread threads[MAX_THREADS];
 } Machine;
@@ -149,8 +155,12 @@ typedef struct Reply {
     u32 started; /* 1 when the event was a crash, so a new start */
 } Reply;
 
-/* A line's contents since its last write-back, persist or start, oldest first, each once. */
+/* What a line's content was, and from which moment on; and its contents from the persisted one on, oldest first, each once. */
 typedef struct History {
+    u32 noted;
+    Content contents[MAX_EVENTS + 2];
+    u64 moments[MAX_EVENTS + 2];
+    u64 since;
     u32 count;
     Content list[MAX_EVENTS + 2];
 } History;
@@ -196,12 +206,15 @@ enum {
     LAST_DESK,
     CLEAN_WITHOUT_ITEM,
     CLEAN_BEFORE_ZEROS,
+    FENCE_PRESENT,
+    FENCE_BACKWARDS,
+    EMPTY_AT_FLUSH,
     MACHINES
 };
 extern u32 wrong_machine;
 
 /* switches.c: the requests that may be on or off */
-enum { ROTATION, DESKS_TOO, CLEAN, SWITCHES };
+enum { ROTATION, DESKS_TOO, CLEAN, FENCES, SWITCHES };
 int on(u32 which);
 void turn(const char *name, u32 to);
 void set(u32 which, u32 to);
@@ -279,6 +292,10 @@ u64 generate_export(u64 number, u8 *bytes);
 /* clean.c */
 Finding clean_or_same(const u8 *bytes, u64 length);
 
+/* fences.c */
+int mode_fenced(int count, char **words);
+Finding same_when_fenced(const u8 *bytes, u64 length);
+
 /* mend.c */
 int mode_mended(int count, char **words);
 Finding mend_two_ways(const u8 *bytes, u64 length);
@@ -303,6 +320,9 @@ void step_of_dequeue(Machine *m, u32 k, Reply *reply);
 /* machine.c */
 u64 bit(u32 i);
 void persist(Machine *m, u32 line, Reply *reply);
+void flush(Machine *m, u32 k, u32 line);
+void fence(Machine *m, u32 k, u32 line, Reply *reply);
+u32 own_line(const Machine *m, u32 k);
 void answer(Machine *m, u32 k, u32 number, u32 value, Reply *reply);
 void retire(Machine *m, u32 k, u32 node);
 u32 following(u32 step);
@@ -365,7 +385,7 @@ void print_verdict(Verdict v);
 
 /* counts.c: how often each step, branch, answer and refusal was reached */
 enum {
-    AT_STEP = 0, /* + step number 1..21 */
+    AT_STEP = 0, /* + step number 1..24 */
     AT_REPLY = 32, /* + reply number 0..5 */
     AT_NUMBER = 38, /* + number given back 0..20 */
     AT_A6_NONE = AT_NUMBER + NUMBERS, AT_A6_SOME, AT_A8_LINKS, AT_A8_FAILS, AT_A11_MOVES, AT_A11_LEAVES, AT_A12_MOVES, AT_A12_LEAVES,
@@ -376,6 +396,7 @@ enum {
     AT_NODES_2, AT_NODES_64, AT_THREADS_1, AT_THREADS_8, AT_ITEM_0, AT_ITEM_LARGEST, AT_EQUAL_IN_FLIGHT,
     AT_NARROW, AT_WIDE, AT_A7_PASSES_32, AT_A7_WIDE_TO_LARGEST, AT_WORN_NARROW, AT_WORN_WIDE, AT_HIGH_HALF_DECIDES, AT_LOW_HALVES_EQUAL,
     AT_DESKS, AT_LARGEST_NOT_FIRST,
+    AT_FENCE_MOVES, AT_FENCE_STAYS, AT_FENCE_NOT_PRESENT,
     AT_A1_ROUND, AT_A1_LAST_AGAIN, AT_A1_NOT_LOWEST,
     POINTS
 };

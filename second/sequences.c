@@ -4,6 +4,7 @@
 static u8 bytes[2 * MAX_SCHEDULE];
 static u64 length;
 static u32 form; /* of the sequence at hand */
+static u32 added; /* steps that the sequence at hand gains because persists are two steps (request 104) */
 
 /* An image of zero nodes with a head index. */
 static void open_schedule(u32 n, u32 t, u64 head_index)
@@ -36,6 +37,16 @@ static void add(u32 kind, u32 number, u32 item)
     put2(bytes + 6, get2(bytes + 6) + 1);
 }
 
+/* So many steps, with a persist passed among them so many times. */
+static void steps(u32 thread, u32 count);
+static void steps_persisting(u32 thread, u32 count, u32 persists)
+{
+    if (!on(FENCES))
+        persists = 0;
+    added += persists;
+    steps(thread, count + persists);
+}
+
 static void steps(u32 thread, u32 count)
 {
     while (count-- > 0)
@@ -47,11 +58,15 @@ static void build_p1_to_p5(u32 which)
 {
     open_schedule(2, 1, 0);
     add(BEGIN_ENQUEUE, 0, 7);
-    steps(0, which == 1 ? 9 : which == 2 ? 10 : 11);
+    if (which == 7) {
+        steps(0, 10); /* the flush, without its fence */
+        return;
+    }
+    steps_persisting(0, which == 1 ? 9 : which == 2 ? 10 : 11, which > 1);
     if (which < 3)
         return;
     add(BEGIN_DEQUEUE, 0, 0);
-    steps(0, which == 3 ? 3 : which == 4 ? 5 : form == DESKS ? 7 : 6);
+    steps_persisting(0, which == 3 ? 3 : which == 4 ? 5 : form == DESKS ? 7 : 6, which > 3 && !(which == 4 && form == DESKS));
     if (which == 6)
         length -= EVENT_BYTES, put2(bytes + 6, get2(bytes + 6) - 1); /* all but the last step of the dequeue */
     if (which != 5)
@@ -66,7 +81,7 @@ static void build_p6_p7(u32 which)
     add(BEGIN_ENQUEUE, 0, 5);
     steps(0, 8);
     add(BEGIN_ENQUEUE, 1, 6);
-    steps(1, 14);
+    steps_persisting(1, 14, 1);
     if (which == 7)
         steps(0, 1);
 }
@@ -89,7 +104,7 @@ static void build_overtaken(u32 times)
     steps(0, 7);
     for (u32 i = 0; i < times; i++) {
         add(BEGIN_ENQUEUE, 1, 1);
-        steps(1, 11);
+        steps_persisting(1, 11, 1);
         steps(0, 5);
     }
 }
@@ -99,7 +114,26 @@ static void build_past_32(void)
 {
     open_schedule(2, 1, LARGEST);
     add(BEGIN_ENQUEUE, 0, 7);
-    steps(0, 11);
+    steps_persisting(0, 11, 1);
+}
+
+/* Queue 8 9 on nodes 1 and 2. Thread 0 has flushed its dequeue's head, thread 1 moves it on; then, maybe behind a write-back of line 0, thread 0's fence. */
+static void build_at_flush(u32 written)
+{
+    open_schedule(3, 2, 0);
+    for (u32 i = 1; i <= 2; i++) {
+        u8 *at = bytes + SCHEDULE_HEAD + image_head(form) + image_node(form) * i;
+        at[0] = 1;
+        put_index(form, at + 1, i);
+        put4(at + 1 + index_bytes(form), 7 + i);
+    }
+    add(BEGIN_DEQUEUE, 0, 0);
+    steps(0, 5);
+    add(BEGIN_DEQUEUE, 1, 0);
+    steps(1, 3);
+    if (written)
+        add(WRITE_BACK, 0, 0);
+    steps(0, 1);
 }
 
 /* Node 1's item goes from 0 to 1 and back, so its line is clean when it is written back. */
@@ -166,7 +200,7 @@ typedef struct Sequence {
     u32 on, off; /* bits of the requests that must be on, or off, for what is stated */
 } Sequence;
 
-enum { ONE_THREAD, TWO_THREADS, WORN, WORN_WRITTEN, OVERTAKEN, WRITE_BACKS, HEAD_ONLY, ONE_EVENT, NO_BYTES, PAST_32, CUT_IMAGE, WORN_ON, QUEUE_AT, TWO_T, CAME_BACK };
+enum { ONE_THREAD, TWO_THREADS, WORN, WORN_WRITTEN, OVERTAKEN, WRITE_BACKS, HEAD_ONLY, ONE_EVENT, NO_BYTES, PAST_32, CUT_IMAGE, WORN_ON, QUEUE_AT, TWO_T, CAME_BACK, AT_FLUSH };
 
 static const Sequence sequences[] = {
     {"p1", ONE_THREAD, 1, 0, 0, "UQS 1 threads 1 nodes 2 events 10 endings 4\n0 0 -\n1 0 -\n2 0 -\n3 0 7\n", 0, 0, 0, 0, 0},
@@ -263,6 +297,10 @@ static const Sequence sequences[] = {
     {"beyond-not-zero", ONE_EVENT, WRITE_BACK, 3, 1, "refused 10 at 0\n", 0, 0, 0, 0, 0},
     {"came-back", CAME_BACK, 0, 0, 0, "UQS 1 threads 1 nodes 2 events 17 endings 2\n0 4294967295 -\n1 4294967295 -\n", 0, 0, 0, 0, 1 << CLEAN},
     {"came-back", CAME_BACK, 0, 0, 0, "refused 19 at 16\n", 0, 0, 0, 1 << CLEAN, 0},
+    /* request 104: between a flush and its fence nothing is assured; what is persisted at the fence is the content at the flush */
+    {"p2-flushed", ONE_THREAD, 7, 0, 0, "UQS 1 threads 1 nodes 2 events 11 endings 4\n0 0 -\n1 0 -\n2 0 -\n3 0 7\n", 0, 0, 0, 1 << FENCES, 0},
+    {"content-at-flush", AT_FLUSH, 0, 0, 0, "UQS 1 threads 2 nodes 3 events 11 endings 2\n0 1 9\n1 2 -\n", 0, 0, 0, 1 << FENCES, 0},
+    {"later-one-stays", AT_FLUSH, 1, 0, 0, "UQS 1 threads 2 nodes 3 events 12 endings 1\n0 2 -\n", 0, 0, 0, 1 << FENCES, 0},
     {"queued-behind-free", QUEUE_AT, 2, 0, 0, "UQS 1 threads 1 nodes 4 events 3 endings 2\n0 0 4\n1 0 4\n", 0, 0, 0, 0, 0},
 };
 /* Whether what is stated holds with the requests that are on. */
@@ -279,6 +317,7 @@ enum { SEQUENCES = sizeof sequences / sizeof sequences[0] };
 static void build(const Sequence *s)
 {
     length = 0;
+    added = 0;
     form = s->wide == 2 ? DESKS : s->wide == 1 ? WIDE : NARROW;
     switch (s->builder) {
     case ONE_THREAD: build_p1_to_p5(s->a); break;
@@ -294,14 +333,34 @@ static void build(const Sequence *s)
     case WORN_ON: build_worn_on(s->a, s->b); break;
     case QUEUE_AT: build_queue_at(s->a); break;
     case CAME_BACK: build_came_back(); break;
+    case AT_FLUSH: build_at_flush(s->a); break;
     case TWO_T: open_schedule(s->a, s->b, 0); bytes[5] = 1; break;
     default: break;
     }
 }
 
-static int page_is(const char *text)
+/* What is stated, with the steps added to the number of events in the first line. */
+static const char *with_added(const char *text)
+{
+    static u8 stated_page[65536];
+    u64 at = 0, number = 0;
+    capture_output(stated_page, sizeof stated_page - 1);
+    while (text[at] && text[at] != '\n' && !(at > 7 && text[at - 1] == ' ' && text[at - 2] == 's' && text[at - 3] == 't' && text[at - 4] == 'n' && text[at - 5] == 'e'))
+        put_bytes((const u8 *)text + at++, 1);
+    if (text[at] >= '0' && text[at] <= '9') {
+        while (text[at] >= '0' && text[at] <= '9')
+            number = 10 * number + (u64)(text[at++] - '0');
+        put_number(number + added);
+    }
+    put_text(text + at);
+    stated_page[end_capture()] = 0;
+    return (const char *)stated_page;
+}
+
+static int page_is(const char *stated_text)
 {
     static u8 page[65536];
+    const char *text = with_added(stated_text);
     capture_output(page, sizeof page);
     print_page(bytes, length);
     u64 printed = end_capture();
@@ -320,6 +379,7 @@ static int reply_is(u32 event, u32 wanted)
     Reply reply = {NOTHING, 0, NO_LINE, 0};
     if (event == 0)
         return 1;
+    event += added; /* all of them come before the answer that is stated */
     if (read_schedule(bytes, length, &s).number != TAKEN)
         return 0;
     bench_start(&the_bench, &s);

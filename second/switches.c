@@ -2,8 +2,8 @@
 #include "second.h"
 #include "switches.h"
 
-static u32 turned[SWITCHES] = {ROTATION_LANDED, DESKS_LANDED, CLEAN_LANDED};
-static const char *const names[SWITCHES] = {"rotation", "desks", "clean"};
+static u32 turned[SWITCHES] = {ROTATION_LANDED, DESKS_LANDED, CLEAN_LANDED, FENCES_LANDED};
+static const char *const names[SWITCHES] = {"rotation", "desks", "clean", "fences"};
 
 int on(u32 which)
 {
