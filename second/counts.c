@@ -11,7 +11,7 @@ static const char *const names[POINTS] = {
     [AT_STEP + D5] = "D5", [AT_STEP + D6] = "D6", [AT_STEP + D7] = "D7",
     [AT_STEP + S3] = "S3", [AT_STEP + S6] = "S6", [AT_STEP + A10_FENCE] = "fence of A10", [AT_STEP + D3_FENCE] = "fence of D3", [AT_STEP + D6_FENCE] = "fence of D6",
     [AT_FENCE_MOVES] = "a fence moves the persisted content", [AT_FENCE_STAYS] = "a fence finds a later one persisted",
-    [AT_FENCE_NOT_PRESENT] = "a fence leaves a later content behind", [AT_DESKS] = "image UQP", [AT_LARGEST_NOT_FIRST] = "the largest index is not the first desk's",
+    [AT_FENCE_NOT_PRESENT] = "a fence leaves a later content behind", [AT_DESKS] = "image UQP", [AT_STEP + AQ] = "store of the queue byte", [AT_TWO] = "image version 3", [AT_BOTH_QUEUES] = "operations on both queues at once", [AT_LARGEST_NOT_FIRST] = "the largest index is not the first desk's",
     [AT_REPLY + DONE] = "answer Done", [AT_REPLY + FULL] = "answer Full", [AT_REPLY + WORN_OUT] = "answer Worn out",
     [AT_REPLY + AN_ITEM] = "answer item", [AT_REPLY + EMPTY] = "answer Empty",
     [AT_NUMBER + 0] = "taken", [AT_NUMBER + 1] = "refused 1", [AT_NUMBER + 2] = "refused 2",
@@ -53,7 +53,7 @@ void reach(u32 point)
 static void count_halves(const Image *image)
 {
     for (u32 i = 0; i < image->n; i++) {
-        int by_low_half = (u32)image->nodes[i].index > (u32)image->head_index;
+        int by_low_half = (u32)image->nodes[i].index > (u32)head_of(image, image->form == TWO ? image->nodes[i].queue : 0);
         if (image->nodes[i].linked && by_low_half != is_recovered(image, i))
             reach(AT_HIGH_HALF_DECIDES);
         for (u32 j = 0; j < i; j++)
@@ -66,12 +66,12 @@ static void count_halves(const Image *image)
 void count_schedule(const Schedule *s)
 {
     u32 crashes = 0;
-    reach(s->image.form == DESKS ? AT_DESKS : s->image.form == WIDE ? AT_WIDE : AT_NARROW);
+    reach(s->image.form == TWO ? AT_TWO : s->image.form == DESKS ? AT_DESKS : s->image.form == WIDE ? AT_WIDE : AT_NARROW);
     count_halves(&s->image);
     for (u32 i = 0; i < s->event_count; i++) {
         Event e = event_at(s, i);
         crashes += e.kind == CRASH;
-        if (e.kind != BEGIN_ENQUEUE)
+        if (!enqueues(e.kind))
             continue;
         if (e.item == 0)
             reach(AT_ITEM_0);
@@ -101,6 +101,8 @@ static int due(u32 point)
         return on(DESKS_TOO);
     if ((point >= AT_STEP + A10_FENCE && point <= AT_STEP + D6_FENCE) || (point >= AT_FENCE_MOVES && point <= AT_FENCE_NOT_PRESENT))
         return on(FENCES);
+    if (point == AT_STEP + AQ || point == AT_TWO || point == AT_BOTH_QUEUES)
+        return on(QUEUES_TOO);
     if (point == AT_NUMBER + CLEAN_LINE)
         return on(CLEAN);
     return 1;

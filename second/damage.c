@@ -20,13 +20,15 @@ static void put_head_index(u8 *bytes, u64 index)
 {
     if (form_in(bytes) != DESKS)
         put_index(form_in(bytes), bytes + SCHEDULE_HEAD + 6, index);
+    if (form_in(bytes) == TWO)
+        put8(bytes + SCHEDULE_HEAD + 14, index);
     for (u32 k = 0; form_in(bytes) == DESKS && k < bytes[SCHEDULE_HEAD + 6] && k < MAX_THREADS; k++)
         put4(bytes + SCHEDULE_HEAD + 7 + 4 * k, (u32)index);
 }
 
 static void put_node_index(u8 *bytes, u32 node, u64 index)
 {
-    put_index(form_in(bytes), node_of(bytes, node) + 1, index);
+    put_index(form_in(bytes), node_of(bytes, node) + 1 + (form_in(bytes) == TWO), index);
 }
 
 static u8 *event_of(u8 *bytes, u32 number)
@@ -66,13 +68,13 @@ static void change_mark(u8 *bytes)
 static void spoil_linked(u8 *bytes)
 {
     for (u32 times = 1 + below(2); times > 0; times--)
-        node_of(bytes, below(nodes_of(bytes)))[0] = (u8)(2 + below(254));
+        node_of(bytes, below(nodes_of(bytes)))[form_in(bytes) == TWO && chance(50)] = (u8)(2 + below(254));
 }
 
 /* What is added to the indices below: in version 2 sometimes so much that they lie across 2^32 or above it. */
 static u64 some_base(const u8 *bytes)
 {
-    return form_in(bytes) == WIDE && chance(50) ? (u64)LARGEST - 2 + below(5) : 0;
+    return index_bytes(form_in(bytes)) == 8 && chance(50) ? (u64)LARGEST - 2 + below(5) : 0;
 }
 
 /* 7: two or three recovered nodes of one index; in version 2 sometimes of one low half alone, which is no twin */
@@ -80,11 +82,13 @@ static void make_twins(u8 *bytes)
 {
     u32 n = nodes_of(bytes);
     u64 base = some_base(bytes), index = base + 1 + below(3);
-    int apart = form_in(bytes) == WIDE && chance(20);
+    int apart = index_bytes(form_in(bytes)) == 8 && chance(20);
     put_head_index(bytes, base);
     for (u32 times = 2 + below(2); times > 0; times--) {
         u32 node = times == 1 ? below(n) : (n - times + 1) % n;
         node_of(bytes, node)[0] = 1;
+        if (form_in(bytes) == TWO) /* mostly in one queue; in two they are none */
+            node_of(bytes, node)[1] = (u8)chance(20);
         put_node_index(bytes, node, apart ? index + ((u64)times << 32) : index);
     }
 }
@@ -107,7 +111,7 @@ static u64 spoil_event(u32 number, u8 *bytes, u64 length)
     u32 field = 1 + below(1000);
     switch (number) {
     case UNKNOWN_KIND:
-        return append_event(bytes, length, chance(50) ? 0 : 6 + below(250), below(256), below(2));
+        return append_event(bytes, length, chance(40) ? 0 : form_in(bytes) != TWO && chance(40) ? 6 + below(2) : 8 + below(248), below(256), below(2));
     case NUMBER_TOO_LARGE:
         if (chance(50))
             return append_event(bytes, length, WRITE_BACK, lines + below(256 - lines), below(2));
@@ -148,7 +152,7 @@ u64 generate_refused(u64 number, u8 *bytes)
     switch (aim) {
     case WRONG_LENGTH: return change_length(bytes, length);
     case WRONG_MARK: change_mark(bytes); return length;
-    case WRONG_N: bytes[SCHEDULE_HEAD + 5] = (u8)(chance(50) ? below(2) : 65 + below(191)); return length;
+    case WRONG_N: bytes[SCHEDULE_HEAD + 5] = (u8)(chance(50) ? below(form_in(bytes) == TWO ? 3 : 2) : 65 + below(191)); return length;
     case WRONG_T: change_threads(bytes); return length;
     case TOO_MANY_EVENTS: put2(bytes + 6, 4097 + below(61439)); return length;
     case WRONG_LINKED: spoil_linked(bytes); return length;
@@ -265,6 +269,7 @@ static void some_contents(u64 number, u32 layout, u8 *item)
         const u8 *from = bytes + nodes_in(bytes) + image_node(form) * i;
         u8 *to = item + 1 + index_bytes(layout) + image_node(layout) * i;
         to[0] = from[0];
+        from += form == TWO;
         put_index(layout, to + 1, get_index(form, from + 1));
         put4(to + 1 + index_bytes(layout), get4(from + 1 + index_bytes(form)));
     }

@@ -3,9 +3,9 @@
 
 static void step_d1(Machine *m, Thread *self)
 {
-    self->head_read = m->head;
+    self->head_read = m->head[self->queue];
     if (m->form != DESKS) /* there "Head is a node number only" */
-        self->head_read_index = m->lines[0];
+        self->head_read_index = m->lines[self->queue];
     self->step = D2;
 }
 
@@ -19,7 +19,9 @@ static void step_d2(Machine *m, Thread *self)
 /* The line that D3 and D6 persist: Head's, or the desk's own. */
 u32 own_line(const Machine *m, u32 k)
 {
-    return m->form == DESKS && wrong_machine != PERSIST_LINE_0 ? k : 0;
+    if (m->form == DESKS)
+        return wrong_machine != PERSIST_LINE_0 ? k : 0;
+    return m->threads[k].queue;
 }
 
 /* "In place of D3 it does so with the index of the node it found last" */
@@ -54,11 +56,11 @@ static void step_d3(Machine *m, u32 k, Reply *reply)
 
 static void step_d4(Machine *m, Thread *self)
 {
-    if (m->head == self->head_read && (m->form == DESKS || m->lines[0] == self->head_read_index)) {
+    if (m->head[self->queue] == self->head_read && (m->form == DESKS || m->lines[self->queue] == self->head_read_index)) {
         reach(AT_D4_MOVES);
-        m->head = self->next_read;
+        m->head[self->queue] = self->next_read;
         if (m->form != DESKS)
-            m->lines[0] = m->nodes[self->next_read].cached.index;
+            m->lines[self->queue] = m->nodes[self->next_read].cached.index;
         self->step = D5;
     } else {
         reach(AT_D4_FAILS);
@@ -90,7 +92,8 @@ static void step_d6(Machine *m, u32 k, Reply *reply)
 static void step_d7(Machine *m, u32 k, Reply *reply)
 {
     Thread *self = &m->threads[k];
-    u32 retired = self->held;
+    u32 *place = &self->held[wrong_machine == ONE_HELD ? 0 : self->queue];
+    u32 retired = *place;
     u32 held = self->head_read;
     if (wrong_machine == RETIRE_SAME_DEQUEUE) {
         retired = self->head_read;
@@ -99,7 +102,7 @@ static void step_d7(Machine *m, u32 k, Reply *reply)
     reach(retired == NONE ? AT_D7_HELD_NONE : AT_D7_HELD_ONE);
     if (retired != NONE)
         retire(m, k, retired);
-    self->held = held;
+    *place = held;
     answer(m, k, AN_ITEM, self->item, reply);
 }
 

@@ -5,7 +5,7 @@ Bench the_bench;
 
 int same_content(Content a, Content b)
 {
-    return a.linked == b.linked && a.index == b.index && a.item == b.item;
+    return a.linked == b.linked && a.index == b.index && a.item == b.item && a.queue == b.queue;
 }
 
 /* Equal contents count once, at the first appearance. */
@@ -151,8 +151,10 @@ void ending_image(const Bench *bench, u64 k, Image *image)
             image->nodes[line - heads] = chosen;
         else if (image->form == DESKS)
             image->desks[line] = chosen.index;
-        else
+        else if (line == 0)
             image->head_index = chosen.index;
+        else
+            image->head_index_1 = chosen.index;
     }
     take_largest(image);
 }

@@ -59,19 +59,26 @@ static void step_a2(Machine *m, Thread *self)
 static void step_a3(Machine *m, Thread *self)
 {
     m->nodes[self->own].next = NONE;
-    self->step = following(A3);
+    self->step = m->form == TWO && wrong_machine == QUEUE_BEFORE_LINKED ? AQ : following(A3);
 }
 
 static void step_a4(Machine *m, Thread *self)
 {
     if (wrong_machine != A4_LEFT_OUT)
         m->nodes[self->own].cached.linked = 0;
-    self->step = following(A4);
+    self->step = m->form != TWO ? following(A4) : wrong_machine == QUEUE_BEFORE_LINKED ? A5 : AQ;
+}
+
+/* Version 3: "The byte is stored after A4 and before A5." */
+static void step_aq(Machine *m, Thread *self)
+{
+    m->nodes[self->own].cached.queue = self->queue;
+    self->step = wrong_machine == QUEUE_BEFORE_LINKED ? A4 : A5;
 }
 
 static void step_a5(Machine *m, Thread *self)
 {
-    self->t = m->tail;
+    self->t = m->tail[self->queue];
     self->step = following(A5);
 }
 
@@ -137,17 +144,17 @@ static void step_a10(Machine *m, u32 k, Reply *reply)
 static void step_a11(Machine *m, u32 k, Reply *reply)
 {
     Thread *self = &m->threads[k];
-    reach(m->tail == self->t ? AT_A11_MOVES : AT_A11_LEAVES);
-    if (m->tail == self->t)
-        m->tail = self->own;
+    reach(m->tail[self->queue] == self->t ? AT_A11_MOVES : AT_A11_LEAVES);
+    if (m->tail[self->queue] == self->t)
+        m->tail[self->queue] = self->own;
     answer(m, k, DONE, 0, reply);
 }
 
 static void step_a12(Machine *m, Thread *self)
 {
-    reach(m->tail == self->t ? AT_A12_MOVES : AT_A12_LEAVES);
-    if (m->tail == self->t)
-        m->tail = m->nodes[self->t].next;
+    reach(m->tail[self->queue] == self->t ? AT_A12_MOVES : AT_A12_LEAVES);
+    if (m->tail[self->queue] == self->t)
+        m->tail[self->queue] = m->nodes[self->t].next;
     self->step = A5;
 }
 
@@ -159,6 +166,7 @@ void step_of_enqueue(Machine *m, u32 k, Reply *reply)
     case A2: step_a2(m, self); break;
     case A3: step_a3(m, self); break;
     case A4: step_a4(m, self); break;
+    case AQ: step_aq(m, self); break;
     case A5: step_a5(m, self); break;
     case A6: step_a6(m, self); break;
     case A7: step_a7(m, k, reply); break;

@@ -37,8 +37,10 @@ u32 some_form(void)
 {
     if (wanted_form != 0)
         return wanted_form;
-    if (on(DESKS_TOO) && chance(50))
+    if (on(DESKS_TOO) && chance(on(QUEUES_TOO) ? 30 : 50))
         return DESKS;
+    if (on(QUEUES_TOO) && chance(50))
+        return TWO;
     return chance(50) ? NARROW : WIDE;
 }
 
@@ -46,6 +48,8 @@ u32 some_form(void)
 void set_head_index(Image *image, u64 index)
 {
     image->head_index = index;
+    if (image->form == TWO)
+        image->head_index_1 = index;
     for (u32 k = 0; image->form == DESKS && k < image->t; k++)
         image->desks[k] = chance(40) ? index : index - (u64)below(index < 9 ? (u32)index + 1 : 9);
     if (image->form == DESKS)
@@ -56,7 +60,7 @@ void set_head_index(Image *image, u64 index)
 static u64 any_index(u32 form)
 {
     u64 bits = random_bits();
-    if (form == NARROW)
+    if (index_bytes(form) == 4)
         return (u32)bits;
     switch (below(4)) {
     case 0: return (u32)bits;
@@ -69,7 +73,7 @@ static u64 any_index(u32 form)
 /* How far below the head index a passed index lies; in version 2 sometimes so far that its low half is above the head's. */
 static u64 passed_by(u32 form, u64 head_index)
 {
-    if (form == WIDE && head_index > LARGEST && chance(30))
+    if (index_bytes(form) == 8 && head_index > LARGEST && chance(30))
         return (u64)LARGEST - below(1000);
     return below(head_index < 1000 ? (u32)head_index + 1 : 1000);
 }
@@ -77,10 +81,10 @@ static u64 passed_by(u32 form, u64 head_index)
 /* A node that recovery leaves aside: blank, unlinked with any index, or linked with a passed one. */
 static Content left_aside(u32 form, u64 head_index)
 {
-    Content blank = {0, 0, 0};
+    Content blank = {0, 0, 0, 0};
     u64 room_above = largest_index(form) - head_index;
-    Content unlinked = {0, chance(50) ? any_index(form) : head_index + below(room_above < 3 ? (u32)room_above + 1 : 3), below(9)};
-    Content passed = {1, head_index - (chance(50) ? 0 : passed_by(form, head_index)), below(9)};
+    Content unlinked = {0, chance(50) ? any_index(form) : head_index + below(room_above < 3 ? (u32)room_above + 1 : 3), below(9), 0};
+    Content passed = {1, head_index - (chance(50) ? 0 : passed_by(form, head_index)), below(9), 0};
     u32 which = below(3);
     return which == 0 ? blank : which == 1 ? unlinked : passed;
 }
@@ -88,7 +92,7 @@ static Content left_aside(u32 form, u64 head_index)
 /* Near zero, near the top of the form, anywhere; in version 2 also just below, at and above 2^32. */
 u64 some_head_index(u32 form)
 {
-    switch (below(form == WIDE ? 8 : 5)) {
+    switch (below(index_bytes(form) == 8 ? 8 : 5)) {
     case 0: return 0;
     case 1: return below(10);
     case 2: return largest_index(form) - below(6);
@@ -103,7 +107,7 @@ u64 some_head_index(u32 form)
 /* The distance to the next index in the queue; in version 2 now and then a whole turn of the low half, or nearly one. */
 static u64 some_gap(u32 form)
 {
-    if (form == WIDE && chance(15))
+    if (index_bytes(form) == 8 && chance(15))
         return (u64)LARGEST + below(3);
     return chance(60) ? 1 : 1 + below(4);
 }
@@ -111,19 +115,24 @@ static u64 some_gap(u32 form)
 /* Recovered nodes at random places, their indices rising with gaps as long as there is room above. */
 static void queued_image(Image *image, u32 wanted)
 {
-    u64 index = image->head_index;
+    u64 indices[QUEUES] = {image->head_index, image->head_index_1};
     u32 put = 0;
-    for (u32 i = 0; i < image->n; i++)
-        image->nodes[i] = left_aside(image->form, image->head_index);
+    for (u32 i = 0; i < image->n; i++) {
+        u32 queue = image->form == TWO ? below(2) : 0;
+        image->nodes[i] = left_aside(image->form, head_of(image, queue));
+        image->nodes[i].queue = queue;
+    }
     while (put < wanted) {
         u64 gap = some_gap(image->form);
-        if (index > largest_index(image->form) - gap)
+        u32 queue = image->form == TWO ? below(2) : 0;
+        if (indices[queue] > largest_index(image->form) - gap)
             break;
-        index += gap;
+        u64 index = indices[queue] += gap;
         u32 node = below(image->n);
         while (is_recovered(image, node))
             node = (node + 1) % image->n;
         image->nodes[node].linked = 1;
+        image->nodes[node].queue = queue;
         image->nodes[node].index = index;
         image->nodes[node].item = chance(20) ? 0 : chance(20) ? LARGEST : below(100);
         put++;
@@ -133,8 +142,10 @@ static void queued_image(Image *image, u32 wanted)
 /* N is set before. */
 void some_image(Image *image)
 {
-    Content blank = {0, 0, 0};
+    Content blank = {0, 0, 0, 0};
     image->form = some_form();
+    if (image->form == TWO && image->n < 3)
+        image->form = WIDE;
     set_head_index(image, 0);
     for (u32 i = 0; i < image->n; i++)
         image->nodes[i] = blank;
@@ -144,7 +155,10 @@ void some_image(Image *image)
     set_head_index(image, some_head_index(image->form));
     if (kind == 4)
         return;
-    queued_image(image, kind == 5 ? image->n - 1 : below(image->n));
+    if (image->form == TWO && chance(60))
+        image->head_index_1 = some_head_index(TWO);
+    u32 most = image->n - queue_count(image->form);
+    queued_image(image, kind == 5 ? most : below(most + 1));
 }
 
 /* A line that may be written back. */
@@ -214,9 +228,10 @@ static Event some_event(Plan *plan)
     u32 k = some_thread(plan);
     if (side.machine.threads[k].step != IDLE)
         return make_event(STEP, k, 0);
+    u32 other = side.machine.form == TWO && chance(50) ? BEGIN_ENQUEUE_1 - BEGIN_ENQUEUE : 0;
     if (chance(plan->enqueue_percent))
-        return make_event(BEGIN_ENQUEUE, k, some_item(plan));
-    return make_event(BEGIN_DEQUEUE, k, 0);
+        return make_event(BEGIN_ENQUEUE + other, k, some_item(plan));
+    return make_event(BEGIN_DEQUEUE + other, k, 0);
 }
 
 static void some_plan(Plan *plan, u32 threads)
@@ -312,7 +327,7 @@ static u64 generate_worn(u8 *bytes)
 {
     Schedule s;
     Plan plan;
-    s.image.n = 2;
+    s.image.n = on(QUEUES_TOO) && chance(30) ? 3 : 2;
     s.t = 1 + below(2);
     s.image.t = s.t;
     some_image(&s.image);

@@ -9,6 +9,22 @@ u64 bit(u32 i)
     return (u64)1 << i;
 }
 
+/* Kinds 6 and 7 are 1 and 2 on queue 1. */
+int begins(u32 kind)
+{
+    return kind == BEGIN_ENQUEUE || kind == BEGIN_DEQUEUE || kind == BEGIN_ENQUEUE_1 || kind == BEGIN_DEQUEUE_1;
+}
+
+int enqueues(u32 kind)
+{
+    return kind == BEGIN_ENQUEUE || kind == BEGIN_ENQUEUE_1;
+}
+
+u32 queue_of_kind(u32 kind)
+{
+    return kind == BEGIN_ENQUEUE_1 || kind == BEGIN_DEQUEUE_1;
+}
+
 u32 line_count(const Machine *m)
 {
     return head_lines(m->form, m->t) + m->n;
@@ -17,14 +33,14 @@ u32 line_count(const Machine *m)
 Content cached_content(const Machine *m, u32 line)
 {
     u32 heads = head_lines(m->form, m->t);
-    Content head = {0, line < heads ? m->lines[line] : 0, 0};
+    Content head = {0, line < heads ? m->lines[line] : 0, 0, 0};
     return line < heads ? head : m->nodes[line - heads].cached;
 }
 
 Content persisted_content(const Machine *m, u32 line)
 {
     u32 heads = head_lines(m->form, m->t);
-    Content head = {0, line < heads ? m->persisted_lines[line] : 0, 0};
+    Content head = {0, line < heads ? m->persisted_lines[line] : 0, 0, 0};
     return line < heads ? head : m->nodes[line - heads].persisted;
 }
 
@@ -127,20 +143,20 @@ static int clean_write_back(const Machine *m, const Event *e)
 /* 9, 10, 13, then 11 or 12 or 19; for a crash 7 and 8 after 13. The place is the event's, which the caller knows. */
 Verdict test_event(const Machine *m, const Event *e)
 {
-    if (e->kind < BEGIN_ENQUEUE || e->kind > CRASH)
+    if (e->kind < BEGIN_ENQUEUE || e->kind > (m->form == TWO ? BEGIN_DEQUEUE_1 : CRASH))
         return verdict(UNKNOWN_KIND, 0);
-    if (e->kind == BEGIN_ENQUEUE || e->kind == BEGIN_DEQUEUE || e->kind == STEP)
+    if (begins(e->kind) || e->kind == STEP)
         if (e->number >= m->t)
             return verdict(NUMBER_TOO_LARGE, 0);
     if (e->kind == WRITE_BACK && e->number >= line_count(m))
         return verdict(NUMBER_TOO_LARGE, 0);
     if (wrong_machine == CLEAN_BEFORE_ZEROS && clean_write_back(m, e))
         return verdict(CLEAN_LINE, 0);
-    if (e->kind != BEGIN_ENQUEUE && e->item != 0)
+    if (!enqueues(e->kind) && e->item != 0)
         return verdict(FIELD_NOT_ZERO, 0);
     if (e->kind == CRASH && e->number != 0)
         return verdict(FIELD_NOT_ZERO, 0);
-    if (e->kind == BEGIN_ENQUEUE || e->kind == BEGIN_DEQUEUE)
+    if (begins(e->kind))
         if (m->threads[e->number].step != IDLE)
             return verdict(BEGIN_ON_BUSY, 0);
     if (e->kind == STEP && m->threads[e->number].step == IDLE)
@@ -155,22 +171,31 @@ Verdict test_event(const Machine *m, const Event *e)
     return verdict(TAKEN, 0);
 }
 
+static int is_enqueue_step(u32 step)
+{
+    return (step != IDLE && step <= A12) || step == A10_FENCE || step == AQ;
+}
+
 static void begin(Machine *m, const Event *e)
 {
     for (u32 j = 0; j < m->t; j++)
-        if (e->kind == BEGIN_ENQUEUE && m->threads[j].step != IDLE && (m->threads[j].step <= A12 || m->threads[j].step == A10_FENCE) && m->threads[j].item == e->item)
+        if (enqueues(e->kind) && is_enqueue_step(m->threads[j].step) && m->threads[j].item == e->item)
             reach(AT_EQUAL_IN_FLIGHT);
     Thread *thread = &m->threads[e->number];
     blank_registers(thread);
     thread->item = e->item;
-    thread->step = e->kind == BEGIN_ENQUEUE ? A1 : D1;
-    reach(e->kind == BEGIN_ENQUEUE ? AT_BEGIN_ENQUEUE : AT_BEGIN_DEQUEUE);
+    thread->queue = queue_of_kind(e->kind);
+    thread->step = enqueues(e->kind) ? A1 : D1;
+    for (u32 j = 0; j < m->t; j++)
+        if (m->threads[j].step != IDLE && m->threads[j].queue != thread->queue)
+            reach(AT_BOTH_QUEUES);
+    reach(enqueues(e->kind) ? AT_BEGIN_ENQUEUE : AT_BEGIN_DEQUEUE);
 }
 
 static void step(Machine *m, u32 k, Reply *reply)
 {
     reach(AT_STEP + m->threads[k].step);
-    if (m->threads[k].step <= A12 || m->threads[k].step == A10_FENCE)
+    if (is_enqueue_step(m->threads[k].step))
         step_of_enqueue(m, k, reply);
     else
         step_of_dequeue(m, k, reply);
@@ -196,6 +221,8 @@ Verdict perform(Machine *m, const Event *e, Reply *reply)
     switch (e->kind) {
     case BEGIN_ENQUEUE:
     case BEGIN_DEQUEUE:
+    case BEGIN_ENQUEUE_1:
+    case BEGIN_DEQUEUE_1:
         begin(m, e);
         break;
     case STEP:

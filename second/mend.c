@@ -53,6 +53,8 @@ static void mend_no_dummy(Image *image, Mending *mending)
 /* "every image that passes 1 to 3": 1, 2, 3, 1. What read_image_nodes says (6, 7, 8) is what is to be mended. */
 static Verdict read_damaged(const u8 *bytes, u64 length, Image *image)
 {
+    if (length >= IMAGE_LEAST && get2(bytes + 3) == 3)
+        return verdict(WRONG_MARK, 0); /* "Version 3 has no conversions and no mender." */
     Verdict v = read_uqi_head(bytes, length, image);
     if (v.number != TAKEN)
         return v;

@@ -171,7 +171,7 @@ void print_start(const u8 *bytes, u64 length)
 /* "A fresh machine is the start of the all-zero image." Two bytes: N and T, refused as contents with T are. */
 void print_fresh(const u8 *bytes, u64 length)
 {
-    static const Content zero = {0, 0, 0};
+    static const Content zero = {0, 0, 0, 0};
     Machine machine;
     Image image;
     Reply reply = {NOTHING, 0, NO_LINE, 0};

@@ -29,16 +29,19 @@ static void print_first_line(const Schedule *s, u64 count)
 
 static void print_ending(const Image *image, u64 k)
 {
-    u32 order[MAX_NODES];
-    u32 count = recovered_in_order(image, order);
     put_number(k);
-    put_text(" ");
-    put_number(image->head_index);
-    for (u32 i = 0; i < count; i++) {
-        put_text(" ");
-        put_number(image->nodes[order[i]].item);
+    for (u32 q = 0; q < queue_count(image->form); q++) {
+        u32 order[MAX_NODES];
+        u32 count = recovered_in_order(image, q, order);
+        put_text(q == 0 ? " " : " | ");
+        put_number(head_of(image, q));
+        for (u32 i = 0; i < count; i++) {
+            put_text(" ");
+            put_number(image->nodes[order[i]].item);
+        }
+        put_text(count == 0 ? " -" : "");
     }
-    put_text(count == 0 ? " -\n" : "\n");
+    put_text("\n");
 }
 
 /* Gives the number of the verdict. */
@@ -182,6 +185,7 @@ void contents_from_bytes(const u8 *bytes, u64 length, Image *image)
     image->head_index = get_index(layout, bytes + 1);
     for (u32 i = 0; i < MAX_NODES; i++) {
         const u8 *at = bytes + 1 + index_bytes(layout) + image_node(layout) * i;
+        image->nodes[i].queue = 0;
         image->nodes[i].linked = at[0];
         image->nodes[i].index = get_index(layout, at + 1);
         image->nodes[i].item = get4(at + 1 + index_bytes(layout));

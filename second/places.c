@@ -3,20 +3,22 @@
 
 static int in_queue(const Machine *m, u32 node)
 {
-    u32 at = m->head;
-    for (u32 steps = 0; at != NONE && steps < m->n; steps++) {
-        if (at == node)
-            return 1;
-        at = m->nodes[at].next;
+    int count = 0;
+    for (u32 q = 0; q < queue_count(m->form); q++) {
+        u32 at = m->head[q];
+        for (u32 steps = 0; at != NONE && steps < m->n && at != node; steps++)
+            at = m->nodes[at].next;
+        count += at == node;
     }
-    return 0;
+    return count;
 }
 
 static int is_held(const Machine *m, u32 node)
 {
     int count = 0;
     for (u32 k = 0; k < m->t; k++)
-        count += m->threads[k].held == node;
+        for (u32 q = 0; q < queue_count(m->form); q++)
+            count += m->threads[k].held[q] == node;
     return count;
 }
 
@@ -26,7 +28,7 @@ static int enqueue_owns(const Machine *m, u32 node)
     int count = 0;
     for (u32 k = 0; k < m->t; k++) {
         const Thread *thread = &m->threads[k];
-        int before = (thread->step >= A2 && thread->step <= A8) || thread->step == A12;
+        int before = (thread->step >= A2 && thread->step <= A8) || thread->step == A12 || thread->step == AQ;
         count += before && thread->own == node;
     }
     return count;

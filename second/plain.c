@@ -56,7 +56,7 @@ static void run_with(const Schedule *s, const u32 *moments, Image *image)
 
 static int same_image(const Image *a, const Image *b)
 {
-    if (a->form != b->form || a->n != b->n || a->head_index != b->head_index)
+    if (a->form != b->form || a->n != b->n || a->head_index != b->head_index || (a->form == TWO && a->head_index_1 != b->head_index_1))
         return 0;
     for (u32 k = 0; a->form == DESKS && k < a->t; k++)
         if (a->desks[k] != b->desks[k])

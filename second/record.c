@@ -25,7 +25,7 @@ static int node_in_range(const Machine *m, const Node *node)
 
 static int uses_own(u32 step)
 {
-    return step == A2 || step == A3 || step == A4 || (step >= A7 && step <= A11) || step == A10_FENCE;
+    return step == A2 || step == A3 || step == A4 || (step >= A7 && step <= A11) || step == A10_FENCE || step == AQ;
 }
 
 static int uses_t(u32 step)
@@ -46,7 +46,8 @@ static int uses_next_read(u32 step)
 /* Steps 20 and 21 are of "UQP", 22 to 24 of request 104. */
 static int is_step(const Machine *m, u32 step)
 {
-    return step < STEPS || (m->form == DESKS && (step == S3 || step == S6)) || (on(FENCES) && step >= A10_FENCE && step <= D6_FENCE);
+    return step < STEPS || (m->form == DESKS && (step == S3 || step == S6)) || (on(FENCES) && step >= A10_FENCE && step <= D6_FENCE) ||
+           (m->form == TWO && step == AQ);
 }
 
 static int is_fence(u32 step)
@@ -59,7 +60,7 @@ static int thread_in_range(const Machine *m, const Thread *thread)
     if (!is_step(m, thread->step) || !index_in_range(m, thread->head_read_index))
         return 0;
     if (!is_node_or_none(m, thread->own) || !is_node_or_none(m, thread->t) || !is_node_or_none(m, thread->head_read) ||
-        !is_node_or_none(m, thread->next_read) || !is_node_or_none(m, thread->held))
+        !is_node_or_none(m, thread->next_read) || !is_node_or_none(m, thread->held[0]))
         return 0;
     if (is_fence(thread->step) && !thread->flushed)
         return 0;
@@ -82,17 +83,38 @@ static int head_lines_in_range(const Machine *m)
     return 1;
 }
 
+/* What version 3 alone has. */
+static int queues_in_range(const Machine *m)
+{
+    if (m->head[1] >= m->n || m->tail[1] >= m->n)
+        return 0;
+    for (u32 i = 0; i < m->n; i++)
+        if (m->nodes[i].cached.queue > 1 || m->nodes[i].persisted.queue > 1)
+            return 0;
+    for (u32 k = 0; k < m->t; k++)
+        if (m->threads[k].queue > 1 || !is_node_or_none(m, m->threads[k].held[1]))
+            return 0;
+    return 1;
+}
+
+static int is_form(u32 form)
+{
+    return form == NARROW || form == WIDE || (form == DESKS && on(DESKS_TOO)) || (form == TWO && on(QUEUES_TOO));
+}
+
 int in_range(const Machine *m)
 {
-    if (m->form != NARROW && m->form != WIDE && (m->form != DESKS || !on(DESKS_TOO)))
+    if (!is_form(m->form))
         return 0;
-    if (m->n < MIN_NODES || m->n > MAX_NODES || m->t < 1 || m->t > MAX_THREADS)
+    if (m->n < (m->form == TWO ? 3 : MIN_NODES) || m->n > MAX_NODES || m->t < 1 || m->t > MAX_THREADS)
         return 0;
     if (!head_lines_in_range(m))
         return 0;
     if (on(ROTATION) && m->last >= m->n)
         return 0;
-    if (m->head >= m->n || m->tail >= m->n || (m->free & ~low_bits(m->n)) != 0)
+    if (m->form == TWO && !queues_in_range(m))
+        return 0;
+    if (m->head[0] >= m->n || m->tail[0] >= m->n || (m->free & ~low_bits(m->n)) != 0)
         return 0;
     for (u32 i = 0; i < m->n; i++)
         if (!node_in_range(m, &m->nodes[i]))
@@ -160,7 +182,7 @@ static void walk_thread(Walk *walk, Thread *thread)
     field(walk, 8, &thread->head_read_index);
     field32(walk, 1, &thread->next_read);
     field32(walk, 4, &thread->item);
-    field32(walk, 1, &thread->held);
+    field32(walk, 1, &thread->held[0]);
 }
 
 enum { PASSED = 255 };
@@ -203,7 +225,7 @@ static void walk_flush(Walk *walk, Machine *m, u32 k)
 {
     Thread *thread = &m->threads[k];
     u32 place = walk->to ? place_of_flush(m, k) : 0;
-    Content content = thread->flush_content, none = {0, 0, 0};
+    Content content = thread->flush_content, none = {0, 0, 0, 0};
     if (walk->to && place == 0)
         content = none;
     field32(walk, 1, &place);
@@ -216,15 +238,33 @@ static void walk_flush(Walk *walk, Machine *m, u32 k)
     flush_from_place(m, k, place);
 }
 
+/* Behind all else: the other queue's Head and Tail, each node's two queue bytes, each thread's queue, its other held node and the queue byte it flushed. */
+static void walk_queues(Walk *walk, Machine *m)
+{
+    field32(walk, 1, &m->head[1]);
+    field32(walk, 1, &m->tail[1]);
+    for (u32 i = 0; i < MAX_NODES; i++) {
+        field32(walk, 1, &m->nodes[i].cached.queue);
+        field32(walk, 1, &m->nodes[i].persisted.queue);
+    }
+    for (u32 k = 0; k < MAX_THREADS; k++) {
+        u32 flushed = m->threads[k].flushed ? m->threads[k].flush_content.queue : 0;
+        field32(walk, 1, &m->threads[k].queue);
+        field32(walk, 1, &m->threads[k].held[1]);
+        field32(walk, 1, &flushed);
+        m->threads[k].flush_content.queue = flushed;
+    }
+}
+
 /* Behind the mark and the version. */
 static void walk_machine(Walk *walk, Machine *m)
 {
     field32(walk, 1, &m->form);
     field32(walk, 1, &m->n);
     field32(walk, 1, &m->t);
-    field32(walk, 1, &m->head);
+    field32(walk, 1, &m->head[0]);
     walk_head_lines(walk, m->lines);
-    field32(walk, 1, &m->tail);
+    field32(walk, 1, &m->tail[0]);
     field(walk, 8, &m->free);
     walk_head_lines(walk, m->persisted_lines);
     for (u32 i = 0; i < MAX_NODES; i++)
@@ -235,6 +275,8 @@ static void walk_machine(Walk *walk, Machine *m)
         field32(walk, 1, &m->last);
     for (u32 k = 0; on(FENCES) && k < MAX_THREADS; k++)
         walk_flush(walk, m, k);
+    if (on(QUEUES_TOO))
+        walk_queues(walk, m);
 }
 
 /* What is on or off does not change while the program runs. */

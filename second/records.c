@@ -9,27 +9,31 @@ static u32 some_node(const Machine *m, u32 none_percent)
 /* Small, at the top of the form, and in version 2 about 2^32. */
 static u64 some_index(u32 form)
 {
-    if (form == WIDE && chance(10))
+    if (index_bytes(form) == 8 && chance(10))
         return (u64)LARGEST - 1 + below(4);
     return chance(10) ? largest_index(form) - below(2) : below(6);
 }
 
 static Content some_content(u32 form)
 {
-    Content c = {below(2), some_index(form), chance(50) ? below(4) : (u32)random_bits()};
+    Content c = {below(2), some_index(form), chance(50) ? below(4) : (u32)random_bits(), 0};
+    if (form == TWO)
+        c.queue = below(2);
     return c;
 }
 
 static void random_thread(const Machine *m, Thread *thread)
 {
-    thread->step = chance(20) ? IDLE : below(on(FENCES) || chance(2) ? LAST_STEP + 1 : m->form == DESKS ? A10_FENCE : STEPS);
+    thread->step = chance(20) ? IDLE : below(on(FENCES) || on(QUEUES_TOO) || chance(2) ? LAST_STEP + 1 : m->form == DESKS ? A10_FENCE : STEPS);
     thread->own = some_node(m, 2);
     thread->t = some_node(m, 2);
-    thread->head_read = chance(50) ? m->head : some_node(m, 2);
+    thread->head_read = chance(50) ? m->head[0] : some_node(m, 2);
     thread->head_read_index = chance(50) ? m->lines[0] : some_index(m->form);
     thread->next_read = some_node(m, 2);
     thread->item = (u32)random_bits();
-    thread->held = some_node(m, 30);
+    thread->queue = m->form == TWO ? below(2) : 0;
+    thread->held[0] = some_node(m, 30);
+    thread->held[1] = some_node(m, 30);
     thread->flushed = chance(90);
     thread->flush_time = below(20);
     thread->flush_content = some_content(m->form);
@@ -39,12 +43,14 @@ static void random_thread(const Machine *m, Thread *thread)
 static void random_record(Machine *m)
 {
     m->form = some_form();
-    m->n = chance(70) ? 2 + below(4) : 2 + below(63);
+    m->n = m->form == TWO ? 3 + below(4) : chance(70) ? 2 + below(4) : 2 + below(63);
     m->t = 1 + below(8);
-    m->head = below(m->n);
+    m->head[0] = below(m->n);
+    m->head[1] = below(m->n);
     for (u32 line = 0; line < MAX_THREADS; line++)
         m->lines[line] = some_index(m->form);
-    m->tail = below(m->n);
+    m->tail[0] = below(m->n);
+    m->tail[1] = below(m->n);
     m->clock = 20;
     for (u32 line = 0; line < MAX_LINES; line++)
         m->since[line] = chance(70) ? 0 : below(20);
@@ -103,7 +109,9 @@ static void some_record_event(const Machine *m, u8 *at)
     else if (which == 3)
         e.kind = CRASH, e.number = chance(90) ? 0 : 1;
     else if (which == 4)
-        e.kind = below(7), e.number = below(10), e.item = below(2);
+        e.kind = below(9), e.number = below(10), e.item = below(2);
+    if (m->form == TWO && begins(e.kind) && e.kind <= BEGIN_DEQUEUE && chance(50))
+        e.kind += BEGIN_ENQUEUE_1 - BEGIN_ENQUEUE;
     event_to_bytes(&e, at);
 }
 

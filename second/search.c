@@ -9,6 +9,7 @@ static const char *const machine_names[MACHINES] = {
     "s6-old-dummy", "s3-line-0", "persist-line-0", "first-desk", "last-desk",
     "clean-without-item", "clean-before-zeros",
     "fence-present", "fence-backwards", "empty-at-flush",
+    "one-held", "queue-before-linked", "dummies-linked",
 };
 
 u32 machine_of_name(const char *name)
@@ -73,7 +74,7 @@ static void mark_operation(const u8 *bytes, u32 first, u8 *drop)
     const u8 *events = bytes + events_from(bytes);
     for (u32 i = first; i < get2(bytes + 6); i++) {
         const u8 *e = events + EVENT_BYTES * i;
-        int same = e[0] <= STEP && e[1] == events[EVENT_BYTES * first + 1];
+        int same = (e[0] <= STEP || begins(e[0])) && e[1] == events[EVENT_BYTES * first + 1];
         if (e[0] == CRASH || (i > first && same && e[0] != STEP))
             return;
         if (same)
@@ -93,7 +94,7 @@ static int shrink_events(u32 machine, u8 *bytes, u64 *length)
         }
     for (u32 first = 0; first < get2(bytes + 6); first++) {
         u8 drop[MAX_EVENTS] = {0};
-        if ((bytes + events_from(bytes))[EVENT_BYTES * first] > BEGIN_DEQUEUE)
+        if ((bytes + events_from(bytes))[EVENT_BYTES * first] > BEGIN_DEQUEUE && !begins((bytes + events_from(bytes))[EVENT_BYTES * first]))
             continue;
         mark_operation(bytes, first, drop);
         shrunk |= try_without(machine, bytes, length, drop);
@@ -128,7 +129,7 @@ static int shrink_rest(u32 machine, u8 *bytes, u64 length)
 static int shrink_nodes(u32 machine, u8 *bytes, u64 *length)
 {
     u64 from = events_from(bytes), node = image_node(form_of(bytes + SCHEDULE_HEAD));
-    if (bytes[SCHEDULE_HEAD + 5] <= MIN_NODES)
+    if (bytes[SCHEDULE_HEAD + 5] <= MIN_NODES + (form_of(bytes + SCHEDULE_HEAD) == TWO))
         return 0;
     copy(trial, bytes, from - node);
     copy(trial + from - node, bytes + from, *length - from);

@@ -18,7 +18,7 @@ enum {
     SCHEDULE_HEAD = 8,
     IMAGE_LEAST = 10, /* "fewer than 10 bytes left", in every version */
     EVENT_BYTES = 6,
-    MAX_IMAGE = 846, /* 14 + 13 * 64, of version 2 */
+    MAX_IMAGE = 918, /* 22 + 14 * 64, of version 3 */
     MAX_SCHEDULE = SCHEDULE_HEAD + MAX_IMAGE + EVENT_BYTES * MAX_EVENTS,
     RECORD_MARK = 5,        /* "UQM" and the version */
     RECORD_VERSION = 2,
@@ -32,8 +32,9 @@ enum {
 };
 static const u32 LARGEST = 4294967295u; /* of 32 bits: an item, and an index of version 1 */
 
-/* An image's form: "UQI" version 1 with indices of 32 bits, version 2 with 64; "UQP" version 1 with one head index per desk (request 101). */
-enum { NARROW = 1, WIDE = 2, DESKS = 4 };
+/* An image's form: "UQI" version 1 with indices of 32 bits, version 2 with 64; "UQP" version 1 with one head index per desk (request 101);
+   "UQI" version 3 with two queues (request 113). */
+enum { NARROW = 1, WIDE = 2, TWO = 3, DESKS = 4 };
 
 /* Numbers given back, as the paper numbers them. */
 enum {
@@ -71,6 +72,7 @@ typedef struct Content {
     u32 linked;
     u64 index;
     u32 item;
+    u32 queue; /* of version 3 alone */
 } Content;
 
 typedef struct Image {
@@ -78,12 +80,13 @@ typedef struct Image {
     u32 n;
     u32 t;          /* of "UQP" alone */
     u64 head_index; /* of "UQP" the largest of the desks' */
+    u64 head_index_1; /* of queue 1, in version 3 */
     u64 desks[MAX_THREADS];
     Content nodes[MAX_NODES];
 } Image;
 
 /* Kinds of an event. */
-enum { BEGIN_ENQUEUE = 1, BEGIN_DEQUEUE = 2, STEP = 3, WRITE_BACK = 4, CRASH = 5 };
+enum { BEGIN_ENQUEUE = 1, BEGIN_DEQUEUE = 2, STEP = 3, WRITE_BACK = 4, CRASH = 5, BEGIN_ENQUEUE_1 = 6, BEGIN_DEQUEUE_1 = 7 };
 
 typedef struct Event {
     u32 kind;
@@ -106,8 +109,11 @@ enum {
     STEPS = 20, /* of "UQI" */
     S3 = 20, S6, /* "UQP": the stores before D3's and D6's persist */
     A10_FENCE = 22, D3_FENCE, D6_FENCE, /* request 104: A10, D3 and D6 are then the flushes */
-    LAST_STEP = D6_FENCE
+    AQ = 25, /* version 3: the store of the queue byte, between A4 and A5 */
+    LAST_STEP = AQ
 };
+
+enum { QUEUES = 2 };
 
 typedef struct Node {
     Content cached;
@@ -124,7 +130,8 @@ typedef struct Thread {
     u64 head_read_index; /* Head's index as read at D1 */
     u32 next_read;       /* next as read at D2 */
     u32 item;            /* to be enqueued, or read at D5 */
-    u32 held;            /* old dummy of the previous successful dequeue */
+    u32 held[QUEUES];    /* old dummy of the previous successful dequeue, of each queue */
+    u32 queue;           /* the queue of the operation */
     u32 flushed;         /* request 104: 1 between a flush and its fence */
     u64 flush_time;
     Content flush_content;
@@ -134,9 +141,9 @@ typedef struct Machine {
     u32 form; /* that of the start's image: it decides when an index is worn out */
     u32 n;
     u32 t;
-    u32 head;
+    u32 head[QUEUES];
     u64 lines[MAX_THREADS]; /* the head lines' indices: line 0 is Head's */
-    u32 tail;
+    u32 tail[QUEUES];
     u64 free; /* bit i: node i is free */
     u32 last; /* request 106: the node last handed out */
     u64 persisted_lines[MAX_THREADS];
@@ -209,12 +216,15 @@ enum {
     FENCE_PRESENT,
     FENCE_BACKWARDS,
     EMPTY_AT_FLUSH,
+    ONE_HELD,
+    QUEUE_BEFORE_LINKED,
+    DUMMIES_LINKED,
     MACHINES
 };
 extern u32 wrong_machine;
 
 /* switches.c: the requests that may be on or off */
-enum { ROTATION, DESKS_TOO, CLEAN, FENCES, SWITCHES };
+enum { ROTATION, DESKS_TOO, CLEAN, FENCES, QUEUES_TOO, SWITCHES };
 int on(u32 which);
 void turn(const char *name, u32 to);
 void set(u32 which, u32 to);
@@ -270,7 +280,9 @@ Verdict test_recovered(const Image *image);
 Verdict test_contents(const Image *image);
 Verdict write_image(const Image *image, u8 *buffer, u64 room);
 int is_recovered(const Image *image, u32 node);
-u32 recovered_in_order(const Image *image, u32 *order);
+u32 recovered_in_order(const Image *image, u32 queue, u32 *order);
+u64 head_of(const Image *image, u32 queue);
+u32 queue_count(u32 form);
 void image_to_bytes(const Image *image, u8 *bytes);
 
 /* convert.c */
@@ -331,6 +343,9 @@ int is_clean(const Machine *m, u32 line);
 extern int clean_waived; /* 1 while 19 is not given, in the runs of the plain way */
 Verdict perform(Machine *m, const Event *event, Reply *reply);
 u32 line_count(const Machine *m);
+int begins(u32 kind);
+int enqueues(u32 kind);
+u32 queue_of_kind(u32 kind);
 Content cached_content(const Machine *m, u32 line);
 Content persisted_content(const Machine *m, u32 line);
 
@@ -385,7 +400,7 @@ void print_verdict(Verdict v);
 
 /* counts.c: how often each step, branch, answer and refusal was reached */
 enum {
-    AT_STEP = 0, /* + step number 1..24 */
+    AT_STEP = 0, /* + step number 1..25 */
     AT_REPLY = 32, /* + reply number 0..5 */
     AT_NUMBER = 38, /* + number given back 0..20 */
     AT_A6_NONE = AT_NUMBER + NUMBERS, AT_A6_SOME, AT_A8_LINKS, AT_A8_FAILS, AT_A11_MOVES, AT_A11_LEAVES, AT_A12_MOVES, AT_A12_LEAVES,
@@ -396,6 +411,7 @@ enum {
     AT_NODES_2, AT_NODES_64, AT_THREADS_1, AT_THREADS_8, AT_ITEM_0, AT_ITEM_LARGEST, AT_EQUAL_IN_FLIGHT,
     AT_NARROW, AT_WIDE, AT_A7_PASSES_32, AT_A7_WIDE_TO_LARGEST, AT_WORN_NARROW, AT_WORN_WIDE, AT_HIGH_HALF_DECIDES, AT_LOW_HALVES_EQUAL,
     AT_DESKS, AT_LARGEST_NOT_FIRST,
+    AT_TWO, AT_BOTH_QUEUES,
     AT_FENCE_MOVES, AT_FENCE_STAYS, AT_FENCE_NOT_PRESENT,
     AT_A1_ROUND, AT_A1_LAST_AGAIN, AT_A1_NOT_LOWEST,
     POINTS

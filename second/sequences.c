@@ -10,13 +10,14 @@ static u32 added; /* steps that the sequence at hand gains because persists are 
 static void open_schedule(u32 n, u32 t, u64 head_index)
 {
     Schedule s;
-    Content blank = {0, 0, 0};
+    Content blank = {0, 0, 0, 0};
     s.t = t;
     s.event_count = 0;
     s.image.form = form;
     s.image.n = n;
     s.image.t = t;
     s.image.head_index = head_index;
+    s.image.head_index_1 = head_index;
     for (u32 k = 0; k < MAX_THREADS; k++)
         s.image.desks[k] = head_index;
     for (u32 i = 0; i < n && i < MAX_NODES; i++)
@@ -136,6 +137,15 @@ static void build_at_flush(u32 written)
     steps(0, 1);
 }
 
+/* Version 3, three nodes, node 1's queue byte 1 beforehand: an enqueue of 7 on one of the queues. */
+static void build_on_queue(u32 queue, u32 count, u32 persists)
+{
+    open_schedule(3, 1, 0);
+    bytes[SCHEDULE_HEAD + 22 + 14 + 1] = 1;
+    add(queue == 1 ? BEGIN_ENQUEUE_1 : BEGIN_ENQUEUE, 0, 7);
+    steps_persisting(0, count, persists);
+}
+
 /* Node 1's item goes from 0 to 1 and back, so its line is clean when it is written back. */
 static void build_came_back(void)
 {
@@ -200,7 +210,7 @@ typedef struct Sequence {
     u32 on, off; /* bits of the requests that must be on, or off, for what is stated */
 } Sequence;
 
-enum { ONE_THREAD, TWO_THREADS, WORN, WORN_WRITTEN, OVERTAKEN, WRITE_BACKS, HEAD_ONLY, ONE_EVENT, NO_BYTES, PAST_32, CUT_IMAGE, WORN_ON, QUEUE_AT, TWO_T, CAME_BACK, AT_FLUSH };
+enum { ONE_THREAD, TWO_THREADS, WORN, WORN_WRITTEN, OVERTAKEN, WRITE_BACKS, HEAD_ONLY, ONE_EVENT, NO_BYTES, PAST_32, CUT_IMAGE, WORN_ON, QUEUE_AT, TWO_T, CAME_BACK, AT_FLUSH, ON_QUEUE, QUEUE_BYTE, ONE_EVENT_OF_3 };
 
 static const Sequence sequences[] = {
     {"p1", ONE_THREAD, 1, 0, 0, "UQS 1 threads 1 nodes 2 events 10 endings 4\n0 0 -\n1 0 -\n2 0 -\n3 0 7\n", 0, 0, 0, 0, 0},
@@ -301,6 +311,22 @@ static const Sequence sequences[] = {
     {"p2-flushed", ONE_THREAD, 7, 0, 0, "UQS 1 threads 1 nodes 2 events 11 endings 4\n0 0 -\n1 0 -\n2 0 -\n3 0 7\n", 0, 0, 0, 1 << FENCES, 0},
     {"content-at-flush", AT_FLUSH, 0, 0, 0, "UQS 1 threads 2 nodes 3 events 11 endings 2\n0 1 9\n1 2 -\n", 0, 0, 0, 1 << FENCES, 0},
     {"later-one-stays", AT_FLUSH, 1, 0, 0, "UQS 1 threads 2 nodes 3 events 12 endings 1\n0 2 -\n", 0, 0, 0, 1 << FENCES, 0},
+    /* request 113: the fresh machine has two endings, since the start stores queue 1 in the second dummy; P1 and P2 with the queue byte of node 1 set before, on both queues */
+    {"p8-queues", HEAD_ONLY, 3, 1, 5, "UQS 1 threads 1 nodes 3 events 0 endings 4\n0 5 - | 5 -\n1 5 - | 5 -\n2 5 - | 5 -\n3 5 - | 5 -\n", 0, 0, 3, 1 << QUEUES_TOO, 0},
+    {"p9-queues", HEAD_ONLY, 3, 1, 0, "UQS 1 threads 1 nodes 3 events 0 endings 2\n0 0 - | 0 -\n1 0 - | 0 -\n", 0, 0, 3, 1 << QUEUES_TOO, 0},
+    {"p1-queues", ON_QUEUE, 0, 10, 0, "UQS 1 threads 1 nodes 3 events 11 endings 4\n0 0 - | 0 -\n1 0 - | 0 -\n2 0 - | 0 -\n3 0 7 | 0 -\n", 0, 0, 3, 1 << QUEUES_TOO, 0},
+    {"p1-queue-1", ON_QUEUE, 1, 10, 0, "UQS 1 threads 1 nodes 3 events 11 endings 5\n0 0 - | 0 -\n1 0 - | 0 -\n2 0 - | 0 -\n3 0 - | 0 -\n4 0 - | 0 7\n", 0, 0, 3, 1 << QUEUES_TOO, 0},
+    {"p2-queues", ON_QUEUE, 0, 11, 1, "UQS 1 threads 1 nodes 3 events 12 endings 1\n0 0 7 | 0 -\n", 0, 0, 3, 1 << QUEUES_TOO, 0},
+    {"p2-queue-1", ON_QUEUE, 1, 11, 1, "UQS 1 threads 1 nodes 3 events 12 endings 1\n0 0 - | 0 7\n", 0, 0, 3, 1 << QUEUES_TOO, 0},
+    {"p2-answer-queues", ON_QUEUE, 1, 12, 1, "UQS 1 threads 1 nodes 3 events 13 endings 1\n0 0 - | 0 7\n", 12, DONE, 3, 1 << QUEUES_TOO, 0},
+    {"nodes-2-queues", HEAD_ONLY, 2, 1, 0, "refused 3 at 0\n", 0, 0, 3, 1 << QUEUES_TOO, 0},
+    {"queue-byte-2", QUEUE_BYTE, 2, 0, 0, "refused 6 at 1\n", 0, 0, 3, 1 << QUEUES_TOO, 0},
+    {"kind-8-queues", ONE_EVENT_OF_3, 8, 0, 0, "refused 9 at 0\n", 0, 0, 3, 1 << QUEUES_TOO, 0},
+    {"kind-6-thread-1", ONE_EVENT_OF_3, BEGIN_ENQUEUE_1, 1, 0, "refused 10 at 0\n", 0, 0, 3, 1 << QUEUES_TOO, 0},
+    {"kind-7-item", ONE_EVENT_OF_3, BEGIN_DEQUEUE_1, 0, 1, "refused 13 at 0\n", 0, 0, 3, 1 << QUEUES_TOO, 0},
+    {"last-line-queues", ONE_EVENT_OF_3, WRITE_BACK, 5, 0, "refused 10 at 0\n", 0, 0, 3, 1 << QUEUES_TOO, 0},
+    {"kind-6", ONE_EVENT, BEGIN_ENQUEUE_1, 0, 1, "refused 9 at 0\n", 0, 0, 0, 0, 0},
+    {"kind-7-wide", ONE_EVENT, BEGIN_DEQUEUE_1, 0, 0, "refused 9 at 0\n", 0, 0, 1, 0, 0},
     {"queued-behind-free", QUEUE_AT, 2, 0, 0, "UQS 1 threads 1 nodes 4 events 3 endings 2\n0 0 4\n1 0 4\n", 0, 0, 0, 0, 0},
 };
 /* Whether what is stated holds with the requests that are on. */
@@ -318,7 +344,7 @@ static void build(const Sequence *s)
 {
     length = 0;
     added = 0;
-    form = s->wide == 2 ? DESKS : s->wide == 1 ? WIDE : NARROW;
+    form = s->wide == 3 ? TWO : s->wide == 2 ? DESKS : s->wide == 1 ? WIDE : NARROW;
     switch (s->builder) {
     case ONE_THREAD: build_p1_to_p5(s->a); break;
     case TWO_THREADS: build_p6_p7(s->a); break;
@@ -334,6 +360,9 @@ static void build(const Sequence *s)
     case QUEUE_AT: build_queue_at(s->a); break;
     case CAME_BACK: build_came_back(); break;
     case AT_FLUSH: build_at_flush(s->a); break;
+    case ON_QUEUE: build_on_queue(s->a, s->b, s->c); break;
+    case QUEUE_BYTE: open_schedule(3, 1, 0); bytes[SCHEDULE_HEAD + 22 + 14 + 1] = (u8)s->a; break;
+    case ONE_EVENT_OF_3: open_schedule(3, 1, 0); add(s->a, s->b, s->c); break;
     case TWO_T: open_schedule(s->a, s->b, 0); bytes[5] = 1; break;
     default: break;
     }

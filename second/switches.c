@@ -2,8 +2,8 @@
 #include "second.h"
 #include "switches.h"
 
-static u32 turned[SWITCHES] = {ROTATION_LANDED, DESKS_LANDED, CLEAN_LANDED, FENCES_LANDED};
-static const char *const names[SWITCHES] = {"rotation", "desks", "clean", "fences"};
+static u32 turned[SWITCHES] = {ROTATION_LANDED, DESKS_LANDED, CLEAN_LANDED, FENCES_LANDED, QUEUES_LANDED};
+static const char *const names[SWITCHES] = {"rotation", "desks", "clean", "fences", "queues"};
 
 int on(u32 which)
 {
@@ -27,7 +27,7 @@ void set(u32 which, u32 to)
 
 u32 record_head_lines(void)
 {
-    return on(DESKS_TOO) ? RECORD_HEAD_LINES_WITH_DESKS : RECORD_HEAD_LINES;
+    return on(DESKS_TOO) || on(QUEUES_TOO) ? RECORD_HEAD_LINES_WITH_DESKS : RECORD_HEAD_LINES;
 }
 
 /* A line a request: its name, and whether it has landed (or was turned on). */

@@ -7,7 +7,8 @@ enum {
     ROTATION_LANDED = 0, /* request 106, `rotation` */
     DESKS_LANDED = 0,    /* request 101, `desks` */
     CLEAN_LANDED = 0,    /* request 102, `clean` */
-    FENCES_LANDED = 0    /* request 104, `fences` */
+    FENCES_LANDED = 0,   /* request 104, `fences` */
+    QUEUES_LANDED = 0    /* request 113, `queues` */
 };
 
 /* How many head lines a machine record's bytes have, cached and persisted: 1, so 1,970 bytes; 8 from request 101 on, so 2,082. */

@@ -158,7 +158,7 @@ static u32 say_node(const u64 *numbers)
 {
     if (numbers[0] >= telling.n)
         return NUMBER_TOO_BIG;
-    Content c = {(u32)numbers[1], (u32)numbers[2], (u32)numbers[3]};
+    Content c = {(u32)numbers[1], (u32)numbers[2], (u32)numbers[3], 0};
     telling.nodes[numbers[0]] = c;
     return GOOD;
 }
@@ -197,7 +197,7 @@ static u32 say_line(const Cut_line *line)
 static u32 listen(const u8 *text, u64 length, u64 *at_line)
 {
     const u8 *end = text + length;
-    Content blank = {0, 0, 0};
+    Content blank = {0, 0, 0, 0};
     telling.named = 0;
     telling.t = 1;
     telling.n = telling.head = telling.event_count = 0;
