@@ -287,6 +287,23 @@ static u64 generate_small(u8 *bytes, u32 most_events)
     return run_plan(&plan, &s, bytes);
 }
 
+/* Within the limits of request 108 and a little beyond, most with few enough combinations of added write-backs; some begin in the middle of things. */
+static u64 generate_plainest(u8 *bytes)
+{
+    Schedule s;
+    Plan plan;
+    s.image.n = chance(60) ? 2 : chance(60) ? 3 : 4 + (u32)chance(10);
+    s.t = s.image.n == 2 ? 1 + below(2) : 1 + below(on(DESKS_TOO) ? 2 : 3);
+    s.image.t = s.t;
+    some_image(&s.image);
+    some_plan(&plan, s.t);
+    plan.events = chance(5) ? 13 : below(s.image.n == 2 ? 13 : s.image.n == 3 ? 10 : 6);
+    plan.limit = 600;
+    plan.write_back_percent = chance(50) ? 0 : 20;
+    plan.crash_per_mille = chance(80) ? 0 : 60;
+    return run_plan(&plan, &s, bytes);
+}
+
 /* Bursts on few threads without write-backs: nodes come round again while somebody still looks at them. */
 static u64 generate_bursts(u8 *bytes)
 {
@@ -425,6 +442,10 @@ u64 generate_input(u64 seed, u64 number, const char *shape, u8 *bytes)
         return generate_import(number, bytes);
     if (same_text(shape, "exports"))
         return generate_export(number, bytes);
+    if (same_text(shape, "listed"))
+        return generate_listed(number, bytes);
+    if (same_text(shape, "plainest"))
+        return generate_plainest(bytes);
     if (same_text(shape, "probes"))
         return generate_probe(number, bytes);
     if (same_text(shape, "mixed"))

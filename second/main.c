@@ -296,6 +296,28 @@ static int mode_same_when_fenced(int count, char **words)
     return mode_hold(count, words, same_when_fenced);
 }
 
+static int mode_plainly_same(int count, char **words)
+{
+    return mode_hold(count, words, plainly_same);
+}
+
+static int mode_lists_hold(int count, char **words)
+{
+    return mode_hold(count, words, lists_hold);
+}
+
+static int mode_plain_pages(int count, char **words)
+{
+    (void)count, (void)words;
+    return each_input(print_plainly);
+}
+
+static int mode_listed(int count, char **words)
+{
+    (void)count, (void)words;
+    return each_input(print_listed);
+}
+
 static int mode_mend_two_ways(int count, char **words)
 {
     return mode_hold(count, words, mend_two_ways);
@@ -381,6 +403,7 @@ static const struct {
     {"imported", mode_imported}, {"exported", mode_exported}, {"out-and-in", mode_out_and_in},
     {"clean-or-same", mode_clean_or_same},
     {"fenced", mode_fenced}, {"same-when-fenced", mode_same_when_fenced},
+    {"plain-pages", mode_plain_pages}, {"plainly-same", mode_plainly_same}, {"listed", mode_listed}, {"lists-hold", mode_lists_hold},
     {"mended", mode_mended}, {"mend-two-ways", mode_mend_two_ways},
     {"replayed", mode_replayed}, {"probed", mode_probed}, {"replay-by-parts", mode_replay_by_parts},
     {"judged", mode_judged}, {"drawn", mode_drawn}, {"histories", mode_histories},

@@ -97,20 +97,28 @@ static Finding finding(u32 result, u64 ending, const char *why, u64 work)
     return f;
 }
 
-/* The images left, each once, in the order in which they first turn up; then held against the page's endings in order. */
-static Finding every_combination(const Schedule *s, u64 count)
+/* The images left, each once, in the order in which they first turn up; gives their number. */
+static u64 leave_images(const Schedule *s, u64 *runs)
 {
     u32 moments[MAX_LINES] = {0};
-    u64 runs = 0, found = 0, known;
+    u64 found = 0, known;
     Image image;
     do {
         run_with(s, moments, &image);
-        runs++;
+        ++*runs;
         for (known = 0; known < found && !same_image(&left[known], &image);)
             known++;
         if (known == found && found < MAX_ENDINGS)
             left[found++] = image;
     } while (next_combination(moments, lines_of(s)));
+    return found;
+}
+
+/* Held against the page's endings in order. */
+static Finding every_combination(const Schedule *s, u64 count)
+{
+    Image image;
+    u64 runs = 0, found = leave_images(s, &runs);
     if (found != count)
         return finding(CONTRADICTS, found, "the plain way leaves another number of images", runs);
     for (u64 k = 0; k < count; k++) {
@@ -210,4 +218,71 @@ Finding plain_way(const u8 *bytes, u64 length)
     Finding f = by_runs(&s, count);
     clean_waived = 0;
     return f;
+}
+
+/* ---- request 108: the call */
+
+/* "for every schedule of at most 12 events, 4 nodes and 6 lines ... larger ones get 15, place 0, after all others but 16 and 17" */
+static int larger(const Schedule *s)
+{
+    return s->event_count > 12 || s->image.n > 4 || lines_of(s) > 6;
+}
+
+/* The page's images by the plain way, as `endings-many` prints them. */
+void print_plainly(const u8 *bytes, u64 length)
+{
+    Schedule s;
+    u64 count, runs = 0, sum = NO_SUM;
+    u8 buffer[MAX_IMAGE];
+    Verdict v = endings_of(bytes, length, &s, &the_bench, &count);
+    if (v.number == TAKEN && larger(&s))
+        v = verdict(TOO_MANY_ENDINGS, 0);
+    if (v.number != TAKEN) {
+        print_refusal(v);
+        return;
+    }
+    find_last_start(&s);
+    clean_waived = 1;
+    count = leave_images(&s, &runs);
+    clean_waived = 0;
+    put_text("endings ");
+    put_number(count);
+    put_text("\n");
+    for (u64 k = 0; k < count; k++) {
+        image_to_bytes(&left[k], buffer);
+        if (count <= 32) {
+            put_hex(buffer, length_of(&left[k]));
+            put_text("\n");
+        }
+        sum = add_to_sum(sum, buffer, length_of(&left[k]));
+    }
+    put_text("sum ");
+    put_sum(sum);
+    put_text("\n");
+    print_refusal(verdict(NO_SUCH_ENDING, 0));
+    print_refusal(verdict(BUFFER_TOO_SHORT, 0));
+}
+
+/* What the call prints is what the page's endings are, or a refusal by 15 where the schedule is larger. */
+Finding plainly_same(const u8 *bytes, u64 length)
+{
+    enum { PRINTED = 1 << 16 };
+    static u8 plainly[PRINTED], endings[PRINTED];
+    Schedule s;
+    capture_output(endings, PRINTED);
+    print_endings(bytes, length);
+    u64 size = end_capture(), count;
+    if (endings_of(bytes, length, &s, &the_bench, &count).number == TAKEN && larger(&s)) {
+        capture_output(endings, PRINTED);
+        print_refusal(verdict(TOO_MANY_ENDINGS, 0));
+        size = end_capture();
+    }
+    capture_output(plainly, PRINTED);
+    print_plainly(bytes, length);
+    if (end_capture() != size + (u64)plant_now)
+        return finding(CONTRADICTS, 0, "the plain way's images are others", 1);
+    for (u64 i = 0; i < size; i++)
+        if (plainly[i] != endings[i])
+            return finding(CONTRADICTS, 0, "the plain way's images are others", 1);
+    return finding(AGREES, 0, "", 1);
 }

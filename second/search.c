@@ -10,6 +10,7 @@ static const char *const machine_names[MACHINES] = {
     "clean-without-item", "clean-before-zeros",
     "fence-present", "fence-backwards", "empty-at-flush",
     "one-held", "queue-before-linked", "dummies-linked",
+    "by-item", "unanswered-never-in",
 };
 
 u32 machine_of_name(const char *name)

@@ -219,6 +219,8 @@ enum {
     ONE_HELD,
     QUEUE_BEFORE_LINKED,
     DUMMIES_LINKED,
+    BY_ITEM,
+    UNANSWERED_NEVER_IN,
     MACHINES
 };
 extern u32 wrong_machine;
@@ -307,6 +309,11 @@ Finding clean_or_same(const u8 *bytes, u64 length);
 /* fences.c */
 int mode_fenced(int count, char **words);
 Finding same_when_fenced(const u8 *bytes, u64 length);
+
+/* list.c */
+void print_listed(const u8 *bytes, u64 length);
+Finding lists_hold(const u8 *bytes, u64 length);
+u64 generate_listed(u64 number, u8 *bytes);
 
 /* mend.c */
 int mode_mended(int count, char **words);
@@ -423,6 +430,8 @@ void count_schedule(const Schedule *schedule);
 
 /* plain.c, judge.c, places.c */
 Finding plain_way(const u8 *bytes, u64 length);
+void print_plainly(const u8 *bytes, u64 length);
+Finding plainly_same(const u8 *bytes, u64 length);
 Finding judge(const u8 *bytes, u64 length);
 enum { IN_QUEUE, IS_FREE, IS_WAITING, IS_HELD, ENQUEUE_OWNS, DEQUEUE_OWNS, PLACES };
 void count_places(const Machine *m, u32 *counts);

@@ -146,6 +146,21 @@ static void build_on_queue(u32 queue, u32 count, u32 persists)
     steps_persisting(0, count, persists);
 }
 
+/* Version 3, four nodes, node 1's queue byte 1 beforehand: 5, 6, 7 through queue 0, then 8 into queue 1 up to its A9. */
+static void build_comes_back(void)
+{
+    open_schedule(4, 1, 0);
+    bytes[SCHEDULE_HEAD + 22 + 14 + 1] = 1;
+    for (u32 item = 5; item <= 7; item++) {
+        add(BEGIN_ENQUEUE, 0, item);
+        steps_persisting(0, 12, 1);
+        add(BEGIN_DEQUEUE, 0, 0);
+        steps_persisting(0, 6, 1);
+    }
+    add(BEGIN_ENQUEUE_1, 0, 8);
+    steps(0, 10);
+}
+
 /* Node 1's item goes from 0 to 1 and back, so its line is clean when it is written back. */
 static void build_came_back(void)
 {
@@ -210,7 +225,7 @@ typedef struct Sequence {
     u32 on, off; /* bits of the requests that must be on, or off, for what is stated */
 } Sequence;
 
-enum { ONE_THREAD, TWO_THREADS, WORN, WORN_WRITTEN, OVERTAKEN, WRITE_BACKS, HEAD_ONLY, ONE_EVENT, NO_BYTES, PAST_32, CUT_IMAGE, WORN_ON, QUEUE_AT, TWO_T, CAME_BACK, AT_FLUSH, ON_QUEUE, QUEUE_BYTE, ONE_EVENT_OF_3 };
+enum { ONE_THREAD, TWO_THREADS, WORN, WORN_WRITTEN, OVERTAKEN, WRITE_BACKS, HEAD_ONLY, ONE_EVENT, NO_BYTES, PAST_32, CUT_IMAGE, WORN_ON, QUEUE_AT, TWO_T, CAME_BACK, AT_FLUSH, ON_QUEUE, QUEUE_BYTE, ONE_EVENT_OF_3, COMES_BACK };
 
 static const Sequence sequences[] = {
     {"p1", ONE_THREAD, 1, 0, 0, "UQS 1 threads 1 nodes 2 events 10 endings 4\n0 0 -\n1 0 -\n2 0 -\n3 0 7\n", 0, 0, 0, 0, 0},
@@ -327,6 +342,8 @@ static const Sequence sequences[] = {
     {"last-line-queues", ONE_EVENT_OF_3, WRITE_BACK, 5, 0, "refused 10 at 0\n", 0, 0, 3, 1 << QUEUES_TOO, 0},
     {"kind-6", ONE_EVENT, BEGIN_ENQUEUE_1, 0, 1, "refused 9 at 0\n", 0, 0, 0, 0, 0},
     {"kind-7-wide", ONE_EVENT, BEGIN_DEQUEUE_1, 0, 0, "refused 9 at 0\n", 0, 0, 1, 0, 0},
+    /* request 114: item 5 was handed out, and its node is recovered with its index in the other queue */
+    {"node-comes-back", COMES_BACK, 0, 0, 0, "UQS 1 threads 1 nodes 4 events 71 endings 5\n0 3 - | 0 -\n1 3 - | 0 -\n2 3 - | 0 -\n3 3 - | 0 -\n4 3 - | 0 8\n", 0, 0, 3, 1 << QUEUES_TOO, 1 << ROTATION},
     {"queued-behind-free", QUEUE_AT, 2, 0, 0, "UQS 1 threads 1 nodes 4 events 3 endings 2\n0 0 4\n1 0 4\n", 0, 0, 0, 0, 0},
 };
 /* Whether what is stated holds with the requests that are on. */
@@ -363,6 +380,7 @@ static void build(const Sequence *s)
     case ON_QUEUE: build_on_queue(s->a, s->b, s->c); break;
     case QUEUE_BYTE: open_schedule(3, 1, 0); bytes[SCHEDULE_HEAD + 22 + 14 + 1] = (u8)s->a; break;
     case ONE_EVENT_OF_3: open_schedule(3, 1, 0); add(s->a, s->b, s->c); break;
+    case COMES_BACK: build_comes_back(); break;
     case TWO_T: open_schedule(s->a, s->b, 0); bytes[5] = 1; break;
     default: break;
     }
