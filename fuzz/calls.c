@@ -44,6 +44,13 @@ static void fill_both(u8 *a, u8 *b, u64 length)
         a[i] = b[i] = (u8)random_bits();
 }
 
+/* How long the image in a schedule's bytes says it is; where there are too few bytes for it to say so, more than there are. */
+static u64 image_in(const u8 *bytes, u64 length)
+{
+    const u8 *image = bytes + SCHEDULE_HEAD;
+    return length < SCHEDULE_HEAD + IMAGE_LEAST ? length + 1 : length_in(image);
+}
+
 int agree_on_bytes(const u8 *bytes, u64 length)
 {
     Schedule schedule;
@@ -51,8 +58,8 @@ int agree_on_bytes(const u8 *bytes, u64 length)
     u64 count = 0;
     u64 skip = length < SCHEDULE_HEAD ? length : SCHEDULE_HEAD;
     u64 image_bytes = length - skip;
-    if (length >= SCHEDULE_HEAD + IMAGE_HEAD && chance(80) && image_length(bytes[SCHEDULE_HEAD + 5]) < image_bytes)
-        image_bytes = image_length(bytes[SCHEDULE_HEAD + 5]); /* without the events */
+    if (chance(80) && image_in(bytes, length) < image_bytes)
+        image_bytes = image_in(bytes, length); /* without the events */
     return same_number("uq_check_image", uq_check_image(bytes + skip, image_bytes), packed(read_image(bytes + skip, image_bytes, &image), 0))
         && same_number("uq_check_schedule", uq_check_schedule(bytes, length), packed(read_schedule(bytes, length, &schedule), 0))
         && same_number("uq_count_endings", uq_count_endings(bytes, length), packed(endings_of(bytes, length, &schedule, &the_bench, &count), count));
@@ -64,9 +71,9 @@ int agree_on_ending(const u8 *bytes, u64 length)
     Schedule schedule;
     u64 count = 0;
     u32 taken = endings_of(bytes, length, &schedule, &the_bench, &count).number == TAKEN;
-    u64 whole = taken ? image_length(schedule.image.n) : below(600);
+    u64 whole = taken ? length_of(&schedule.image) : below(600);
     u64 k = chance(70) && count > 0 ? below((u32)count) : chance(50) ? count : chance(50) ? count + below(3) : random_bits();
-    u64 room = chance(60) ? whole + below(40) : chance(50) ? whole : chance(50) ? whole - 1 : below(700);
+    u64 room = chance(60) ? whole + below(40) : chance(50) ? whole : chance(50) ? whole - 1 : below(1000);
     fill_both(ours, theirs, ROOM);
     return same_number("uq_ending", uq_ending(bytes, length, k, ours, room), packed(write_ending(bytes, length, k, theirs, room), 0))
         && same_bytes("uq_ending, the buffer", ours, theirs, ROOM);
@@ -158,18 +165,40 @@ int agree_on_lines(const u8 *bytes, u64 length)
         && same_bytes("uq_page_lines, the buffer", ours, theirs, ROOM);
 }
 
+/* Both conversions of one image: of the schedule's, or of one made for converting, spoilt now and then. */
+int agree_on_conversions(const u8 *bytes, u64 length, u64 number)
+{
+    static u8 ours[ROOM], theirs[ROOM], image[LONGEST + 16];
+    u64 skip = length < SCHEDULE_HEAD ? length : SCHEDULE_HEAD, rest = length - skip;
+    if (image_in(bytes, length) < rest)
+        rest = image_in(bytes, length);
+    for (u64 i = 0; i < rest; i++)
+        image[i] = bytes[skip + i];
+    if (chance(60)) {
+        rest = generate_conversion(number, 0, image);
+        if (chance(20))
+            spoil(image, &rest, LONGEST);
+    }
+    u64 room = chance(70) ? MAX_IMAGE + below(9) : below(MAX_IMAGE);
+    fill_both(ours, theirs, ROOM);
+    return same_number("uq_widen", uq_widen(image, rest, ours, room), packed(widen(image, rest, theirs, room), 0))
+        && same_bytes("uq_widen, the buffer", ours, theirs, ROOM)
+        && same_number("uq_narrow", uq_narrow(image, rest, ours, room), packed(narrow(image, rest, theirs, room), 0))
+        && same_bytes("uq_narrow, the buffer", ours, theirs, ROOM);
+}
+
 int agree_on_start(const u8 *bytes, u64 length)
 {
     static u8 ours[ROOM], theirs[ROOM];
     Image image;
     Machine machine;
     u64 skip = length < SCHEDULE_HEAD ? length : SCHEDULE_HEAD;
-    u64 rest = length - skip, room = chance(90) ? RECORD_BYTES + below(9) : below(RECORD_BYTES);
+    u64 rest = length - skip, room = chance(90) ? record_bytes() + below(9) : below((u32)record_bytes());
     u32 threads = below(chance(80) ? 9 : 256);
-    if (length >= SCHEDULE_HEAD + IMAGE_HEAD && image_length(bytes[SCHEDULE_HEAD + 5]) < rest)
-        rest = image_length(bytes[SCHEDULE_HEAD + 5]);
+    if (image_in(bytes, length) < rest)
+        rest = image_in(bytes, length);
     Verdict v = threads < 1 || threads > MAX_THREADS ? verdict(WRONG_T, 0) : read_image(bytes + skip, rest, &image);
-    if (v.number == TAKEN && room < RECORD_BYTES)
+    if (v.number == TAKEN && room < record_bytes())
         v = verdict(BUFFER_TOO_SHORT, 0);
     fill_both(ours, theirs, ROOM);
     if (v.number == TAKEN) {
@@ -180,60 +209,63 @@ int agree_on_start(const u8 *bytes, u64 length)
         && same_bytes("uq_start, the record", ours, theirs, ROOM);
 }
 
-static int agree_on_places(const u8 *record, const Machine *m)
+static int agree_on_places(const u8 *record, const Machine *m, Verdict read)
 {
     u8 ours[9], theirs[9];
     u32 counts[PLACES] = {0}, room = below(9);
-    Verdict v = verdict(!in_range(m) ? OUT_OF_RANGE : room < PLACES ? BUFFER_TOO_SHORT : TAKEN, 0);
+    Verdict v = read.number != TAKEN ? read : verdict(room < PLACES ? BUFFER_TOO_SHORT : TAKEN, 0);
     fill_both(ours, theirs, 9);
     if (v.number == TAKEN) {
         count_places(m, counts);
         for (u32 i = 0; i < PLACES; i++)
             theirs[i] = (u8)counts[i];
     }
-    return same_number("uq_places", uq_places(record, RECORD_BYTES, ours, room), packed(v, 0))
+    return same_number("uq_places", uq_places(record, record_bytes(), ours, room), packed(v, 0))
         && same_bytes("uq_places, the buffer", ours, theirs, 9);
 }
 
-static int agree_on_save(const u8 *record, const Machine *m)
+static int agree_on_save(const u8 *record, const Machine *m, Verdict read)
 {
     static u8 ours[ROOM], theirs[ROOM];
     Image image;
-    u64 room = below(700);
-    Verdict v = verdict(OUT_OF_RANGE, 0);
+    u64 room = below(1000);
+    Verdict v = read;
     fill_both(ours, theirs, ROOM);
-    if (in_range(m)) {
+    if (v.number == TAKEN) {
         persisted_image(m, &image);
         v = write_image(&image, theirs, room);
     }
-    return same_number("uq_save", uq_save(record, RECORD_BYTES, ours, room), packed(v, 0))
+    return same_number("uq_save", uq_save(record, record_bytes(), ours, room), packed(v, 0))
         && same_bytes("uq_save, the buffer", ours, theirs, ROOM);
 }
 
 /* One event on a record, most of which no run leads to; a record of another length is refused by 1. */
 int agree_on_record(u64 seed, u64 number)
 {
-    u8 item[RECORD_BYTES + EVENT_BYTES + 8], theirs[RECORD_BYTES];
+    u8 item[MOST_RECORD + EVENT_BYTES + 8], theirs[MOST_RECORD];
+    u64 whole = record_bytes();
     Machine machine;
     Reply reply;
     generate_record_item(seed, number, item);
     if (chance(20)) {
-        u64 length = RECORD_BYTES;
-        spoil(item, &length, RECORD_BYTES);
+        u64 length = whole;
+        spoil(item, &length, whole);
     }
-    Event event = {item[RECORD_BYTES], item[RECORD_BYTES + 1], get4(item + RECORD_BYTES + 2)};
-    record_from_bytes(item, &machine);
-    if (!agree_on_places(item, &machine) || !agree_on_save(item, &machine))
+    Event event = {item[whole], item[whole + 1], get4(item + whole + 2)};
+    Verdict read = record_from_bytes(item, whole, &machine);
+    if (!agree_on_places(item, &machine, read) || !agree_on_save(item, &machine, read))
         return 0;
-    for (u32 i = 0; i < RECORD_BYTES; i++)
+    for (u32 i = 0; i < whole; i++)
         theirs[i] = item[i];
-    u64 length = chance(95) ? RECORD_BYTES : below(RECORD_BYTES);
-    Verdict v = length == RECORD_BYTES ? perform(&machine, &event, &reply) : verdict(WRONG_LENGTH, 0);
+    u64 length = chance(95) ? whole : below((u32)whole);
+    Verdict v = length != whole ? verdict(WRONG_LENGTH, 0) : read;
+    if (v.number == TAKEN)
+        v = perform(&machine, &event, &reply);
     if (v.number == TAKEN)
         record_to_bytes(&machine, theirs);
     u64 value = v.number == TAKEN ? reply.value + 4294967296u * (u64)reply.number : 0;
     return same_number("uq_event", uq_event(item, length, (uint8_t)event.kind, (uint8_t)event.number, event.item), packed(v, value))
-        && same_bytes("uq_event, the record", item, theirs, RECORD_BYTES);
+        && same_bytes("uq_event, the record", item, theirs, whole);
 }
 
 /* The verdict on a history, with a buffer about as long as the order may be. */

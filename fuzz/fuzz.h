@@ -6,6 +6,10 @@
 
 enum { LONGEST = 70000 };
 
+/* Request 107's two calls, as include/uq.h has them. */
+uint64_t uq_widen(const uint8_t *image, size_t length, uint8_t *buffer, size_t room);
+uint64_t uq_narrow(const uint8_t *image, size_t length, uint8_t *buffer, size_t room);
+
 /* inputs.c: input `number` of a run; gives its length, at most LONGEST. The random numbers go on from there. */
 u64 some_input(u64 seed, u64 number, u8 *bytes);
 u64 some_history(u64 seed, u64 number, u8 *bytes);
@@ -19,6 +23,7 @@ int agree_on_lines(const u8 *bytes, u64 length);
 int agree_on_record(u64 seed, u64 number);
 int agree_on_start(const u8 *bytes, u64 length);
 int agree_on_history(u64 seed, u64 number);
+int agree_on_conversions(const u8 *bytes, u64 length, u64 number);
 extern u64 numbers_seen[NUMBERS];
 
 /* of the histories alone: how often each number was given back, and each verdict (0 unlawful, 1 lawful, 2 undecided) */

@@ -11,31 +11,38 @@ static u64 raw(u8 *bytes, u64 length)
 /* A right beginning with raw bytes behind it: the schedule's head, then the image's too, then a right length too. */
 static u64 raw_behind_head(u8 *bytes, int image, int length_right)
 {
-    static const u8 head[5] = {'U', 'Q', 'S', 1, 0}, inner[5] = {'U', 'Q', 'I', 1, 0};
-    u32 events = below(40), n = 2 + below(chance(80) ? 5 : 63);
-    u64 length = raw(bytes, SCHEDULE_HEAD + image_length(n) + EVENT_BYTES * events);
+    static const u8 head[5] = {'U', 'Q', 'S', 1, 0};
+    u32 events = below(40), n = 2 + below(chance(80) ? 5 : 63), form = some_form();
+    Image inner = {.form = form, .n = n, .t = 1 + below(8)};
+    u64 length = raw(bytes, SCHEDULE_HEAD + length_of(&inner) + EVENT_BYTES * events);
     for (u32 i = 0; i < 5; i++)
         bytes[i] = head[i];
     if (!image)
         return below((u32)length + 1);
-    bytes[5] = (u8)(1 + below(8));
+    bytes[5] = (u8)inner.t;
     put2(bytes + 6, events);
-    for (u32 i = 0; i < 5; i++)
-        bytes[SCHEDULE_HEAD + i] = inner[i];
+    bytes[SCHEDULE_HEAD] = 'U';
+    bytes[SCHEDULE_HEAD + 1] = 'Q';
+    bytes[SCHEDULE_HEAD + 2] = form == DESKS ? 'P' : 'I';
+    put2(bytes + SCHEDULE_HEAD + 3, form == DESKS ? 1 : form);
     bytes[SCHEDULE_HEAD + 5] = (u8)n;
+    if (form == DESKS && chance(95))
+        bytes[SCHEDULE_HEAD + 6] = (u8)inner.t;
     if (!length_right)
         return below((u32)length + 20);
     for (u32 i = 0; i < n; i++) {
-        u8 *node = bytes + SCHEDULE_HEAD + IMAGE_HEAD + IMAGE_NODE * i;
+        u8 *node = bytes + SCHEDULE_HEAD + length_of(&inner) - image_node(form) * (n - i);
         node[0] &= chance(99);
+        if (form == TWO)
+            *++node &= chance(99);
         if (chance(50))
-            put4(node + 1, below(5));
+            put_index(form, node + 1, below(5));
     }
     for (u32 i = 0; i < events; i++) {
-        u8 *event = bytes + SCHEDULE_HEAD + image_length(n) + EVENT_BYTES * i;
-        event[0] = (u8)(chance(97) ? 1 + below(5) : event[0]);
+        u8 *event = bytes + SCHEDULE_HEAD + length_of(&inner) + EVENT_BYTES * i;
+        event[0] = (u8)(chance(97) ? 1 + below(form == TWO ? 7 : 5) : event[0]);
         event[1] = (u8)below(chance(90) ? bytes[5] : 9);
-        if (chance(95) && event[0] != BEGIN_ENQUEUE)
+        if (chance(95) && !enqueues(event[0]))
             put4(event + 2, 0);
         if (event[0] == CRASH && chance(95))
             event[1] = 0;

@@ -5,11 +5,11 @@ Bench the_bench;
 
 int same_content(Content a, Content b)
 {
-    return a.linked == b.linked && a.index == b.index && a.item == b.item;
+    return a.linked == b.linked && a.index == b.index && a.item == b.item && a.queue == b.queue;
 }
 
 /* Equal contents count once, at the first appearance. */
-static void note(History *line, Content content)
+static void list(History *line, Content content)
 {
     u32 from = 0;
     if (wrong_machine == EQUAL_TWICE && line->count > 0)
@@ -23,32 +23,55 @@ static void note(History *line, Content content)
     line->list[line->count++] = content;
 }
 
+/* What the cached copy holds from this moment on, where it is something else than before. */
+static int note(History *line, Content content, u64 moment)
+{
+    if (line->noted > 0 && same_content(line->contents[line->noted - 1], content))
+        return 0;
+    line->contents[line->noted] = content;
+    line->moments[line->noted++] = moment;
+    return 1;
+}
+
+/* Lists what the line held at the moment of the persisted content and later. */
+static void list_since(History *line, u64 since)
+{
+    u32 first = 0;
+    while (first + 1 < line->noted && line->moments[first + 1] <= since)
+        first++;
+    line->since = since;
+    line->count = 0;
+    for (u32 i = first; i < line->noted; i++)
+        list(line, line->contents[i]);
+}
+
 static void note_line(Bench *bench, u32 line)
 {
     History *history = &bench->lines[line];
-    Content now = cached_content(&bench->machine, line);
-    if (history->count > 0 && same_content(history->list[history->count - 1], now))
-        return; /* nothing was stored here */
-    note(history, now);
-}
-
-/* Forgets what came before: the persisted content is the oldest one from now on. */
-static void begin_line(Bench *bench, u32 line)
-{
-    bench->lines[line].count = 0;
-    note(&bench->lines[line], persisted_content(&bench->machine, line));
-}
-
-static void begin_all_lines(Bench *bench)
-{
-    for (u32 line = 0; line <= bench->machine.n; line++)
-        begin_line(bench, line);
+    const Machine *m = &bench->machine;
+    Content now = cached_content(m, line);
+    if (note(history, now, m->clock))
+        list(history, now);
+    if (m->since[line] != history->since)
+        list_since(history, m->since[line]);
 }
 
 static void note_all_lines(Bench *bench)
 {
-    for (u32 line = 0; line <= bench->machine.n; line++)
+    for (u32 line = 0; line < line_count(&bench->machine); line++)
         note_line(bench, line);
+}
+
+/* After a start the persisted content is the oldest one. */
+static void begin_all_lines(Bench *bench)
+{
+    for (u32 line = 0; line < line_count(&bench->machine); line++) {
+        bench->lines[line].noted = 0;
+        bench->lines[line].count = 0;
+        bench->lines[line].since = bench->machine.since[line];
+        note(&bench->lines[line], persisted_content(&bench->machine, line), bench->machine.since[line]);
+        list(&bench->lines[line], persisted_content(&bench->machine, line));
+    }
 }
 
 void bench_start(Bench *bench, const Schedule *schedule)
@@ -66,8 +89,6 @@ Verdict bench_event(Bench *bench, const Event *event, u32 number, Reply *reply)
         return verdict(v.number, number);
     if (reply->started)
         begin_all_lines(bench);
-    if (reply->written != NO_LINE)
-        begin_line(bench, reply->written);
     note_all_lines(bench);
     return verdict(TAKEN, 0);
 }
@@ -90,13 +111,13 @@ Verdict run_schedule(Bench *bench, const Schedule *schedule)
 Verdict count_endings(const Bench *bench, u64 *count)
 {
     *count = 1;
-    for (u32 line = 0; line <= bench->machine.n; line++) {
+    for (u32 line = 0; line < line_count(&bench->machine); line++) {
         if (bench->lines[line].count > MAX_CONTENTS)
             return verdict(TOO_MANY_CONTENTS, line);
         if (bench->lines[line].count == MAX_CONTENTS)
             reach(AT_SIXTEEN);
     }
-    for (u32 line = 0; line <= bench->machine.n; line++) {
+    for (u32 line = 0; line < line_count(&bench->machine); line++) {
         *count *= bench->lines[line].count;
         if (*count > MAX_ENDINGS)
             return verdict(TOO_MANY_ENDINGS, 0);
@@ -115,16 +136,27 @@ Verdict endings_of(const u8 *bytes, u64 length, Schedule *schedule, Bench *bench
     return v;
 }
 
-/* Line 0 turns slowest and line N fastest. */
+/* Line 0 turns slowest and the last node's line fastest. */
 void ending_image(const Bench *bench, u64 k, Image *image)
 {
+    image->form = bench->machine.form; /* "endings keep the start image's form" */
     image->n = bench->machine.n;
-    for (u32 line = bench->machine.n; line >= 1; line--) {
+    image->t = bench->machine.t;
+    u32 heads = head_lines(image->form, image->t);
+    for (u32 line = line_count(&bench->machine); line-- > 0;) {
         const History *history = &bench->lines[line];
-        image->nodes[line - 1] = history->list[k % history->count];
+        Content chosen = history->list[k % history->count];
         k /= history->count;
+        if (line >= heads)
+            image->nodes[line - heads] = chosen;
+        else if (image->form == DESKS)
+            image->desks[line] = chosen.index;
+        else if (line == 0)
+            image->head_index = chosen.index;
+        else
+            image->head_index_1 = chosen.index;
     }
-    image->head_index = bench->lines[0].list[k].index;
+    take_largest(image);
 }
 
 /* Ending k as an image in a lent buffer: the run, 14, 15, then 16, then 17. */

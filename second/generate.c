@@ -31,70 +31,149 @@ static u32 some_item(Plan *plan)
     }
 }
 
-/* A node that recovery leaves aside: blank, unlinked with any index, or linked with a passed one. */
-static Content left_aside(u32 head_index)
+u32 wanted_form;
+
+u32 some_form(void)
 {
-    Content blank = {0, 0, 0};
-    Content unlinked = {0, chance(50) ? (u32)random_bits() : head_index + below(3), below(9)};
-    Content passed = {1, head_index - (chance(50) ? 0 : below(head_index < 1000 ? head_index + 1 : 1000)), below(9)};
+    if (wanted_form != 0)
+        return wanted_form;
+    if (on(DESKS_TOO) && chance(on(QUEUES_TOO) ? 30 : 50))
+        return DESKS;
+    if (on(QUEUES_TOO) && chance(50))
+        return TWO;
+    return chance(50) ? NARROW : WIDE;
+}
+
+/* Of "UQP" at least one desk has the index; the others have it too, or a lower one. */
+void set_head_index(Image *image, u64 index)
+{
+    image->head_index = index;
+    if (image->form == TWO)
+        image->head_index_1 = index;
+    for (u32 k = 0; image->form == DESKS && k < image->t; k++)
+        image->desks[k] = chance(40) ? index : index - (u64)below(index < 9 ? (u32)index + 1 : 9);
+    if (image->form == DESKS)
+        image->desks[below(image->t)] = index;
+}
+
+/* Any index of the form; in version 2 some have one half zero or all ones. */
+static u64 any_index(u32 form)
+{
+    u64 bits = random_bits();
+    if (index_bytes(form) == 4)
+        return (u32)bits;
+    switch (below(4)) {
+    case 0: return (u32)bits;
+    case 1: return bits << 32;
+    case 2: return bits | LARGEST;
+    default: return bits;
+    }
+}
+
+/* How far below the head index a passed index lies; in version 2 sometimes so far that its low half is above the head's. */
+static u64 passed_by(u32 form, u64 head_index)
+{
+    if (index_bytes(form) == 8 && head_index > LARGEST && chance(30))
+        return (u64)LARGEST - below(1000);
+    return below(head_index < 1000 ? (u32)head_index + 1 : 1000);
+}
+
+/* A node that recovery leaves aside: blank, unlinked with any index, or linked with a passed one. */
+static Content left_aside(u32 form, u64 head_index)
+{
+    Content blank = {0, 0, 0, 0};
+    u64 room_above = largest_index(form) - head_index;
+    Content unlinked = {0, chance(50) ? any_index(form) : head_index + below(room_above < 3 ? (u32)room_above + 1 : 3), below(9), 0};
+    Content passed = {1, head_index - (chance(50) ? 0 : passed_by(form, head_index)), below(9), 0};
     u32 which = below(3);
     return which == 0 ? blank : which == 1 ? unlinked : passed;
 }
 
-static u32 some_head_index(void)
+/* Near zero, near the top of the form, anywhere; in version 2 also just below, at and above 2^32. */
+u64 some_head_index(u32 form)
 {
-    switch (below(5)) {
+    switch (below(index_bytes(form) == 8 ? 8 : 5)) {
     case 0: return 0;
     case 1: return below(10);
-    case 2: return 4294967295u - below(6);
-    case 3: return 4294967295u - below(100);
-    default: return (u32)random_bits();
+    case 2: return largest_index(form) - below(6);
+    case 3: return largest_index(form) - below(100);
+    case 4: return any_index(form);
+    case 5: return LARGEST - below(3);
+    case 6: return (u64)LARGEST + below(3);
+    default: return random_bits();
     }
+}
+
+/* The distance to the next index in the queue; in version 2 now and then a whole turn of the low half, or nearly one. */
+static u64 some_gap(u32 form)
+{
+    if (index_bytes(form) == 8 && chance(15))
+        return (u64)LARGEST + below(3);
+    return chance(60) ? 1 : 1 + below(4);
 }
 
 /* Recovered nodes at random places, their indices rising with gaps as long as there is room above. */
 static void queued_image(Image *image, u32 wanted)
 {
-    u32 index = image->head_index;
+    u64 indices[QUEUES] = {image->head_index, image->head_index_1};
     u32 put = 0;
-    for (u32 i = 0; i < image->n; i++)
-        image->nodes[i] = left_aside(image->head_index);
+    for (u32 i = 0; i < image->n; i++) {
+        u32 queue = image->form == TWO ? below(2) : 0;
+        image->nodes[i] = left_aside(image->form, head_of(image, queue));
+        image->nodes[i].queue = queue;
+    }
     while (put < wanted) {
-        u32 gap = chance(60) ? 1 : 1 + below(4);
-        if (index > LARGEST - gap)
+        u64 gap = some_gap(image->form);
+        u32 queue = image->form == TWO ? below(2) : 0;
+        if (indices[queue] > largest_index(image->form) - gap)
             break;
-        index += gap;
+        u64 index = indices[queue] += gap;
         u32 node = below(image->n);
         while (is_recovered(image, node))
             node = (node + 1) % image->n;
         image->nodes[node].linked = 1;
+        image->nodes[node].queue = queue;
         image->nodes[node].index = index;
         image->nodes[node].item = chance(20) ? 0 : chance(20) ? LARGEST : below(100);
         put++;
     }
 }
 
-static void some_image(Image *image)
+/* N is set before. */
+void some_image(Image *image)
 {
-    Content blank = {0, 0, 0};
-    image->head_index = 0;
+    Content blank = {0, 0, 0, 0};
+    image->form = some_form();
+    if (image->form == TWO && image->n < 3)
+        image->form = WIDE;
+    set_head_index(image, 0);
     for (u32 i = 0; i < image->n; i++)
         image->nodes[i] = blank;
     u32 kind = below(10);
     if (kind < 4)
         return;
-    image->head_index = some_head_index();
+    set_head_index(image, some_head_index(image->form));
     if (kind == 4)
         return;
-    queued_image(image, kind == 5 ? image->n - 1 : below(image->n));
+    if (image->form == TWO && chance(60))
+        image->head_index_1 = some_head_index(TWO);
+    u32 most = image->n - queue_count(image->form);
+    queued_image(image, kind == 5 ? most : below(most + 1));
 }
 
+/* A line that may be written back. */
+static int may_be_written(u32 line)
+{
+    return !on(CLEAN) || !is_clean(&side.machine, line);
+}
+
+/* The line of most contents among those that may be written back, or NO_LINE. */
 static u64 endings_now(u32 *fullest)
 {
     u64 product = 1;
-    *fullest = 0;
-    for (u32 line = 0; line <= side.machine.n; line++) {
-        if (side.lines[line].count > side.lines[*fullest].count)
+    *fullest = NO_LINE;
+    for (u32 line = 0; line < line_count(&side.machine); line++) {
+        if (may_be_written(line) && (*fullest == NO_LINE || side.lines[line].count > side.lines[*fullest].count))
             *fullest = line;
         if (product < 1000000)
             product *= side.lines[line].count;
@@ -140,16 +219,19 @@ static Event some_event(Plan *plan)
     u32 fullest;
     if (below(1000) < plan->crash_per_mille)
         return make_event(CRASH, 0, 0);
-    if (endings_now(&fullest) > plan->limit)
+    if (endings_now(&fullest) > plan->limit && fullest != NO_LINE)
         return make_event(WRITE_BACK, fullest, 0);
-    if (chance(plan->write_back_percent))
-        return make_event(WRITE_BACK, chance(50) ? fullest : below(side.machine.n + 1), 0);
+    if (chance(plan->write_back_percent) && fullest != NO_LINE) {
+        u32 line = chance(50) ? fullest : below(line_count(&side.machine));
+        return make_event(WRITE_BACK, may_be_written(line) ? line : fullest, 0);
+    }
     u32 k = some_thread(plan);
     if (side.machine.threads[k].step != IDLE)
         return make_event(STEP, k, 0);
+    u32 other = side.machine.form == TWO && chance(50) ? BEGIN_ENQUEUE_1 - BEGIN_ENQUEUE : 0;
     if (chance(plan->enqueue_percent))
-        return make_event(BEGIN_ENQUEUE, k, some_item(plan));
-    return make_event(BEGIN_DEQUEUE, k, 0);
+        return make_event(BEGIN_ENQUEUE + other, k, some_item(plan));
+    return make_event(BEGIN_DEQUEUE + other, k, 0);
 }
 
 static void some_plan(Plan *plan, u32 threads)
@@ -195,12 +277,30 @@ static u64 generate_small(u8 *bytes, u32 most_events)
     Plan plan;
     s.image.n = chance(40) ? 2 : 2 + below(4);
     s.t = chance(30) ? 1 : 1 + below(4);
+    s.image.t = s.t;
     some_image(&s.image);
     some_plan(&plan, s.t);
     plan.events = below(most_events + 1);
     plan.limit = 600;
     if (chance(80))
         plan.crash_per_mille = 0;
+    return run_plan(&plan, &s, bytes);
+}
+
+/* Within the limits of request 108 and a little beyond, most with few enough combinations of added write-backs; some begin in the middle of things. */
+static u64 generate_plainest(u8 *bytes)
+{
+    Schedule s;
+    Plan plan;
+    s.image.n = chance(60) ? 2 : chance(60) ? 3 : 4 + (u32)chance(10);
+    s.t = s.image.n == 2 ? 1 + below(2) : 1 + below(on(DESKS_TOO) ? 2 : 3);
+    s.image.t = s.t;
+    some_image(&s.image);
+    some_plan(&plan, s.t);
+    plan.events = chance(5) ? 13 : below(s.image.n == 2 ? 13 : s.image.n == 3 ? 10 : 6);
+    plan.limit = 600;
+    plan.write_back_percent = chance(50) ? 0 : 20;
+    plan.crash_per_mille = chance(80) ? 0 : 60;
     return run_plan(&plan, &s, bytes);
 }
 
@@ -211,6 +311,7 @@ static u64 generate_bursts(u8 *bytes)
     Plan plan;
     s.image.n = 4 + below(3);
     s.t = 2 + below(2);
+    s.image.t = s.t;
     some_image(&s.image);
     some_plan(&plan, s.t);
     plan.in_bursts = 1;
@@ -230,6 +331,7 @@ static u64 generate_any(u8 *bytes, u32 most_events)
     u32 size = below(5);
     s.image.n = size == 0 ? 64 : size == 1 ? 2 : size == 2 ? 2 + below(8) : 2 + below(63);
     s.t = chance(20) ? 8 : 1 + below(8);
+    s.image.t = s.t;
     some_image(&s.image);
     some_plan(&plan, s.t);
     plan.events = chance(10) ? most_events : below(most_events + 1);
@@ -242,12 +344,13 @@ static u64 generate_worn(u8 *bytes)
 {
     Schedule s;
     Plan plan;
-    s.image.n = 2;
+    s.image.n = on(QUEUES_TOO) && chance(30) ? 3 : 2;
     s.t = 1 + below(2);
+    s.image.t = s.t;
     some_image(&s.image);
-    s.image.head_index = LARGEST - below(2);
+    set_head_index(&s.image, largest_index(s.image.form) - below(2));
     if (test_recovered(&s.image).number != TAKEN)
-        s.image.head_index = LARGEST;
+        set_head_index(&s.image, largest_index(s.image.form));
     some_plan(&plan, s.t);
     plan.crash_per_mille = 0;
     plan.write_back_percent = chance(50) ? 0 : 3;
@@ -266,11 +369,12 @@ static u64 generate_wild(u8 *bytes)
     u32 kind = below(3);
     s.image.n = kind == 0 ? 2 + below(3) : 20 + below(45);
     s.t = kind == 0 ? 1 + below(2) : 2 + below(7);
+    s.image.t = s.t;
     some_image(&s.image);
     if (kind == 0) {
         s.image.n = 2;
         some_image(&s.image);
-        s.image.head_index = LARGEST; /* nothing is above it, so every enqueue wears out */
+        set_head_index(&s.image, largest_index(s.image.form)); /* nothing is above it, so every enqueue wears out */
     }
     some_plan(&plan, s.t);
     plan.write_back_percent = chance(70) ? 0 : 2;
@@ -326,6 +430,24 @@ u64 generate_input(u64 seed, u64 number, const char *shape, u8 *bytes)
         return generate_longer(bytes);
     if (same_text(shape, "images"))
         return generate_image(number, bytes);
+    if (same_text(shape, "conversions"))
+        return generate_conversion(number, 0, bytes);
+    if (same_text(shape, "conversions-room"))
+        return generate_conversion(number, 1, bytes);
+    if (same_text(shape, "mendable"))
+        return generate_mendable(number, 0, bytes);
+    if (same_text(shape, "mendable-room"))
+        return generate_mendable(number, 1, bytes);
+    if (same_text(shape, "imports"))
+        return generate_import(number, bytes);
+    if (same_text(shape, "exports"))
+        return generate_export(number, bytes);
+    if (same_text(shape, "listed"))
+        return generate_listed(number, bytes);
+    if (same_text(shape, "plainest"))
+        return generate_plainest(bytes);
+    if (same_text(shape, "probes"))
+        return generate_probe(number, bytes);
     if (same_text(shape, "mixed"))
         return generate_mixed(seed, number, bytes);
     stop("no such shape");

@@ -17,11 +17,6 @@ static Act acts[MOST];
 static u32 act_count;
 static Line first_line, last_line;
 
-static u64 get8(const u8 *from)
-{
-    return get4(from) + ((u64)get4(from + 4) << 32);
-}
-
 static u64 history_length(const u8 *bytes)
 {
     return 3 + 4 * ((u64)bytes[1] + bytes[2]) + OPERATION * (u64)bytes[0];
@@ -275,12 +270,6 @@ Finding hold_history(const u8 *bytes, u64 length)
 }
 
 /* ---- generated histories: operations run on a plain queue by a moving clock, then perhaps spoilt */
-
-static void put8(u8 *to, u64 value)
-{
-    put4(to, (u32)value);
-    put4(to + 4, (u32)(value >> 32));
-}
 
 static u32 some_reply(u32 kind)
 {

@@ -155,6 +155,17 @@ void put4(u8 *to, u32 value)
     put2(to + 2, value >> 16);
 }
 
+u64 get8(const u8 *from)
+{
+    return (u64)get4(from) | (u64)get4(from + 4) << 32;
+}
+
+void put8(u8 *to, u64 value)
+{
+    put4(to, (u32)value);
+    put4(to + 4, (u32)(value >> 32));
+}
+
 int same_text(const char *a, const char *b)
 {
     while (*a && *a == *b) {

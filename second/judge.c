@@ -42,10 +42,12 @@ static int same_queue(const Queue *a, const Queue *b)
     return 1;
 }
 
+static u32 judged; /* the queue whose operations are looked at */
+
 static void queue_of_machine(const Machine *m, Queue *queue)
 {
     queue->count = 0;
-    for (u32 node = m->nodes[m->head].next; node != NONE; node = m->nodes[node].next) {
+    for (u32 node = m->nodes[m->head[judged]].next; node != NONE; node = m->nodes[node].next) {
         if (queue->count == LONGEST_QUEUE) {
             too_large = 1;
             return;
@@ -57,7 +59,7 @@ static void queue_of_machine(const Machine *m, Queue *queue)
 static void queue_of_image(const Image *image, Queue *queue)
 {
     u32 order[MAX_NODES];
-    u32 count = recovered_in_order(image, order);
+    u32 count = recovered_in_order(image, judged, order);
     queue->count = 0;
     for (u32 i = 0; i < count && i < LONGEST_QUEUE; i++)
         queue->items[queue->count++] = image->nodes[order[i]].item;
@@ -69,21 +71,23 @@ static void note_begin(const Event *e, u32 number, u32 *current)
         too_large = 1;
         return;
     }
-    Operation op = {e->kind == BEGIN_ENQUEUE, e->item, number, NEVER, NOTHING, 0};
+    Operation op = {enqueues(e->kind), e->item, number, NEVER, NOTHING, 0};
     current[e->number] = operation_count;
     operations[operation_count++] = op;
 }
 
 static void note_event(const Machine *m, const Event *e, u32 number, const Reply *reply, u32 *current)
 {
-    if (e->kind == BEGIN_ENQUEUE || e->kind == BEGIN_DEQUEUE)
+    if (begins(e->kind) && queue_of_kind(e->kind) != judged)
+        current[e->number] = NEVER; /* an operation of the other queue */
+    else if (begins(e->kind))
         note_begin(e, number, current);
     if (reply->started) {
         operation_count = 0;
         too_large = 0;
         queue_of_machine(m, &first_queue);
     }
-    if (reply->number != NOTHING && !too_large) {
+    if (reply->number != NOTHING && !too_large && current[e->number] != NEVER) {
         Operation *op = &operations[current[e->number]];
         op->answered = number;
         op->reply = reply->number;
@@ -229,19 +233,33 @@ static Finding judge_endings(u64 count)
     return finding(AGREES, count, "");
 }
 
-Finding judge(const u8 *bytes, u64 length)
+static Finding judge_queue(const Schedule *s)
 {
-    Schedule s;
     u64 count;
     state_count = 0;
-    if (read_schedule(bytes, length, &s).number != TAKEN || record_operations(&s).number != TAKEN ||
-        count_endings(&the_bench, &count).number != TAKEN)
+    if (record_operations(s).number != TAKEN || count_endings(&the_bench, &count).number != TAKEN)
         return finding(TOO_LARGE, 0, "no page");
     if (!too_large)
         go_through_all_orders();
     if (too_large)
         return finding(TOO_LARGE, 0, "too many operations");
     return judge_endings(count);
+}
+
+/* "Demand 3 holds for each queue with its own operations." */
+Finding judge(const u8 *bytes, u64 length)
+{
+    Schedule s;
+    Finding f = finding(TOO_LARGE, 0, "no page");
+    if (read_schedule(bytes, length, &s).number != TAKEN)
+        return f;
+    for (judged = 0; judged < queue_count(s.image.form); judged++) {
+        f = judge_queue(&s);
+        if (f.result != AGREES)
+            break;
+    }
+    judged = 0;
+    return f;
 }
 
 /* ---- the same operations and queues as histories of request 110 */
@@ -269,7 +287,7 @@ u64 history_of_ending(u64 k, u8 *to)
     u32 nodes[MAX_NODES];
     u64 at = 3;
     ending_image(&the_bench, k, &image);
-    if (recovered_in_order(&image, nodes) > LONGEST_QUEUE)
+    if (recovered_in_order(&image, judged, nodes) > LONGEST_QUEUE)
         return 0;
     queue_of_image(&image, &last);
     to[0] = (u8)operation_count;

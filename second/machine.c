@@ -2,31 +2,87 @@
 #include "second.h"
 
 u32 wrong_machine = RIGHT;
+int clean_waived;
 
 u64 bit(u32 i)
 {
     return (u64)1 << i;
 }
 
+/* Kinds 6 and 7 are 1 and 2 on queue 1. */
+int begins(u32 kind)
+{
+    return kind == BEGIN_ENQUEUE || kind == BEGIN_DEQUEUE || kind == BEGIN_ENQUEUE_1 || kind == BEGIN_DEQUEUE_1;
+}
+
+int enqueues(u32 kind)
+{
+    return kind == BEGIN_ENQUEUE || kind == BEGIN_ENQUEUE_1;
+}
+
+u32 queue_of_kind(u32 kind)
+{
+    return kind == BEGIN_ENQUEUE_1 || kind == BEGIN_DEQUEUE_1;
+}
+
+u32 line_count(const Machine *m)
+{
+    return head_lines(m->form, m->t) + m->n;
+}
+
 Content cached_content(const Machine *m, u32 line)
 {
-    Content head = {0, m->head_index, 0};
-    return line == 0 ? head : m->nodes[line - 1].cached;
+    u32 heads = head_lines(m->form, m->t);
+    Content head = {0, line < heads ? m->lines[line] : 0, 0, 0};
+    return line < heads ? head : m->nodes[line - heads].cached;
 }
 
 Content persisted_content(const Machine *m, u32 line)
 {
-    Content head = {0, m->persisted_head_index, 0};
-    return line == 0 ? head : m->nodes[line - 1].persisted;
+    u32 heads = head_lines(m->form, m->t);
+    Content head = {0, line < heads ? m->persisted_lines[line] : 0, 0, 0};
+    return line < heads ? head : m->nodes[line - heads].persisted;
+}
+
+/* The persisted content of a line becomes the one that its cached copy had at that moment. */
+static void put_persisted(Machine *m, u32 line, Content content, u64 moment)
+{
+    u32 heads = head_lines(m->form, m->t);
+    if (line < heads)
+        m->persisted_lines[line] = content.index;
+    else
+        m->nodes[line - heads].persisted = content;
+    m->since[line] = moment;
 }
 
 /* A line is written back whole. */
 void persist(Machine *m, u32 line, Reply *reply)
 {
-    if (line == 0)
-        m->persisted_head_index = m->head_index;
-    else
-        m->nodes[line - 1].persisted = m->nodes[line - 1].cached;
+    put_persisted(m, line, cached_content(m, line), m->clock);
+    reply->written = line;
+}
+
+/* Request 104: "Between the two nothing is assured." */
+void flush(Machine *m, u32 k, u32 line)
+{
+    m->threads[k].flushed = 1;
+    m->threads[k].flush_time = m->clock;
+    m->threads[k].flush_content = cached_content(m, line);
+}
+
+/* "From the fence on, the line's contents start no earlier than the one at the flush; if a later one was persisted already, that one stays." */
+void fence(Machine *m, u32 k, u32 line, Reply *reply)
+{
+    Thread *self = &m->threads[k];
+    int later = m->since[line] > self->flush_time;
+    reach(later ? AT_FENCE_STAYS : AT_FENCE_MOVES);
+    if (!same_content(self->flush_content, cached_content(m, line)))
+        reach(AT_FENCE_NOT_PRESENT);
+    if (wrong_machine == FENCE_PRESENT)
+        put_persisted(m, line, cached_content(m, line), m->clock);
+    else if (!later || wrong_machine == FENCE_BACKWARDS)
+        put_persisted(m, line, self->flush_content, self->flush_time);
+    self->flushed = 0;
     reply->written = line;
 }
 
@@ -70,25 +126,43 @@ u32 following(u32 step)
     return step + 1;
 }
 
-/* 9, 10, 13, then 11 or 12; for a crash 7 and 8 after 13. The place is the event's, which the caller knows. */
+/* Request 102: "a line whose cached and persisted contents are equal" */
+int is_clean(const Machine *m, u32 line)
+{
+    Content cached = cached_content(m, line), persisted = persisted_content(m, line);
+    if (wrong_machine == CLEAN_WITHOUT_ITEM)
+        cached.item = persisted.item;
+    return same_content(cached, persisted);
+}
+
+static int clean_write_back(const Machine *m, const Event *e)
+{
+    return on(CLEAN) && !clean_waived && e->kind == WRITE_BACK && is_clean(m, e->number);
+}
+
+/* 9, 10, 13, then 11 or 12 or 19; for a crash 7 and 8 after 13. The place is the event's, which the caller knows. */
 Verdict test_event(const Machine *m, const Event *e)
 {
-    if (e->kind < BEGIN_ENQUEUE || e->kind > CRASH)
+    if (e->kind < BEGIN_ENQUEUE || e->kind > (m->form == TWO ? BEGIN_DEQUEUE_1 : CRASH))
         return verdict(UNKNOWN_KIND, 0);
-    if (e->kind == BEGIN_ENQUEUE || e->kind == BEGIN_DEQUEUE || e->kind == STEP)
+    if (begins(e->kind) || e->kind == STEP)
         if (e->number >= m->t)
             return verdict(NUMBER_TOO_LARGE, 0);
-    if (e->kind == WRITE_BACK && e->number > m->n)
+    if (e->kind == WRITE_BACK && e->number >= line_count(m))
         return verdict(NUMBER_TOO_LARGE, 0);
-    if (e->kind != BEGIN_ENQUEUE && e->item != 0)
+    if (wrong_machine == CLEAN_BEFORE_ZEROS && clean_write_back(m, e))
+        return verdict(CLEAN_LINE, 0);
+    if (!enqueues(e->kind) && e->item != 0)
         return verdict(FIELD_NOT_ZERO, 0);
     if (e->kind == CRASH && e->number != 0)
         return verdict(FIELD_NOT_ZERO, 0);
-    if (e->kind == BEGIN_ENQUEUE || e->kind == BEGIN_DEQUEUE)
+    if (begins(e->kind))
         if (m->threads[e->number].step != IDLE)
             return verdict(BEGIN_ON_BUSY, 0);
     if (e->kind == STEP && m->threads[e->number].step == IDLE)
         return verdict(STEP_ON_IDLE, 0);
+    if (clean_write_back(m, e))
+        return verdict(CLEAN_LINE, 0);
     if (e->kind == CRASH) {
         Image image;
         persisted_image(m, &image);
@@ -97,22 +171,31 @@ Verdict test_event(const Machine *m, const Event *e)
     return verdict(TAKEN, 0);
 }
 
+static int is_enqueue_step(u32 step)
+{
+    return (step != IDLE && step <= A12) || step == A10_FENCE || step == AQ;
+}
+
 static void begin(Machine *m, const Event *e)
 {
     for (u32 j = 0; j < m->t; j++)
-        if (e->kind == BEGIN_ENQUEUE && m->threads[j].step != IDLE && m->threads[j].step <= A12 && m->threads[j].item == e->item)
+        if (enqueues(e->kind) && is_enqueue_step(m->threads[j].step) && m->threads[j].item == e->item)
             reach(AT_EQUAL_IN_FLIGHT);
     Thread *thread = &m->threads[e->number];
     blank_registers(thread);
     thread->item = e->item;
-    thread->step = e->kind == BEGIN_ENQUEUE ? A1 : D1;
-    reach(e->kind == BEGIN_ENQUEUE ? AT_BEGIN_ENQUEUE : AT_BEGIN_DEQUEUE);
+    thread->queue = queue_of_kind(e->kind);
+    thread->step = enqueues(e->kind) ? A1 : D1;
+    for (u32 j = 0; j < m->t; j++)
+        if (m->threads[j].step != IDLE && m->threads[j].queue != thread->queue)
+            reach(AT_BOTH_QUEUES);
+    reach(enqueues(e->kind) ? AT_BEGIN_ENQUEUE : AT_BEGIN_DEQUEUE);
 }
 
 static void step(Machine *m, u32 k, Reply *reply)
 {
     reach(AT_STEP + m->threads[k].step);
-    if (m->threads[k].step <= A12)
+    if (is_enqueue_step(m->threads[k].step))
         step_of_enqueue(m, k, reply);
     else
         step_of_dequeue(m, k, reply);
@@ -120,7 +203,7 @@ static void step(Machine *m, u32 k, Reply *reply)
 
 static void write_back(Machine *m, u32 line, Reply *reply)
 {
-    reach(line == 0 ? AT_WRITE_BACK_HEAD : AT_WRITE_BACK_NODE);
+    reach(line < head_lines(m->form, m->t) ? AT_WRITE_BACK_HEAD : AT_WRITE_BACK_NODE);
     persist(m, line, reply);
 }
 
@@ -134,9 +217,12 @@ Verdict perform(Machine *m, const Event *e, Reply *reply)
     Verdict v = test_event(m, e);
     if (v.number != TAKEN)
         return v;
+    m->clock++;
     switch (e->kind) {
     case BEGIN_ENQUEUE:
     case BEGIN_DEQUEUE:
+    case BEGIN_ENQUEUE_1:
+    case BEGIN_DEQUEUE_1:
         begin(m, e);
         break;
     case STEP:

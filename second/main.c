@@ -136,21 +136,24 @@ static int mode_schedules(int count, char **words)
 static int mode_record(int count, char **words)
 {
     (void)count, (void)words;
-    u8 item[RECORD_BYTES + EVENT_BYTES];
-    while (read_exactly(item, sizeof item))
-        print_record_item(item);
+    u8 item[MOST_RECORD + EVENT_BYTES];
+    while (read_exactly(item, record_bytes() + EVENT_BYTES))
+        print_record_item(item, record_bytes() + EVENT_BYTES);
     return 0;
 }
 
 static int mode_records(int count, char **words)
 {
-    u64 length;
     (void)count, (void)words;
-    while (read_next(&length)) {
-        if (length != RECORD_BYTES + EVENT_BYTES)
-            stop("a record with an event has 1418 bytes");
-        print_record_item(input);
-    }
+    return each_input(print_record_item);
+}
+
+/* How many bytes a record has with an event behind it: what `frames` is to be told for them. */
+static int mode_record_bytes(int count, char **words)
+{
+    (void)count, (void)words;
+    put_number(record_bytes() + EVENT_BYTES);
+    put_text("\n");
     return 0;
 }
 
@@ -160,15 +163,20 @@ static int mode_generate(int count, char **words)
         stop("use: generate SEED COUNT SHAPE");
     u64 seed = number_from(words[0]), wanted = number_from(words[1]);
     for (u64 i = 0; i < wanted; i++) {
-        u8 head[4], item[RECORD_BYTES + EVENT_BYTES];
+        u8 head[4], item[MOST_RECORD + EVENT_BYTES];
         if (same_text(words[2], "contents")) {
             generate_contents_item(seed, i, item);
             put_bytes(item, CONTENTS_BYTES);
             continue;
         }
+        if (same_text(words[2], "wide-contents")) {
+            generate_wide_contents_item(seed, i, item);
+            put_bytes(item, WIDE_CONTENTS_BYTES);
+            continue;
+        }
         if (same_text(words[2], "records")) {
             generate_record_item(seed, i, item);
-            put_bytes(item, sizeof item);
+            put_bytes(item, record_bytes() + EVENT_BYTES);
             continue;
         }
         u64 length = same_text(words[2], "histories") ? generate_history(seed, i, input)
@@ -268,6 +276,63 @@ static int mode_places(int count, char **words)
     return mode_hold(count, words, places);
 }
 
+static int mode_there_and_back(int count, char **words)
+{
+    return mode_hold(count, words, there_and_back);
+}
+
+static int mode_out_and_in(int count, char **words)
+{
+    return mode_hold(count, words, out_and_in);
+}
+
+static int mode_clean_or_same(int count, char **words)
+{
+    return mode_hold(count, words, clean_or_same);
+}
+
+static int mode_same_when_fenced(int count, char **words)
+{
+    return mode_hold(count, words, same_when_fenced);
+}
+
+static int mode_plainly_same(int count, char **words)
+{
+    return mode_hold(count, words, plainly_same);
+}
+
+static int mode_lists_hold(int count, char **words)
+{
+    return mode_hold(count, words, lists_hold);
+}
+
+static int mode_plain_pages(int count, char **words)
+{
+    (void)count, (void)words;
+    return each_input(print_plainly);
+}
+
+static int mode_listed(int count, char **words)
+{
+    (void)count, (void)words;
+    return each_input(print_listed);
+}
+
+static int mode_mend_two_ways(int count, char **words)
+{
+    return mode_hold(count, words, mend_two_ways);
+}
+
+static int mode_replay_by_parts(int count, char **words)
+{
+    return mode_hold(count, words, replay_by_parts);
+}
+
+static int mode_same_when_wide(int count, char **words)
+{
+    return mode_hold(count, words, same_when_wide);
+}
+
 static int mode_histories(int count, char **words)
 {
     return mode_hold(count, words, hold_history);
@@ -285,20 +350,14 @@ static int mode_contents(int count, char **words)
     u8 item[CONTENTS_BYTES];
     (void)count, (void)words;
     while (read_exactly(item, sizeof item))
-        print_contents_item(item);
+        print_contents_item(item, sizeof item);
     return 0;
 }
 
 static int mode_contents_many(int count, char **words)
 {
-    u64 length;
     (void)count, (void)words;
-    while (read_next(&length)) {
-        if (length != CONTENTS_BYTES)
-            stop("an item of contents has 583 bytes");
-        print_contents_item(input);
-    }
-    return 0;
+    return each_input(print_contents_item);
 }
 
 static int mode_search(int count, char **words)
@@ -319,7 +378,15 @@ static int mode_sequence(int count, char **words)
     return count == 1 ? print_sequence(words[0]) : 2;
 }
 
+static int mode_sequence_names(int count, char **words)
+{
+    (void)count, (void)words;
+    return print_sequence_names();
+}
+
 static int mode_wrong(int count, char **words);
+static int mode_with(int count, char **words);
+static int mode_without(int count, char **words);
 
 static const struct {
     const char *name;
@@ -332,9 +399,17 @@ static const struct {
     {"images", mode_images}, {"images-again", mode_images_again}, {"schedules", mode_schedules},
     {"contents", mode_contents}, {"contents-many", mode_contents_many}, {"generate", mode_generate},
     {"counts", mode_counts}, {"plain", mode_plain}, {"judge", mode_judge}, {"places", mode_places},
+    {"widened", mode_widened}, {"narrowed", mode_narrowed}, {"there-and-back", mode_there_and_back}, {"same-when-wide", mode_same_when_wide},
+    {"imported", mode_imported}, {"exported", mode_exported}, {"out-and-in", mode_out_and_in},
+    {"clean-or-same", mode_clean_or_same},
+    {"fenced", mode_fenced}, {"same-when-fenced", mode_same_when_fenced},
+    {"plain-pages", mode_plain_pages}, {"plainly-same", mode_plainly_same}, {"listed", mode_listed}, {"lists-hold", mode_lists_hold},
+    {"mended", mode_mended}, {"mend-two-ways", mode_mend_two_ways},
+    {"replayed", mode_replayed}, {"probed", mode_probed}, {"replay-by-parts", mode_replay_by_parts},
     {"judged", mode_judged}, {"drawn", mode_drawn}, {"histories", mode_histories},
+    {"with", mode_with}, {"without", mode_without}, {"switches", mode_switches}, {"record-bytes", mode_record_bytes},
     {"wrong", mode_wrong}, {"search", mode_search}, {"frame", mode_frame}, {"frames", mode_frames},
-    {"cuts", mode_cuts}, {"values", mode_values}, {"sequence", mode_sequence}, {"sequences", mode_sequences},
+    {"cuts", mode_cuts}, {"values", mode_values}, {"sequence", mode_sequence}, {"sequence-names", mode_sequence_names}, {"sequences", mode_sequences},
     {"words", mode_words}, {"unwords", mode_unwords}, {"words-many", mode_words_many}, {"unwords-many", mode_unwords_many}, {"pieces-many", mode_pieces_many},
 };
 
@@ -353,6 +428,24 @@ static int mode_wrong(int count, char **words)
         stop("use: wrong NAME MODE ...");
     wrong_machine = machine_of_name(words[0]);
     return run_mode(count - 1, words + 1);
+}
+
+static int turned(int count, char **words, u32 to)
+{
+    if (count < 2)
+        stop("use: with NAME MODE ..., without NAME MODE ...");
+    turn(words[0], to);
+    return run_mode(count - 1, words + 1);
+}
+
+static int mode_with(int count, char **words)
+{
+    return turned(count, words, 1);
+}
+
+static int mode_without(int count, char **words)
+{
+    return turned(count, words, 0);
 }
 
 int main(int count, char **words)

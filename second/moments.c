@@ -1,28 +1,33 @@
 /* What is printed of machine records: traces, single events, starts, place counts, saved images. */
 #include "second.h"
 
-static void print_moment(const Machine *m, const Reply *reply)
+static void print_reply(const Reply *reply, const u8 *record)
 {
-    u8 record[RECORD_BYTES];
-    record_to_bytes(m, record);
     put_number(reply->number);
     put_text(" ");
     put_number(reply->value);
     put_text(" ");
-    put_hex(record, RECORD_BYTES);
+    put_hex(record, record_bytes());
     put_text("\n");
+}
+
+static void print_moment(const Machine *m, const Reply *reply)
+{
+    u8 record[MOST_RECORD];
+    record_to_bytes(m, record);
+    print_reply(reply, record);
 }
 
 /* The record's sum in the place of its bytes. */
 static void print_moment_sum(const Machine *m, const Reply *reply)
 {
-    u8 record[RECORD_BYTES];
+    u8 record[MOST_RECORD];
     record_to_bytes(m, record);
     put_number(reply->number);
     put_text(" ");
     put_number(reply->value);
     put_text(" ");
-    put_sum(add_to_sum(NO_SUM, record, RECORD_BYTES));
+    put_sum(add_to_sum(NO_SUM, record, record_bytes()));
     put_text("\n");
 }
 
@@ -58,7 +63,7 @@ void print_trace_sums(const u8 *bytes, u64 length)
     trace(bytes, length, print_moment_sum);
 }
 
-static void print_verdict(Verdict v)
+void print_verdict(Verdict v)
 {
     put_number(v.number);
     put_text(" ");
@@ -66,16 +71,25 @@ static void print_verdict(Verdict v)
     put_text(" ");
 }
 
-void print_record_item(const u8 *item)
+/* A record with an event behind it. A record that is refused is printed as it was. */
+void print_record_item(const u8 *bytes, u64 length)
 {
+    static u8 record[MOST_RECORD];
     Machine machine;
-    Reply reply;
-    const u8 *at = item + RECORD_BYTES;
+    Reply reply = {NOTHING, 0, NO_LINE, 0};
+    const u8 *at = bytes + record_bytes();
+    if (length != record_bytes() + EVENT_BYTES)
+        stop("a record with an event behind it is expected");
     Event event = {at[0], at[1], get4(at + 2)};
-    record_from_bytes(item, &machine);
-    Verdict v = perform(&machine, &event, &reply);
+    Verdict v = record_from_bytes(bytes, length - EVENT_BYTES, &machine);
+    for (u64 i = 0; i < length - EVENT_BYTES; i++)
+        record[i] = bytes[i];
+    if (v.number == TAKEN)
+        v = perform(&machine, &event, &reply);
+    if (v.number == TAKEN)
+        record_to_bytes(&machine, record);
     print_verdict(v);
-    print_moment(&machine, &reply);
+    print_reply(&reply, record);
 }
 
 /* An image alone: its verdict and, when taken, the record that a start with one thread makes of it. */
@@ -99,10 +113,9 @@ void print_place_counts(const u8 *bytes, u64 length)
 {
     Machine machine;
     u32 counts[PLACES] = {0};
-    if (length != RECORD_BYTES + EVENT_BYTES)
-        stop("a record with an event has 1418 bytes");
-    record_from_bytes(bytes, &machine);
-    Verdict v = verdict(in_range(&machine) ? TAKEN : OUT_OF_RANGE, 0);
+    if (length != record_bytes() + EVENT_BYTES)
+        stop("a record with an event behind it is expected");
+    Verdict v = record_from_bytes(bytes, length - EVENT_BYTES, &machine);
     if (v.number == TAKEN)
         count_places(&machine, counts);
     print_verdict(v);
@@ -118,14 +131,13 @@ void print_saved(const u8 *bytes, u64 length)
     static u8 buffer[65536];
     Machine machine;
     Image image;
-    if (length != RECORD_BYTES + EVENT_BYTES)
-        stop("a record with an event has 1418 bytes");
-    u64 room = get2(bytes + RECORD_BYTES);
-    record_from_bytes(bytes, &machine);
+    if (length != record_bytes() + EVENT_BYTES)
+        stop("a record with an event behind it is expected");
+    u64 room = get2(bytes + record_bytes());
+    Verdict v = record_from_bytes(bytes, length - EVENT_BYTES, &machine);
     for (u64 i = 0; i < room; i++)
         buffer[i] = 0xaa; /* so that the bytes that stay can be seen */
-    Verdict v = verdict(OUT_OF_RANGE, 0);
-    if (in_range(&machine)) {
+    if (v.number == TAKEN) {
         persisted_image(&machine, &image);
         v = write_image(&image, buffer, room);
     }
@@ -134,18 +146,20 @@ void print_saved(const u8 *bytes, u64 length)
     put_text("\n");
 }
 
-/* A start from contents: 4, then 3, 6, 7, 8. The last digit of the byte behind the nodes is T. */
+/* A start from contents: 4, then 3, 6, 7, 8, 20. The last digit of the byte behind the nodes is T. */
 void print_start(const u8 *bytes, u64 length)
 {
     Machine machine;
     Image image;
     Verdict v;
     Reply reply = {NOTHING, 0, NO_LINE, 0};
-    if (length != CONTENTS_BYTES)
-        stop("an item of contents has 583 bytes");
-    u32 t = bytes[CONTENTS_BYTES - 2] % 10;
-    contents_from_bytes(bytes, &image);
+    if (length != CONTENTS_BYTES && length != WIDE_CONTENTS_BYTES)
+        stop("an item of contents has 583 bytes, or 844");
+    u32 t = bytes[length - 2] % 10;
+    contents_from_bytes(bytes, length, &image);
     v = t < 1 || t > MAX_THREADS ? verdict(WRONG_T, 0) : test_contents(&image);
+    if (v.number == TAKEN)
+        v = test_fits(&image);
     if (v.number != TAKEN) {
         print_refusal(v);
         return;
@@ -157,12 +171,13 @@ void print_start(const u8 *bytes, u64 length)
 /* "A fresh machine is the start of the all-zero image." Two bytes: N and T, refused as contents with T are. */
 void print_fresh(const u8 *bytes, u64 length)
 {
-    static const Content zero = {0, 0, 0};
+    static const Content zero = {0, 0, 0, 0};
     Machine machine;
     Image image;
     Reply reply = {NOTHING, 0, NO_LINE, 0};
     if (length != 2)
         stop("N and T have 2 bytes");
+    image.form = NARROW;
     image.n = bytes[0];
     image.head_index = 0;
     for (u32 i = 0; i < MAX_NODES; i++)

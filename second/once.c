@@ -32,7 +32,7 @@ void count_once(const u8 *bytes, u64 length)
             before_crash += since_start;
             since_start = 0;
         }
-        if (event.kind == BEGIN_ENQUEUE || event.kind == BEGIN_DEQUEUE)
+        if (begins(event.kind))
             performed[event.number] = 0;
         if (event.kind == STEP && reply.written != NO_LINE)
             performed[event.number]++;

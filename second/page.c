@@ -29,16 +29,19 @@ static void print_first_line(const Schedule *s, u64 count)
 
 static void print_ending(const Image *image, u64 k)
 {
-    u32 order[MAX_NODES];
-    u32 count = recovered_in_order(image, order);
     put_number(k);
-    put_text(" ");
-    put_number(image->head_index);
-    for (u32 i = 0; i < count; i++) {
-        put_text(" ");
-        put_number(image->nodes[order[i]].item);
+    for (u32 q = 0; q < queue_count(image->form); q++) {
+        u32 order[MAX_NODES];
+        u32 count = recovered_in_order(image, q, order);
+        put_text(q == 0 ? " " : " | ");
+        put_number(head_of(image, q));
+        for (u32 i = 0; i < count; i++) {
+            put_text(" ");
+            put_number(image->nodes[order[i]].item);
+        }
+        put_text(count == 0 ? " -" : "");
     }
-    put_text(count == 0 ? " -\n" : "\n");
+    put_text("\n");
 }
 
 /* Gives the number of the verdict. */
@@ -78,7 +81,7 @@ void put_sum(u64 sum)
     put_hex(total, 8);
 }
 
-static void print_ending_bytes(u32 n, u64 count)
+static void print_ending_bytes(u64 whole, u64 count)
 {
     enum { SHOWN = 32 };
     u8 buffer[MAX_IMAGE];
@@ -86,16 +89,16 @@ static void print_ending_bytes(u32 n, u64 count)
     for (u64 k = 0; k < count; k++) {
         Image image;
         ending_image(&the_bench, k, &image);
-        Verdict v = write_image(&image, buffer, image_length(n));
+        Verdict v = write_image(&image, buffer, whole);
         if (v.number != TAKEN) {
             print_refusal(v); /* 7 or 8: only a wrong machine leaves such an ending */
             continue;
         }
         if (count <= SHOWN) {
-            put_hex(buffer, image_length(n));
+            put_hex(buffer, whole);
             put_text("\n");
         }
-        sum = add_to_sum(sum, buffer, image_length(n));
+        sum = add_to_sum(sum, buffer, whole);
     }
     put_text("sum ");
     put_sum(sum);
@@ -112,11 +115,11 @@ void print_endings(const u8 *bytes, u64 length)
         print_refusal(v);
         return;
     }
-    u64 whole = image_length(schedule.image.n);
+    u64 whole = length_of(&schedule.image);
     put_text("endings ");
     put_number(count);
     put_text("\n");
-    print_ending_bytes(schedule.image.n, count);
+    print_ending_bytes(whole, count);
     print_refusal(write_ending(bytes, length, count, buffer, 0));
     print_refusal(write_ending(bytes, length, count - 1, buffer, whole - 1));
 }
@@ -129,7 +132,7 @@ static void print_written_again(const Image *image)
     if (v.number != TAKEN)
         print_refusal(v);
     else
-        put_hex(buffer, image_length(image->n));
+        put_hex(buffer, length_of(image));
 }
 
 /* An image alone: its verdict or, when taken, the image written again. */
@@ -170,25 +173,34 @@ void print_schedule(const u8 *bytes, u64 length)
     put_text("\n");
 }
 
-void contents_from_bytes(const u8 *bytes, Image *image)
+/* Contents as bytes. Those of 583 bytes are for version 1: N, head index (4), 64 nodes of 9 bytes. Those of 844 say the version they are for:
+   version (1), N, head index (8), 64 nodes of 13 bytes. The room of the lent buffer (2) is behind both. */
+void contents_from_bytes(const u8 *bytes, u64 length, Image *image)
 {
+    u32 layout = length == WIDE_CONTENTS_BYTES ? WIDE : NARROW;
+    image->form = NARROW;
+    if (layout == WIDE)
+        image->form = *bytes++ == 2 ? WIDE : NARROW;
     image->n = bytes[0];
-    image->head_index = get4(bytes + 1);
+    image->head_index = get_index(layout, bytes + 1);
     for (u32 i = 0; i < MAX_NODES; i++) {
-        const u8 *at = bytes + 5 + IMAGE_NODE * i;
+        const u8 *at = bytes + 1 + index_bytes(layout) + image_node(layout) * i;
+        image->nodes[i].queue = 0;
         image->nodes[i].linked = at[0];
-        image->nodes[i].index = get4(at + 1);
-        image->nodes[i].item = get4(at + 5);
+        image->nodes[i].index = get_index(layout, at + 1);
+        image->nodes[i].item = get4(at + 1 + index_bytes(layout));
     }
 }
 
-/* Contents to be written as an image: n, head index, 64 nodes of 9 bytes, then the room of the lent buffer. */
-void print_contents_item(const u8 *item)
+/* Contents to be written as an image, into a buffer whose room stands behind them. */
+void print_contents_item(const u8 *item, u64 length)
 {
     static u8 buffer[65536];
     Image image;
-    u64 room = get2(item + CONTENTS_BYTES - 2);
-    contents_from_bytes(item, &image);
+    if (length != CONTENTS_BYTES && length != WIDE_CONTENTS_BYTES)
+        stop("an item of contents has 583 bytes, or 844");
+    u64 room = get2(item + length - 2);
+    contents_from_bytes(item, length, &image);
     for (u64 i = 0; i < room; i++)
         buffer[i] = 0xaa; /* so that the bytes that stay can be seen */
     Verdict v = write_image(&image, buffer, room);

@@ -3,20 +3,22 @@
 
 static int in_queue(const Machine *m, u32 node)
 {
-    u32 at = m->head;
-    for (u32 steps = 0; at != NONE && steps < m->n; steps++) {
-        if (at == node)
-            return 1;
-        at = m->nodes[at].next;
+    int count = 0;
+    for (u32 q = 0; q < queue_count(m->form); q++) {
+        u32 at = m->head[q];
+        for (u32 steps = 0; at != NONE && steps < m->n && at != node; steps++)
+            at = m->nodes[at].next;
+        count += at == node;
     }
-    return 0;
+    return count;
 }
 
 static int is_held(const Machine *m, u32 node)
 {
     int count = 0;
     for (u32 k = 0; k < m->t; k++)
-        count += m->threads[k].held == node;
+        for (u32 q = 0; q < queue_count(m->form); q++)
+            count += m->threads[k].held[q] == node;
     return count;
 }
 
@@ -26,7 +28,7 @@ static int enqueue_owns(const Machine *m, u32 node)
     int count = 0;
     for (u32 k = 0; k < m->t; k++) {
         const Thread *thread = &m->threads[k];
-        int before = (thread->step >= A2 && thread->step <= A8) || thread->step == A12;
+        int before = (thread->step >= A2 && thread->step <= A8) || thread->step == A12 || thread->step == AQ;
         count += before && thread->own == node;
     }
     return count;
@@ -38,7 +40,7 @@ static int dequeue_owns(const Machine *m, u32 node)
     int count = 0;
     for (u32 k = 0; k < m->t; k++) {
         const Thread *thread = &m->threads[k];
-        count += thread->step >= D5 && thread->step <= D7 && thread->head_read == node;
+        count += ((thread->step >= D5 && thread->step <= D7) || thread->step == S6 || thread->step == D6_FENCE) && thread->head_read == node;
     }
     return count;
 }
@@ -69,7 +71,7 @@ const char *misplaced(const Machine *m)
 
 static int same_bytes(const u8 *a, const u8 *b)
 {
-    for (u32 i = 0; i < RECORD_BYTES; i++)
+    for (u32 i = 0; i < record_bytes(); i++)
         if (a[i] != b[i])
             return 0;
     return 1;
@@ -78,13 +80,14 @@ static int same_bytes(const u8 *a, const u8 *b)
 /* Performs the event twice: in the run, and on the record alone as it comes out of its bytes. */
 static const char *next_event(const Schedule *s, u32 number)
 {
-    u8 before[RECORD_BYTES], alone[RECORD_BYTES], after[RECORD_BYTES];
+    u8 before[MOST_RECORD], alone[MOST_RECORD], after[MOST_RECORD];
     Machine copy;
-    Reply reply, reply_alone;
+    Reply reply, reply_alone = {NOTHING, 0, NO_LINE, 0};
     Event e = event_at(s, number);
     record_to_bytes(&the_bench.machine, before);
-    record_from_bytes(before, &copy);
-    Verdict v_alone = perform(&copy, &e, &reply_alone);
+    Verdict v_alone = record_from_bytes(before, record_bytes(), &copy);
+    if (v_alone.number == TAKEN)
+        v_alone = perform(&copy, &e, &reply_alone);
     Verdict v = bench_event(&the_bench, &e, number, &reply);
     if (v.number == TWINS || v.number == NO_DUMMY || v.number == OUT_OF_RANGE)
         return "a run was refused by 7, 8 or 18";

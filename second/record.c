@@ -11,15 +11,21 @@ static int is_node_or_none(const Machine *m, u32 node)
     return node < m->n || node == NONE;
 }
 
+/* "A record's index above its width is 18." */
+static int index_in_range(const Machine *m, u64 index)
+{
+    return index <= largest_index(m->form);
+}
+
 static int node_in_range(const Machine *m, const Node *node)
 {
-    return is_node_or_none(m, node->next) && node->cached.linked <= 1 && node->persisted.linked <= 1 &&
+    return index_in_range(m, node->cached.index) && index_in_range(m, node->persisted.index) && is_node_or_none(m, node->next) && node->cached.linked <= 1 && node->persisted.linked <= 1 &&
            (node->waits & ~low_bits(m->t)) == 0;
 }
 
 static int uses_own(u32 step)
 {
-    return step == A2 || step == A3 || step == A4 || (step >= A7 && step <= A11);
+    return step == A2 || step == A3 || step == A4 || (step >= A7 && step <= A11) || step == A10_FENCE || step == AQ;
 }
 
 static int uses_t(u32 step)
@@ -29,20 +35,34 @@ static int uses_t(u32 step)
 
 static int uses_head_read(u32 step)
 {
-    return step == D2 || step == D4 || step == D7;
+    return step == D2 || step == D4 || step == D7 || step == S3;
 }
 
 static int uses_next_read(u32 step)
 {
-    return step == D4 || step == D5;
+    return step == D4 || step == D5 || step == S6;
+}
+
+/* Steps 20 and 21 are of "UQP", 22 to 24 of request 104. */
+static int is_step(const Machine *m, u32 step)
+{
+    return step < STEPS || (m->form == DESKS && (step == S3 || step == S6)) || (on(FENCES) && step >= A10_FENCE && step <= D6_FENCE) ||
+           (m->form == TWO && step == AQ);
+}
+
+static int is_fence(u32 step)
+{
+    return step >= A10_FENCE && step <= D6_FENCE;
 }
 
 static int thread_in_range(const Machine *m, const Thread *thread)
 {
-    if (thread->step >= STEPS)
+    if (!is_step(m, thread->step) || !index_in_range(m, thread->head_read_index))
         return 0;
     if (!is_node_or_none(m, thread->own) || !is_node_or_none(m, thread->t) || !is_node_or_none(m, thread->head_read) ||
-        !is_node_or_none(m, thread->next_read) || !is_node_or_none(m, thread->held))
+        !is_node_or_none(m, thread->next_read) || !is_node_or_none(m, thread->held[0]))
+        return 0;
+    if (is_fence(thread->step) && !thread->flushed)
         return 0;
     if (uses_own(thread->step) && thread->own == NONE)
         return 0;
@@ -55,11 +75,46 @@ static int thread_in_range(const Machine *m, const Thread *thread)
     return thread->step != A12 || m->nodes[thread->t].next != NONE;
 }
 
+static int head_lines_in_range(const Machine *m)
+{
+    for (u32 line = 0; line < head_lines(m->form, m->t); line++)
+        if (!index_in_range(m, m->lines[line]) || !index_in_range(m, m->persisted_lines[line]))
+            return 0;
+    return 1;
+}
+
+/* What version 3 alone has. */
+static int queues_in_range(const Machine *m)
+{
+    if (m->head[1] >= m->n || m->tail[1] >= m->n)
+        return 0;
+    for (u32 i = 0; i < m->n; i++)
+        if (m->nodes[i].cached.queue > 1 || m->nodes[i].persisted.queue > 1)
+            return 0;
+    for (u32 k = 0; k < m->t; k++)
+        if (m->threads[k].queue > 1 || !is_node_or_none(m, m->threads[k].held[1]))
+            return 0;
+    return 1;
+}
+
+static int is_form(u32 form)
+{
+    return form == NARROW || form == WIDE || (form == DESKS && on(DESKS_TOO)) || (form == TWO && on(QUEUES_TOO));
+}
+
 int in_range(const Machine *m)
 {
-    if (m->n < MIN_NODES || m->n > MAX_NODES || m->t < 1 || m->t > MAX_THREADS)
+    if (!is_form(m->form))
         return 0;
-    if (m->head >= m->n || m->tail >= m->n || (m->free & ~low_bits(m->n)) != 0)
+    if (m->n < (m->form == TWO ? 3 : MIN_NODES) || m->n > MAX_NODES || m->t < 1 || m->t > MAX_THREADS)
+        return 0;
+    if (!head_lines_in_range(m))
+        return 0;
+    if (on(ROTATION) && m->last >= m->n)
+        return 0;
+    if (m->form == TWO && !queues_in_range(m))
+        return 0;
+    if (m->head[0] >= m->n || m->tail[0] >= m->n || (m->free & ~low_bits(m->n)) != 0)
         return 0;
     for (u32 i = 0; i < m->n; i++)
         if (!node_in_range(m, &m->nodes[i]))
@@ -70,83 +125,193 @@ int in_range(const Machine *m)
     return 1;
 }
 
-static void node_to_bytes(const Node *node, u8 *at)
+/* ---- the bytes: a mark, the version, the form, then every field in one order. The same walk writes and reads. */
+
+typedef struct Walk {
+    u8 *to;         /* where a field is written, or 0 when fields are read */
+    const u8 *from; /* where a field is read */
+    u64 at;
+} Walk;
+
+static void field(Walk *walk, u32 bytes, u64 *value)
 {
-    put4(at, node->cached.item);
-    at[4] = (u8)node->next;
-    at[5] = (u8)node->cached.linked;
-    put4(at + 6, node->cached.index);
-    at[10] = (u8)node->waits;
-    at[11] = (u8)node->persisted.linked;
-    put4(at + 12, node->persisted.index);
-    put4(at + 16, node->persisted.item);
+    u64 read = 0;
+    for (u32 i = 0; i < bytes; i++, walk->at++) {
+        if (walk->to)
+            walk->to[walk->at] = (u8)(*value >> 8 * i);
+        else
+            read |= (u64)walk->from[walk->at] << 8 * i;
+    }
+    if (!walk->to)
+        *value = read;
 }
 
-static void node_from_bytes(const u8 *at, Node *node)
+static void field32(Walk *walk, u32 bytes, u32 *value)
 {
-    node->cached.item = get4(at);
-    node->next = at[4];
-    node->cached.linked = at[5];
-    node->cached.index = get4(at + 6);
-    node->waits = at[10];
-    node->persisted.linked = at[11];
-    node->persisted.index = get4(at + 12);
-    node->persisted.item = get4(at + 16);
+    u64 wide = *value;
+    field(walk, bytes, &wide);
+    *value = (u32)wide;
 }
 
-static void thread_to_bytes(const Thread *thread, u8 *at)
+static void walk_head_lines(Walk *walk, u64 *lines)
 {
-    at[0] = (u8)thread->step;
-    at[1] = (u8)thread->own;
-    at[2] = (u8)thread->t;
-    at[3] = (u8)thread->head_read;
-    put4(at + 4, thread->head_read_index);
-    at[8] = (u8)thread->next_read;
-    put4(at + 9, thread->item);
-    at[13] = (u8)thread->held;
+    for (u32 line = 0; line < record_head_lines(); line++)
+        field(walk, 8, &lines[line]);
+    for (u32 line = record_head_lines(); line < MAX_THREADS && !walk->to; line++)
+        lines[line] = 0;
 }
 
-static void thread_from_bytes(const u8 *at, Thread *thread)
+static void walk_node(Walk *walk, Node *node)
 {
-    thread->step = at[0];
-    thread->own = at[1];
-    thread->t = at[2];
-    thread->head_read = at[3];
-    thread->head_read_index = get4(at + 4);
-    thread->next_read = at[8];
-    thread->item = get4(at + 9);
-    thread->held = at[13];
+    field32(walk, 4, &node->cached.item);
+    field32(walk, 1, &node->next);
+    field32(walk, 1, &node->cached.linked);
+    field(walk, 8, &node->cached.index);
+    field32(walk, 1, &node->waits);
+    field32(walk, 1, &node->persisted.linked);
+    field(walk, 8, &node->persisted.index);
+    field32(walk, 4, &node->persisted.item);
 }
 
-enum { RECORD_HEAD = 20, RECORD_NODE = 20, RECORD_THREAD = 14 };
+static void walk_thread(Walk *walk, Thread *thread)
+{
+    field32(walk, 1, &thread->step);
+    field32(walk, 1, &thread->own);
+    field32(walk, 1, &thread->t);
+    field32(walk, 1, &thread->head_read);
+    field(walk, 8, &thread->head_read_index);
+    field32(walk, 1, &thread->next_read);
+    field32(walk, 4, &thread->item);
+    field32(walk, 1, &thread->held[0]);
+}
+
+enum { PASSED = 255 };
+
+static u32 line_of_fence(const Machine *m, u32 k)
+{
+    return m->threads[k].step == A10_FENCE ? head_lines(m->form, m->t) + m->threads[k].own : own_line(m, k);
+}
+
+/* A flush that waits for its fence, with nothing later persisted. */
+static int place_counts(const Machine *m, u32 k)
+{
+    return is_fence(m->threads[k].step) && m->threads[k].flushed && m->since[line_of_fence(m, k)] <= m->threads[k].flush_time;
+}
+
+/* A flush that waits for its fence, in a byte: 0 none, 255 a later content is persisted already, else its place in time among the others that wait, from 1. */
+static u32 place_of_flush(const Machine *m, u32 k)
+{
+    u32 place = 1;
+    if (!is_fence(m->threads[k].step) || !m->threads[k].flushed)
+        return 0;
+    if (m->since[line_of_fence(m, k)] > m->threads[k].flush_time)
+        return PASSED;
+    for (u32 j = 0; j < m->t; j++)
+        place += j != k && place_counts(m, j) && m->threads[j].flush_time < m->threads[k].flush_time;
+    return place;
+}
+
+/* Times that give back the places: what is persisted at 1000, passed flushes before it, the others behind it. */
+static void flush_from_place(Machine *m, u32 k, u32 place)
+{
+    m->clock = 2000;
+    for (u32 line = 0; line < MAX_LINES; line++)
+        m->since[line] = 1000;
+    m->threads[k].flushed = place != 0;
+    m->threads[k].flush_time = place == PASSED ? 1 : 1000 + place;
+}
+
+static void walk_flush(Walk *walk, Machine *m, u32 k)
+{
+    Thread *thread = &m->threads[k];
+    u32 place = walk->to ? place_of_flush(m, k) : 0;
+    Content content = thread->flush_content, none = {0, 0, 0, 0};
+    if (walk->to && place == 0)
+        content = none;
+    field32(walk, 1, &place);
+    field32(walk, 1, &content.linked);
+    field(walk, 8, &content.index);
+    field32(walk, 4, &content.item);
+    if (walk->to)
+        return;
+    thread->flush_content = content;
+    flush_from_place(m, k, place);
+}
+
+/* Behind all else: the other queue's Head and Tail, each node's two queue bytes, each thread's queue, its other held node and the queue byte it flushed. */
+static void walk_queues(Walk *walk, Machine *m)
+{
+    field32(walk, 1, &m->head[1]);
+    field32(walk, 1, &m->tail[1]);
+    for (u32 i = 0; i < MAX_NODES; i++) {
+        field32(walk, 1, &m->nodes[i].cached.queue);
+        field32(walk, 1, &m->nodes[i].persisted.queue);
+    }
+    for (u32 k = 0; k < MAX_THREADS; k++) {
+        u32 flushed = m->threads[k].flushed ? m->threads[k].flush_content.queue : 0;
+        field32(walk, 1, &m->threads[k].queue);
+        field32(walk, 1, &m->threads[k].held[1]);
+        field32(walk, 1, &flushed);
+        m->threads[k].flush_content.queue = flushed;
+    }
+}
+
+/* Behind the mark and the version. */
+static void walk_machine(Walk *walk, Machine *m)
+{
+    field32(walk, 1, &m->form);
+    field32(walk, 1, &m->n);
+    field32(walk, 1, &m->t);
+    field32(walk, 1, &m->head[0]);
+    field32(walk, 1, &m->tail[0]);
+    field(walk, 8, &m->free);
+    walk_head_lines(walk, m->lines);
+    walk_head_lines(walk, m->persisted_lines);
+    for (u32 i = 0; i < MAX_NODES; i++)
+        walk_node(walk, &m->nodes[i]);
+    for (u32 k = 0; k < MAX_THREADS; k++)
+        walk_thread(walk, &m->threads[k]);
+    if (on(ROTATION))
+        field32(walk, 1, &m->last);
+    for (u32 k = 0; on(FENCES) && k < MAX_THREADS; k++)
+        walk_flush(walk, m, k);
+    if (on(QUEUES_TOO))
+        walk_queues(walk, m);
+}
+
+/* What is on or off does not change while the program runs. */
+u64 record_bytes(void)
+{
+    static u8 nowhere[MOST_RECORD];
+    static Machine blank;
+    static u64 known;
+    if (known == 0) {
+        Walk walk = {nowhere, 0, RECORD_MARK};
+        walk_machine(&walk, &blank);
+        known = walk.at;
+    }
+    return known;
+}
 
 void record_to_bytes(const Machine *m, u8 *bytes)
 {
-    bytes[0] = (u8)m->n;
-    bytes[1] = (u8)m->t;
-    bytes[2] = (u8)m->head;
-    put4(bytes + 3, m->head_index);
-    bytes[7] = (u8)m->tail;
-    put4(bytes + 8, (u32)m->free);
-    put4(bytes + 12, (u32)(m->free >> 32));
-    put4(bytes + 16, m->persisted_head_index);
-    for (u32 i = 0; i < MAX_NODES; i++)
-        node_to_bytes(&m->nodes[i], bytes + RECORD_HEAD + RECORD_NODE * i);
-    for (u32 k = 0; k < MAX_THREADS; k++)
-        thread_to_bytes(&m->threads[k], bytes + RECORD_HEAD + RECORD_NODE * MAX_NODES + RECORD_THREAD * k);
+    Machine copy = *m;
+    Walk walk = {bytes, 0, RECORD_MARK};
+    bytes[0] = 'U';
+    bytes[1] = 'Q';
+    bytes[2] = 'M';
+    put2(bytes + 3, RECORD_VERSION);
+    walk_machine(&walk, &copy);
 }
 
-void record_from_bytes(const u8 *bytes, Machine *m)
+/* A record's bytes: a wrong length (1), a wrong mark or version (2), then 18. */
+Verdict record_from_bytes(const u8 *bytes, u64 length, Machine *m)
 {
-    m->n = bytes[0];
-    m->t = bytes[1];
-    m->head = bytes[2];
-    m->head_index = get4(bytes + 3);
-    m->tail = bytes[7];
-    m->free = (u64)get4(bytes + 8) | (u64)get4(bytes + 12) << 32;
-    m->persisted_head_index = get4(bytes + 16);
-    for (u32 i = 0; i < MAX_NODES; i++)
-        node_from_bytes(bytes + RECORD_HEAD + RECORD_NODE * i, &m->nodes[i]);
-    for (u32 k = 0; k < MAX_THREADS; k++)
-        thread_from_bytes(bytes + RECORD_HEAD + RECORD_NODE * MAX_NODES + RECORD_THREAD * k, &m->threads[k]);
+    Walk walk = {0, bytes, RECORD_MARK};
+    if (length != record_bytes())
+        return verdict(WRONG_LENGTH, 0);
+    walk_machine(&walk, m);
+    if (bytes[0] != 'U' || bytes[1] != 'Q' || bytes[2] != 'M' || get2(bytes + 3) != RECORD_VERSION)
+        return verdict(WRONG_MARK, 0);
+    return verdict(in_range(m) ? TAKEN : OUT_OF_RANGE, 0);
 }

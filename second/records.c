@@ -6,48 +6,81 @@ static u32 some_node(const Machine *m, u32 none_percent)
     return chance(none_percent) ? NONE : below(m->n);
 }
 
-static u32 some_index(void)
+/* Small, at the top of the form, and in version 2 about 2^32. */
+static u64 some_index(u32 form)
 {
-    return chance(10) ? LARGEST - below(2) : below(6);
+    if (index_bytes(form) == 8 && chance(10))
+        return (u64)LARGEST - 1 + below(4);
+    return chance(10) ? largest_index(form) - below(2) : below(6);
 }
 
-static Content some_content(void)
+static Content some_content(u32 form)
 {
-    Content c = {below(2), some_index(), chance(50) ? below(4) : (u32)random_bits()};
+    Content c = {below(2), some_index(form), chance(50) ? below(4) : (u32)random_bits(), 0};
+    if (form == TWO)
+        c.queue = below(2);
     return c;
 }
 
 static void random_thread(const Machine *m, Thread *thread)
 {
-    thread->step = chance(20) ? IDLE : below(STEPS);
+    thread->step = chance(20) ? IDLE : below(on(FENCES) || on(QUEUES_TOO) || chance(2) ? LAST_STEP + 1 : m->form == DESKS ? A10_FENCE : STEPS);
     thread->own = some_node(m, 2);
     thread->t = some_node(m, 2);
-    thread->head_read = chance(50) ? m->head : some_node(m, 2);
-    thread->head_read_index = chance(50) ? m->head_index : some_index();
+    thread->head_read = chance(50) ? m->head[0] : some_node(m, 2);
+    thread->head_read_index = chance(50) ? m->lines[0] : some_index(m->form);
     thread->next_read = some_node(m, 2);
     thread->item = (u32)random_bits();
-    thread->held = some_node(m, 30);
+    thread->queue = m->form == TWO ? below(2) : 0;
+    thread->held[0] = some_node(m, 30);
+    thread->held[1] = some_node(m, 30);
+    thread->flushed = chance(90);
+    thread->flush_time = below(20);
+    thread->flush_content = some_content(m->form);
 }
 
 /* Fields drawn within their ranges (now and then no node where one is used): mostly records that no run leads to. */
 static void random_record(Machine *m)
 {
-    m->n = chance(70) ? 2 + below(4) : 2 + below(63);
+    m->form = some_form();
+    m->n = m->form == TWO ? 3 + below(4) : chance(70) ? 2 + below(4) : 2 + below(63);
     m->t = 1 + below(8);
-    m->head = below(m->n);
-    m->head_index = some_index();
-    m->tail = below(m->n);
+    m->head[0] = below(m->n);
+    m->head[1] = below(m->n);
+    for (u32 line = 0; line < MAX_THREADS; line++)
+        m->lines[line] = some_index(m->form);
+    m->tail[0] = below(m->n);
+    m->tail[1] = below(m->n);
+    m->clock = 20;
+    for (u32 line = 0; line < MAX_LINES; line++)
+        m->since[line] = chance(70) ? 0 : below(20);
+    m->last = below(m->n);
     m->free = chance(20) ? 0 : random_bits() & (m->n == 64 ? ~(u64)0 : bit(m->n) - 1);
-    m->persisted_head_index = some_index();
+    for (u32 line = 0; line < MAX_THREADS; line++)
+        m->persisted_lines[line] = some_index(m->form);
     for (u32 i = 0; i < MAX_NODES; i++) {
         Node *node = &m->nodes[i];
-        node->cached = some_content();
-        node->persisted = some_content();
+        node->cached = some_content(m->form);
+        node->persisted = some_content(m->form);
         node->next = some_node(m, 30);
         node->waits = chance(50) ? 0 : (u32)(random_bits() & (bit(m->t) - 1));
     }
     for (u32 k = 0; k < MAX_THREADS; k++)
         random_thread(m, &m->threads[k]);
+}
+
+/* 18: one index above the record's width, or one where the record ends already, which is no part of it. */
+static void index_above_width(Machine *m)
+{
+    u64 index = (u64)LARGEST + 1 + below(2);
+    m->form = m->form == DESKS ? DESKS : NARROW;
+    switch (below(5)) {
+    case 0: m->lines[below(record_head_lines())] = index; break;
+    case 1: m->persisted_lines[below(record_head_lines())] = index; break;
+    case 2: m->nodes[below(chance(80) ? m->n : MAX_NODES)].cached.index = index; break;
+    case 3: m->nodes[below(chance(80) ? m->n : MAX_NODES)].persisted.index = index; break;
+    default: m->threads[below(chance(80) ? m->t : MAX_THREADS)].head_read_index = index; break;
+    }
 }
 
 /* The record some run has reached. */
@@ -72,11 +105,13 @@ static void some_record_event(const Machine *m, u8 *at)
     else if (which == 1)
         e.kind = BEGIN_DEQUEUE;
     else if (which == 2)
-        e.kind = WRITE_BACK, e.number = below(m->n + 2);
+        e.kind = WRITE_BACK, e.number = below(line_count(m) + 1);
     else if (which == 3)
         e.kind = CRASH, e.number = chance(90) ? 0 : 1;
     else if (which == 4)
-        e.kind = below(7), e.number = below(10), e.item = below(2);
+        e.kind = below(9), e.number = below(10), e.item = below(2);
+    if (m->form == TWO && begins(e.kind) && e.kind <= BEGIN_DEQUEUE && chance(50))
+        e.kind += BEGIN_ENQUEUE_1 - BEGIN_ENQUEUE;
     event_to_bytes(&e, at);
 }
 
@@ -88,21 +123,35 @@ static void aim_at_step(const Machine *m, u8 *at)
             at[1] = (u8)k;
 }
 
+/* A wrong mark or version, which stands before 18; a form that there is not. */
+static void spoil_beginning(u8 *item)
+{
+    if (chance(60))
+        item[below(RECORD_MARK)] ^= (u8)(1 + below(255));
+    else
+        item[RECORD_MARK] = (u8)(chance(50) ? 0 : 3 + below(253));
+}
+
 void generate_record_item(u64 seed, u64 number, u8 *item)
 {
     Machine m;
+    u64 length = record_bytes();
     seed_random(seed, number);
     u32 kind = below(10);
     if (kind < 4)
         record_of_run(&m);
     else
         random_record(&m);
+    if (kind >= 4 && chance(5))
+        index_above_width(&m);
     record_to_bytes(&m, item);
-    some_record_event(&m, item + RECORD_BYTES);
-    aim_at_step(&m, item + RECORD_BYTES);
+    some_record_event(&m, item + length);
+    aim_at_step(&m, item + length);
     if (kind == 3 || kind == 9) /* one byte spoilt, most often out of range */
-        item[chance(50) ? below(20) : chance(50) ? RECORD_BYTES - 1 - below(112) : below(RECORD_BYTES)] = (u8)random_bits();
+        item[chance(50) ? RECORD_MARK + below(28) : chance(50) ? length - 1 - below(chance(10) ? 1 : 150) : below((u32)length)] = (u8)random_bits();
     if (kind == 8 && chance(20)) /* every byte string is some record */
-        for (u32 i = 2; i < RECORD_BYTES; i++)
+        for (u64 i = RECORD_MARK + 3; i < length; i++)
             item[i] = (u8)random_bits();
+    if (chance(4))
+        spoil_beginning(item);
 }

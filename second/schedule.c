@@ -23,9 +23,11 @@ Verdict read_schedule(const u8 *bytes, u64 length, Schedule *s)
     if (v.number != TAKEN)
         return v;
     v = read_image_head(bytes + SCHEDULE_HEAD, length - SCHEDULE_HEAD, &s->image);
+    if (v.number == TAKEN && s->image.form == DESKS && s->image.t != s->t)
+        v = verdict(WRONG_T, 0); /* "a schedule whose two T differ is 4, right after the image's own 4" */
     if (v.number != TAKEN)
         return v;
-    u64 before_events = SCHEDULE_HEAD + image_length(s->image.n);
+    u64 before_events = SCHEDULE_HEAD + length_of(&s->image);
     if (length != before_events + (u64)EVENT_BYTES * s->event_count)
         return verdict(WRONG_LENGTH, 0);
     s->events = bytes + before_events;
@@ -49,24 +51,12 @@ void event_to_bytes(const Event *e, u8 *bytes)
 /* Writes the head and the image; the caller has put the events (or puts them) behind, at the length given back. */
 u64 schedule_to_bytes(const Schedule *s, u8 *bytes)
 {
-    u8 *at = bytes + SCHEDULE_HEAD;
     bytes[0] = 'U';
     bytes[1] = 'Q';
     bytes[2] = 'S';
     put2(bytes + 3, 1);
     bytes[5] = (u8)s->t;
     put2(bytes + 6, s->event_count);
-    at[0] = 'U';
-    at[1] = 'Q';
-    at[2] = 'I';
-    put2(at + 3, 1);
-    at[5] = (u8)s->image.n;
-    put4(at + 6, s->image.head_index);
-    for (u32 i = 0; i < s->image.n; i++) {
-        u8 *node = at + IMAGE_HEAD + IMAGE_NODE * i;
-        node[0] = (u8)s->image.nodes[i].linked;
-        put4(node + 1, s->image.nodes[i].index);
-        put4(node + 5, s->image.nodes[i].item);
-    }
-    return SCHEDULE_HEAD + image_length(s->image.n);
+    image_to_bytes(&s->image, bytes + SCHEDULE_HEAD);
+    return SCHEDULE_HEAD + length_of(&s->image);
 }

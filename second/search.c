@@ -4,6 +4,13 @@
 static const char *const machine_names[MACHINES] = {
     "right", "index-first", "retire-same-dequeue", "empty-no-persist", "consecutive", "equal-twice",
     "waits-for-nobody", "a10-no-persist", "d6-no-persist", "a4-left-out",
+    "worn-by-32", "nodes-first", "low-half-twice", "lowest-cleared", "stops-at-first",
+    "from-last", "tail-last", "last-forgotten",
+    "s6-old-dummy", "s3-line-0", "persist-line-0", "first-desk", "last-desk",
+    "clean-without-item", "clean-before-zeros",
+    "fence-present", "fence-backwards", "empty-at-flush",
+    "one-held", "queue-before-linked", "dummies-linked",
+    "by-item", "unanswered-never-in",
 };
 
 u32 machine_of_name(const char *name)
@@ -39,7 +46,7 @@ static void copy(u8 *to, const u8 *from, u64 length)
 
 static u64 events_from(const u8 *bytes)
 {
-    return SCHEDULE_HEAD + image_length(bytes[SCHEDULE_HEAD + 5]);
+    return SCHEDULE_HEAD + length_in(bytes + SCHEDULE_HEAD);
 }
 
 /* Leaves out the events whose entry in `drop` is set; keeps the shorter schedule if it still shows the machine wrong. */
@@ -68,7 +75,7 @@ static void mark_operation(const u8 *bytes, u32 first, u8 *drop)
     const u8 *events = bytes + events_from(bytes);
     for (u32 i = first; i < get2(bytes + 6); i++) {
         const u8 *e = events + EVENT_BYTES * i;
-        int same = e[0] <= STEP && e[1] == events[EVENT_BYTES * first + 1];
+        int same = (e[0] <= STEP || begins(e[0])) && e[1] == events[EVENT_BYTES * first + 1];
         if (e[0] == CRASH || (i > first && same && e[0] != STEP))
             return;
         if (same)
@@ -88,7 +95,7 @@ static int shrink_events(u32 machine, u8 *bytes, u64 *length)
         }
     for (u32 first = 0; first < get2(bytes + 6); first++) {
         u8 drop[MAX_EVENTS] = {0};
-        if ((bytes + events_from(bytes))[EVENT_BYTES * first] > BEGIN_DEQUEUE)
+        if ((bytes + events_from(bytes))[EVENT_BYTES * first] > BEGIN_DEQUEUE && !begins((bytes + events_from(bytes))[EVENT_BYTES * first]))
             continue;
         mark_operation(bytes, first, drop);
         shrunk |= try_without(machine, bytes, length, drop);
@@ -112,9 +119,9 @@ static int try_byte(u32 machine, u8 *bytes, u64 length, u64 at, u8 value)
 static int shrink_rest(u32 machine, u8 *bytes, u64 length)
 {
     int shrunk = 0;
-    if (bytes[5] > 1)
+    if (bytes[5] > 1 && form_of(bytes + SCHEDULE_HEAD) != DESKS)
         shrunk |= try_byte(machine, bytes, length, 5, (u8)(bytes[5] - 1));
-    for (u64 at = SCHEDULE_HEAD + 6; at < events_from(bytes); at++)
+    for (u64 at = SCHEDULE_HEAD + 7; at < events_from(bytes); at++)
         shrunk |= try_byte(machine, bytes, length, at, 0);
     return shrunk;
 }
@@ -122,15 +129,15 @@ static int shrink_rest(u32 machine, u8 *bytes, u64 length)
 /* Drops the last node when the schedule does without it. */
 static int shrink_nodes(u32 machine, u8 *bytes, u64 *length)
 {
-    u64 from = events_from(bytes);
-    if (bytes[SCHEDULE_HEAD + 5] <= MIN_NODES)
+    u64 from = events_from(bytes), node = image_node(form_of(bytes + SCHEDULE_HEAD));
+    if (bytes[SCHEDULE_HEAD + 5] <= MIN_NODES + (form_of(bytes + SCHEDULE_HEAD) == TWO))
         return 0;
-    copy(trial, bytes, from - IMAGE_NODE);
-    copy(trial + from - IMAGE_NODE, bytes + from, *length - from);
+    copy(trial, bytes, from - node);
+    copy(trial + from - node, bytes + from, *length - from);
     trial[SCHEDULE_HEAD + 5]--;
-    if (!shows(machine, trial, *length - IMAGE_NODE))
+    if (!shows(machine, trial, *length - node))
         return 0;
-    *length -= IMAGE_NODE;
+    *length -= node;
     copy(bytes, trial, *length);
     return 1;
 }

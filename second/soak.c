@@ -31,10 +31,11 @@ void print_soak(const u8 *bytes, u64 length)
 {
     static Machine machine;
     static Image image;
-    u8 record[RECORD_BYTES];
+    u8 record[MOST_RECORD];
     u64 taken = 0, items = 0;
     if (length != 10)
         stop("a long run has 10 bytes");
+    image.form = NARROW;
     image.n = bytes[0];
     image.head_index = 0;
     start(&machine, bytes[1], &image);
@@ -53,6 +54,6 @@ void print_soak(const u8 *bytes, u64 length)
     put_text(" ");
     put_number(items);
     put_text(" ");
-    put_sum(add_to_sum(NO_SUM, record, RECORD_BYTES));
+    put_sum(add_to_sum(NO_SUM, record, record_bytes()));
     put_text("\n");
 }

@@ -158,7 +158,7 @@ static u32 say_node(const u64 *numbers)
 {
     if (numbers[0] >= telling.n)
         return NUMBER_TOO_BIG;
-    Content c = {(u32)numbers[1], (u32)numbers[2], (u32)numbers[3]};
+    Content c = {(u32)numbers[1], (u32)numbers[2], (u32)numbers[3], 0};
     telling.nodes[numbers[0]] = c;
     return GOOD;
 }
@@ -197,7 +197,7 @@ static u32 say_line(const Cut_line *line)
 static u32 listen(const u8 *text, u64 length, u64 *at_line)
 {
     const u8 *end = text + length;
-    Content blank = {0, 0, 0};
+    Content blank = {0, 0, 0, 0};
     telling.named = 0;
     telling.t = 1;
     telling.n = telling.head = telling.event_count = 0;
@@ -231,8 +231,8 @@ static u64 told_bytes(u8 *to)
         at[i] = second[i];
     at[5] = (u8)telling.n;
     put4(at + 6, telling.head);
-    at += IMAGE_HEAD;
-    for (u32 i = 0; i < telling.n; i++, at += IMAGE_NODE) {
+    at += image_head(NARROW);
+    for (u32 i = 0; i < telling.n; i++, at += image_node(NARROW)) {
         at[0] = (u8)telling.nodes[i].linked;
         put4(at + 1, telling.nodes[i].index);
         put4(at + 5, telling.nodes[i].item);
@@ -242,7 +242,7 @@ static u64 told_bytes(u8 *to)
     return (u64)(at - to);
 }
 
-static u8 made[SCHEDULE_HEAD + IMAGE_HEAD + IMAGE_NODE * MOST_NODES + EVENT_BYTES * MOST_EVENTS];
+static u8 made[SCHEDULE_HEAD + 10 + 9 * MOST_NODES + EVENT_BYTES * MOST_EVENTS];
 
 /* A line: what is wrong, its line, and the bytes in hex. */
 static void print_unwords(const u8 *bytes, u64 length)
@@ -327,10 +327,19 @@ static u32 entry_count(const Schedule *s)
     return 3 + s->image.n + s->event_count;
 }
 
+/* docs/WORDS.md: "The image is of version 1". Any other version is a wrong one here, so 2. */
+static Verdict read_spoken(const u8 *bytes, u64 length, Schedule *s)
+{
+    only_form = NARROW;
+    Verdict v = read_schedule(bytes, length, s);
+    only_form = 0;
+    return v;
+}
+
 static void print_words(const u8 *bytes, u64 length)
 {
     Schedule s;
-    Verdict v = read_schedule(bytes, length, &s);
+    Verdict v = read_spoken(bytes, length, &s);
     if (v.number != TAKEN) {
         print_refusal(v);
         return;
@@ -370,7 +379,7 @@ static void print_piece(const u8 *item, u64 length)
     room = get2(item + 2);
     for (u64 i = 0; i < room; i++)
         buffer[i] = 0xaa;
-    Verdict v = read_schedule(item + 4, length - 4, &s);
+    Verdict v = read_spoken(item + 4, length - 4, &s);
     if (v.number == TAKEN)
         v = fill(&s, get2(item), room, buffer, &entries, &used);
     put_number(v.number);
