@@ -4,7 +4,7 @@ use mathlib.Core.Path.{_≡_, refl}
 use mathlib.Core.Bool.{Bool, true, false}
 use mathlib.Core.List.{List, [], _∷_, _++_, map}
 use lib.ListN.{take, drop, replicate}
-use Rattle.lists.specs.Find.{least, any, count}
+use Rattle.lists.specs.Find.{least, around, any, count}
 use Rattle.lists.specs.Tab.{tab, joined, over, front}
 use Rattle.lists.specs.Text.{text, digitsOf, decimal}
 use Rattle.lists.specs.Word.{has, with, without, wordOf}
@@ -67,7 +67,7 @@ widest =
 -- P1 TO P9 ON VERSION 2 GIVE THE SAME PAGES, and the two above
 pub wide-hold : allRight (map onWide (take 9 starred) ++ widest) ≡ true
 unfolding widely onWide wideNodes widest bytesIn imageBytes headBytes bodyBytes allRight right starred p1 p3 p6 sameBytes lastAnswer sixPlaces heldBelow four enqueue dequeue step zeroNodes schedule
-    least any count tab joined over front text digitsOf decimal has with without wordOf
+    least around any count tab joined over front text digitsOf decimal has with without wordOf
     noContents atW known widthOf topOf headsAt nodeSize headerSize marked formIn nodePlace readNodes imageIn recovered twins hasTwin firstTwin dummyOf firstUnclear startable sound imageAnswer
     blankNodes idleThreads insert risen behind lastOf startWith nextFree releasedAt released others retired eventAt
     reached isHeld inEnqueue inDequeue scheduleIn eventsIn scheduleAnswer run ran
