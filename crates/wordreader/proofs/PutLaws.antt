@@ -64,6 +64,11 @@ pub start-most : (f i : ℕ) → known f ≡ true → i ≤ 65535 → nodeStart 
 unfolding known
 start-most f i h l = forms.by-form (λ f. nodeStart f i ≤ 851977) f h (omega (arith, forms.place-plain 1 i refl (λ e. omega arith))) (omega (arith, forms.place-wide 2 i refl))
 
+-- so a schedule has fewer than 500,000 bytes
+pub start-few : (f i : ℕ) → known f ≡ true → i ≤ 255 → nodeStart f i ≤ 3337
+unfolding known
+start-few f i h l = forms.by-form (λ f. nodeStart f i ≤ 3337) f h (omega (arith, forms.place-plain 1 i refl (λ e. omega arith))) (omega (arith, forms.place-wide 2 i refl))
+
 pub span-most : (f : ℕ) → known f ≡ true → nodeSize f ≤ 13
 span-most f h = omega (arith, forms.size-is f h, forms.width-few f h .1)
 
