@@ -15,7 +15,7 @@ use Rattle.machine.specs.Retire.{nextFree}
 use Rattle.machine.specs.Event.{eventAt}
 use Rattle.machine.specs.declared.Machine.{Machine}
 use Rattle.machine.specs.declared.Event.{Event}
-use Rattle.turns.specs.Turns.{HandsOut, Handed, NoCrash, behind, InTurn}
+use Rattle.turns.specs.Turns.{HandsOut, Handed, NoCrash, afterAll, InTurn}
 use Rattle.turns.proofs.Still.{Still, Given, left-by}
 
 -- where the round stands: at a node of the machine that is not i, i is free, and it is no further from i than j is
@@ -57,10 +57,10 @@ next-in m i j s = around-lt (has (m .free)) (m .n) (m .last) (by (decLt (least (
     by (yes h) = h
     by (no h) = no-way (sym (s .free) ∙ least-clear (has (m .free)) (m .n) 0 (omega arith) i (omega arith) (omega (arith, s .node-in)))
 
-turn : (p : ℕ) (m : Machine) (l : List Event) (e : Event) (i j : ℕ) → NoCrash l → Stands m i j → HandsOut (p + length l) (behind p m l) e j → Handed i p m l
-unfolding behind
+turn : (p : ℕ) (m : Machine) (l : List Event) (e : Event) (i j : ℕ) → NoCrash l → Stands m i j → HandsOut (p + length l) (afterAll p m l) e j → Handed i p m l
+unfolding afterAll
 turn p m [] e i j c s h = absurd (omega (arith, s .near, ap (λ x. gap (m .n) x i) (h .node), nearer m i j s))
-turn p m (d ∷ l) e i j c s h = by (left-by p m d (c .0)) (λ k. turn (suc p) m′ l e i j (c .1) k (subst (λ q. HandsOut q (behind (suc p) m′ l) e j) z h))
+turn p m (d ∷ l) e i j c s h = by (left-by p m d (c .0)) (λ k. turn (suc p) m′ l e i j (c .1) k (subst (λ q. HandsOut q (afterAll (suc p) m′ l) e j) z h))
   where
     m′ : Machine
     m′ = eventAt p m d .machine

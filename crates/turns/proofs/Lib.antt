@@ -1,3 +1,4 @@
 pub mod Next
 pub mod Still
 pub mod InTurn
+pub mod Computed

@@ -24,9 +24,9 @@ pub record HandsOut (p : ℕ) (m : Machine) (e : Event) (i : ℕ) : Type 0 where
   pub node : nextFree m ≡ i
 
 -- the machine behind events in turn, the first of which has number p
-unfoldable pub behind : ℕ → Machine → List Event → Machine
-behind p m [] = m
-behind p m (e ∷ l) = behind (suc p) (eventAt p m e .machine) l
+unfoldable pub afterAll : ℕ → Machine → List Event → Machine
+afterAll p m [] = m
+afterAll p m (e ∷ l) = afterAll (suc p) (eventAt p m e .machine) l
 
 -- one of them hands out node i
 abbrev pub Handed : ℕ → ℕ → Machine → List Event → Type 0
@@ -42,4 +42,4 @@ NoCrash (e ∷ l) = (deedOf (e .kind) ≢ crashes) × NoCrash l
 abbrev pub InTurn : ℕ → Machine → List Event → Event → ℕ → ℕ → Type 0
 InTurn p m l e i j =
     m .last ≡ j → j < m .n → i < m .n → i ≢ j → has (m .free) i ≡ true → NoCrash l
-    → HandsOut (p + length l) (behind p m l) e j → Handed i p m l
+    → HandsOut (p + length l) (afterAll p m l) e j → Handed i p m l
