@@ -1,0 +1,3 @@
+pub mod ClearLaws
+pub mod MendLaws
+pub mod Plain
