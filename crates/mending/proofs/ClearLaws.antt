@@ -75,6 +75,7 @@ twin-recovered g i e = by (recoveredAt g i) refl
     none : recoveredAt g i ≡ false → (j : ℕ) → (b : Bool) → twins g i j ≡ b → b ≡ false
     none n j true t = no-way (sym (twins-apart g i j t .0) ∙ n)
     none n j false t = refl
+
     by : (b : Bool) → recoveredAt g i ≡ b → recoveredAt g i ≡ true
     by true r = r
     by false r = no-way (sym e ∙ any-none (twins g i) i (λ j p. none r j (twins g i j) refl))

@@ -48,6 +48,7 @@ module _ (g : Image) where
       flag : (b : Bool) → b ≡ true → (c : Content) → ltb 1 (unlinked b c .linked) ≡ false
       flag true e c = refl
       flag false e c = false-true e
+
       by : (b : Bool) → unclearAt g i ≡ b → unclearAt (cleared (unclearAt g) g) i ≡ false
       by true e = ap (λ c. ltb 1 (c .linked)) (clear.cleared-at (unclearAt g) g i h) ∙ flag (unclearAt g i) e (contentAt (g .nodes) i)
       by false e = clear.cleared-clear (unclearAt g) g i h e
@@ -78,8 +79,10 @@ module _ (g : Image) where
     where
       big : ℕ
       big = largestAt (λ j. contentAt (g .nodes) j .index) (g .n)
+
       off : (i : ℕ) → recoveredAt (cleared (spareAt g) g) i ≡ false → not (recoveredAt (cleared (spareAt g) g) i) ≡ true
       off i e = ap not e
+
       by : (b : Bool) → eqb (dummyOf g) (g .n) ≡ b → least (λ i. not (recoveredAt (cleared (spareAt g) g) i)) (g .n) 0 < g .n
       by true e =
           let p = largest-in (λ j. contentAt (g .nodes) j .index) (g .n) h in
@@ -142,10 +145,11 @@ parts : (g : Image) → accepted (sound g Taken) ≡ true
     → ((i : ℕ) → i < g .n → unclearAt g i ≡ false) × ((i : ℕ) → i < g .n → hasTwin g i ≡ false) × ((i : ℕ) → spareAt g i ≡ false)
 unfolding sound startable firstUnclear firstTwin unclearAt spareAt
 parts g h =
-    let a = taken (ltb (firstUnclear g) (g .n)) (ltb (firstTwin g) (g .n)) (eqb (dummyOf g) (g .n)) h in
-    ( λ i p. least-clear (unclearAt g) (g .n) 0 (omega (arith, ltb-false (firstUnclear g) (g .n) (a .0))) i (omega arith) (omega arith)
-    , λ i p. least-clear (hasTwin g) (g .n) 0 (omega (arith, ltb-false (firstTwin g) (g .n) (a .1))) i (omega arith) (omega arith)
-    , λ i. rw (a .2))
+    let a = taken (ltb (firstUnclear g) (g .n)) (ltb (firstTwin g) (g .n)) (eqb (dummyOf g) (g .n)) h in (
+      λ i p. least-clear (unclearAt g) (g .n) 0 (omega (arith, ltb-false (firstUnclear g) (g .n) (a .0))) i (omega arith) (omega arith),
+      λ i p. least-clear (hasTwin g) (g .n) 0 (omega (arith, ltb-false (firstTwin g) (g .n) (a .1))) i (omega arith) (omega arith),
+      λ i. rw (a .2),
+    )
   where
     taken : (a b c : Bool) → accepted (check a (Linked (firstUnclear g)) (check b (Twin (firstTwin g)) (check c NoDummy Taken))) ≡ true → (a ≡ false) × (b ≡ false) × (c ≡ false)
     taken true b c e = false-true e
@@ -241,6 +245,7 @@ module _ (g : Image) where
     where
       at1 : contentAt (g1 .nodes) i ≡ unlinked (unclearAt g i) (contentAt (g .nodes) i)
       at1 = bytes-at g i h
+
       at2 : contentAt (g2 .nodes) i ≡ unlinked (hasTwin g1 i) (contentAt (g1 .nodes) i)
       at2 = twins-at g1 i (rw size1 h)
 
@@ -274,10 +279,12 @@ module _ (g : Image) where
       off : spareAt g2 i ≡ true → (b : Bool) → spareAt g2 j ≡ b → b ≡ false
       off r true t = absurd (ne (spare-all g2 j t .1 ∙ sym (spare-all g2 i r .1)))
       off r false t = refl
+
       none : spareAt g2 i ≡ true → reasonAt g j ≡ 0
       none r =
           let f = recovered-through j h (all-recovered g2 (spare-all g2 i r .0) j (rw size2 h)) in
           rw (f .0, f .1, off r (spareAt g2 j) refl)
+
       by : (a b c : Bool) → spareAt g2 i ≡ c → why a b c ≡ 8 → reasonAt g j ≡ 0
       by true b c r z = absurd (omega arith)
       by false true c r z = absurd (omega arith)

@@ -81,6 +81,7 @@ module _ (g : Image) where
     where
       g1 : Image
       g1 = bytesMended g
+
       each : (i : ℕ) → i < cleared (hasTwin g1) g1 .n → recoveredAt (cleared (hasTwin g1) g1) i ≡ true
       each i p =
           let h : i < g .n = rw (mend.size2 g) at p in
@@ -102,11 +103,14 @@ module _ (g : Image) where
     where
       g2 : Image
       g2 = twinsMended (bytesMended g)
+
       big : ℕ
       big = largestAt (λ j. contentAt (g .nodes) j .index) (g .n)
+
       off : (b : Bool) → eqb (dummyOf g2) (g .n) ≡ b → (firstTwin g ≡ g .n → dummyOf g ≡ g .n → ⊥) → both b (eqb i big) ≡ eqb i (g .n)
       off true e n = let p = back2 (eqb-true (dummyOf g2) (g .n) e) in absurd (n (p .0) (p .1))
       off false e n = sym (ne-eqb i (g .n) (omega arith))
+
       by : (a b : Bool) → eqb (firstTwin g) (g .n) ≡ a → eqb (dummyOf g) (g .n) ≡ b → both (eqb (dummyOf g2) (g .n)) (eqb i big) ≡ eqb i (pick (both a b) big (g .n))
       by true true p q = ap (λ b. both b (eqb i big)) (eq-eqb (dummyOf g2) (g .n) (all2 (eqb-true (firstTwin g) (g .n) p) (eqb-true (dummyOf g) (g .n) q)))
       by true false p q = off (eqb (dummyOf g2) (g .n)) refl (λ t d. eqb-false (dummyOf g) (g .n) q d)
