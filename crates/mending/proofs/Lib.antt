@@ -1,3 +1,4 @@
 pub mod ClearLaws
 pub mod MendLaws
 pub mod Plain
+pub mod Turns

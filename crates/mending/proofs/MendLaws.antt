@@ -17,25 +17,27 @@ use Rattle.image.specs.Recovered.{recoveredAt, hasTwin, firstTwin, dummyOf, fir
 use Rattle.image.specs.Refusals.{startable, sound}
 use Rattle.image.specs.declared.Content.{Content}
 use Rattle.image.specs.declared.Image.{Image}
-use Rattle.mending.specs.Mended.{unlinked, cleared, unclearAt, bytesMended, twinsMended, largestAt, spareAt, spareMended, mended, reasonAt}
+use Rattle.mending.specs.Mended.{unlinked, cleared, unclearAt, bytesMended, twinsMended, largerAt, largestAt, spareAt, spareMended, mended, reasonAt}
 use Rattle.mending.proofs.ClearLaws as clear
 
 -- ---- the largest
 
 -- it is one of them, and none is larger
-pub largest-in : (x : ℕ → ℕ) (k : ℕ) → 0 < k → largestAt x k < k
+pub larger-one : (P : ℕ → Type 0) (g : Image) (r k : ℕ) → P r → P k → P (largerAt g r k)
+unfolding largerAt
+larger-one P g r k p q = by (ltb (contentAt (g .nodes) r .index) (contentAt (g .nodes) k .index))
+  where
+    by : (b : Bool) → P (pick b k r)
+    by true = q
+    by false = p
+
+pub largest-in : (g : Image) (k : ℕ) → 0 < k → largestAt g k < k
 unfolding largestAt
-largest-in x zero h = absurd (omega arith)
-largest-in x (suc zero) h = by (ltb (x 0) (x 0))
-  where
-    by : (b : Bool) → pick b 0 0 < 1
-    by true = omega arith
-    by false = omega arith
-largest-in x (suc (suc k)) h = by (ltb (x (largestAt x (suc k))) (x (suc k))) (largest-in x (suc k) (omega arith))
-  where
-    by : (b : Bool) → largestAt x (suc k) < suc k → pick b (suc k) (largestAt x (suc k)) < suc (suc k)
-    by true p = omega arith
-    by false p = omega arith
+largest-in g zero h = absurd (omega arith)
+largest-in g (suc zero) h = larger-one (λ j. j < 1) g 0 0 (omega arith) (omega arith)
+largest-in g (suc (suc k)) h =
+    let p = largest-in g (suc k) (omega arith) in
+    larger-one (λ j. j < suc (suc k)) g (largestAt g (suc k)) (suc k) (omega arith) (omega arith)
 
 -- ---- the three steps
 
@@ -66,10 +68,10 @@ module _ (g : Image) where
   unfolding dummyOf
   all-recovered e i h = not-false (recoveredAt g i) (least-clear (λ i. not (recoveredAt g i)) (g .n) 0 (omega (arith, eqb-true (dummyOf g) (g .n) e)) i (omega arith) (omega arith))
 
-  spare-there : eqb (dummyOf g) (g .n) ≡ true → spareAt g (largestAt (λ j. contentAt (g .nodes) j .index) (g .n)) ≡ true
+  spare-there : eqb (dummyOf g) (g .n) ≡ true → spareAt g (largestAt g (g .n)) ≡ true
   unfolding spareAt
   spare-there e =
-      let x = largestAt (λ j. contentAt (g .nodes) j .index) (g .n) in
+      let x = largestAt g (g .n) in
       both-of (eqb (dummyOf g) (g .n)) (eqb x x) e (eq-eqb x x refl)
 
   -- a node is left over: one that is not recovered, or the one whose flag is cleared
@@ -78,14 +80,14 @@ module _ (g : Image) where
   spare-left h = by (eqb (dummyOf g) (g .n)) refl
     where
       big : ℕ
-      big = largestAt (λ j. contentAt (g .nodes) j .index) (g .n)
+      big = largestAt g (g .n)
 
       off : (i : ℕ) → recoveredAt (cleared (spareAt g) g) i ≡ false → not (recoveredAt (cleared (spareAt g) g) i) ≡ true
       off i e = ap not e
 
       by : (b : Bool) → eqb (dummyOf g) (g .n) ≡ b → least (λ i. not (recoveredAt (cleared (spareAt g) g) i)) (g .n) 0 < g .n
       by true e =
-          let p = largest-in (λ j. contentAt (g .nodes) j .index) (g .n) h in
+          let p = largest-in g (g .n) h in
           clear.least-under (λ i. not (recoveredAt (cleared (spareAt g) g) i)) (g .n) big p (off big (clear.cleared-not (spareAt g) g big p (spare-there e)))
       by false e =
           let d = least (λ i. not (recoveredAt g i)) (g .n) 0 in
@@ -131,10 +133,10 @@ flag-set : (g : Image) (i : ℕ) → recoveredAt g i ≡ true → 0 < contentAt 
 flag-set g i e = omega (arith, eqb-true (contentAt (g .nodes) i .linked) 1 (clear.recovered-flag g i e))
 
 -- the spare node is there only where every node is recovered
-spare-all : (g : Image) (i : ℕ) → spareAt g i ≡ true → (eqb (dummyOf g) (g .n) ≡ true) × (i ≡ largestAt (λ j. contentAt (g .nodes) j .index) (g .n))
+spare-all : (g : Image) (i : ℕ) → spareAt g i ≡ true → (eqb (dummyOf g) (g .n) ≡ true) × (i ≡ largestAt g (g .n))
 unfolding spareAt
 spare-all g i e =
-    let x = largestAt (λ j. contentAt (g .nodes) j .index) (g .n) in
+    let x = largestAt g (g .n) in
     let b = both-true (eqb (dummyOf g) (g .n)) (eqb i x) e in
     (b .0, eqb-true i x (b .1))
 

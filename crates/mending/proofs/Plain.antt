@@ -12,27 +12,26 @@ use Rattle.image.specs.Layout.{contentAt}
 use Rattle.image.specs.Recovered.{headOf, recovered, recoveredAt, twins, hasTwin, firstTwin, dummyOf}
 use Rattle.image.specs.declared.Content.{Content}
 use Rattle.image.specs.declared.Image.{Image}
-use Rattle.mending.specs.Mended.{unlinked, cleared, unclearAt, bytesMended, twinsMended, largestAt, spareAt, reasonAt, spareOf, plainReason}
+use Rattle.mending.specs.Mended.{unlinked, cleared, unclearAt, bytesMended, twinsMended, largerAt, largestAt, spareAt, reasonAt, spareOf, plainReason}
 use Rattle.mending.proofs.ClearLaws as clear
 use Rattle.mending.proofs.MendLaws as mend
 
--- the largest of equal numbers
-pub largest-le : (x : ℕ → ℕ) (k : ℕ) → largestAt x k ≤ k
+-- the largest goes by the indices
+pub largest-le : (g : Image) (k : ℕ) → largestAt g k ≤ k
 unfolding largestAt
-largest-le x zero = omega arith
-largest-le x (suc k) = by (ltb (x (largestAt x k)) (x k)) (largest-le x k)
-  where
-    by : (b : Bool) → largestAt x k ≤ k → pick b k (largestAt x k) ≤ suc k
-    by true p = omega arith
-    by false p = omega arith
+largest-le g zero = omega arith
+largest-le g (suc k) = let p = largest-le g k in mend.larger-one (λ j. j ≤ suc k) g (largestAt g k) k (omega arith) (omega arith)
 
-pub largest-same : (x y : ℕ → ℕ) (k : ℕ) → ((j : ℕ) → j < k → x j ≡ y j) → largestAt x k ≡ largestAt y k
-unfolding largestAt
-largest-same x y zero h = refl
-largest-same x y (suc k) h =
-    let e = largest-same x y k (λ j p. h j (omega arith)) in
-    let l = largest-le x k in
-    rw (h (largestAt x k) (omega arith), h k (omega arith), e)
+abbrev SameIndex : Image → Image → ℕ → Type 0
+SameIndex g g′ k = (j : ℕ) → j < k → contentAt (g .nodes) j .index ≡ contentAt (g′ .nodes) j .index
+
+largest-same : (g g′ : Image) (k : ℕ) → SameIndex g g′ k → largestAt g k ≡ largestAt g′ k
+unfolding largestAt largerAt
+largest-same g g′ zero h = refl
+largest-same g g′ (suc k) h =
+    let e = largest-same g g′ k (λ j p. h j (omega arith)) in
+    let l = largest-le g k in
+    rw (h (largestAt g k) (omega arith), h k (omega arith), e)
 
 -- a linked byte above 1 is no recovered node's, before or after
 same-recovered : (h : ℕ) (c : Content) → (b : Bool) → ltb 1 (c .linked) ≡ b → recovered h (unlinked b c) ≡ recovered h c
@@ -94,8 +93,8 @@ module _ (g : Image) where
       there : (i : ℕ) → i < g .n → recoveredAt (twinsMended (bytesMended g)) i ≡ true
       there i h = mend.all-recovered (twinsMended (bytesMended g)) (eq-eqb _ _ (e ∙ sym (mend.size2 g))) i (rw (mend.size2 g) h)
 
-  largest2 : largestAt (λ j. contentAt (twinsMended (bytesMended g) .nodes) j .index) (twinsMended (bytesMended g) .n) ≡ largestAt (λ j. contentAt (g .nodes) j .index) (g .n)
-  largest2 = ap (largestAt (λ j. contentAt (twinsMended (bytesMended g) .nodes) j .index)) (mend.size2 g) ∙ largest-same _ (λ j. contentAt (g .nodes) j .index) (g .n) index2
+  largest2 : largestAt (twinsMended (bytesMended g)) (twinsMended (bytesMended g) .n) ≡ largestAt g (g .n)
+  largest2 = ap (largestAt (twinsMended (bytesMended g))) (mend.size2 g) ∙ largest-same (twinsMended (bytesMended g)) g (g .n) index2
 
   spare2 : (i : ℕ) → i < g .n → spareAt (twinsMended (bytesMended g)) i ≡ eqb i (spareOf g)
   unfolding spareAt spareOf
@@ -105,7 +104,7 @@ module _ (g : Image) where
       g2 = twinsMended (bytesMended g)
 
       big : ℕ
-      big = largestAt (λ j. contentAt (g .nodes) j .index) (g .n)
+      big = largestAt g (g .n)
 
       off : (b : Bool) → eqb (dummyOf g2) (g .n) ≡ b → (firstTwin g ≡ g .n → dummyOf g ≡ g .n → ⊥) → both b (eqb i big) ≡ eqb i (g .n)
       off true e n = let p = back2 (eqb-true (dummyOf g2) (g .n) e) in absurd (n (p .0) (p .1))

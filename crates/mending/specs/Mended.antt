@@ -1,10 +1,10 @@
 -- Mending an image: whose linked flags are cleared, in 02's three steps, and the reason for each.
 use Prim.Native.Nat.{ℕ, zero, suc}
 use mathlib.Core.Bool.{Bool, true, false, not}
-use mathlib.Core.List.{List, [], _∷_, _++_}
+use mathlib.Core.List.{List, [], _∷_}
 use lib.Dec.{eqb, ltb}
-use Rattle.lists.specs.Find.{pick, both}
-use Rattle.lists.specs.Tab.{front}
+use Rattle.lists.specs.Find.{pick, both, count}
+use Rattle.lists.specs.Tab.{joined, front}
 use Rattle.image.specs.Layout.{contentAt}
 use Rattle.image.specs.Recovered.{hasTwin, firstTwin, dummyOf}
 use Rattle.image.specs.declared.Content.{Content}
@@ -36,14 +36,18 @@ bytesMended g = cleared (unclearAt g) g
 unfoldable pub twinsMended : Image → Image
 twinsMended g = cleared (hasTwin g) g
 
--- the number of the largest of x 0, .., x (k - 1), the first of equals; 0 of none
-unfoldable pub largestAt : (ℕ → ℕ) → ℕ → ℕ
-largestAt x zero = 0
-largestAt x (suc k) = let r = largestAt x k in pick (ltb (x r) (x k)) k r
+-- of nodes r and k the one with the larger index, r where the two are equal
+unfoldable pub largerAt : Image → ℕ → ℕ → ℕ
+largerAt g r k = pick (ltb (contentAt (g .nodes) r .index) (contentAt (g .nodes) k .index)) k r
+
+-- the one of the first k nodes with the largest index, the first of equals; 0 of none
+unfoldable pub largestAt : Image → ℕ → ℕ
+largestAt g zero = 0
+largestAt g (suc k) = largerAt g (largestAt g k) k
 
 -- "if every node is recovered, the one with the largest index"
 unfoldable pub spareAt : Image → ℕ → Bool
-spareAt g i = both (eqb (dummyOf g) (g .n)) (eqb i (largestAt (λ j. contentAt (g .nodes) j .index) (g .n)))
+spareAt g i = both (eqb (dummyOf g) (g .n)) (eqb i (largestAt g (g .n)))
 
 -- "Then, if every node is recovered, the one with the largest index has too."
 unfoldable pub spareMended : Image → Image
@@ -61,16 +65,26 @@ reasonAt g i =
     (pick (hasTwin (bytesMended g) i) 7
     (pick (spareAt (twinsMended (bytesMended g)) i) 8 0))
 
--- of the first k nodes those that were changed, two bytes an entry: node and reason
+unfoldable pub isChanged : Image → ℕ → Bool
+isChanged g i = not (eqb (reasonAt g i) 0)
+
+-- how many of the first k nodes were changed
+unfoldable pub changed : Image → ℕ → ℕ
+changed g k = count (isChanged g) k
+
+-- an entry: a node's number and the reason, where there is one
+abbrev pub entryOf : ℕ → ℕ → List ℕ
+entryOf i why = pick (not (eqb why 0)) (i ∷ why ∷ []) []
+
+-- the entries of the first k nodes, "in order"
 unfoldable pub changes : Image → ℕ → List ℕ
-changes g zero = []
-changes g (suc k) = changes g k ++ pick (eqb (reasonAt g k) 0) [] (k ∷ reasonAt g k ∷ [])
+changes g k = joined (λ i. entryOf i (reasonAt g i)) k
 
 -- ---- the same said of the image as it came, which is what the code looks at
 
 -- the node cleared for 8: N where there is none
 unfoldable pub spareOf : Image → ℕ
-spareOf g = pick (both (eqb (firstTwin g) (g .n)) (eqb (dummyOf g) (g .n))) (largestAt (λ j. contentAt (g .nodes) j .index) (g .n)) (g .n)
+spareOf g = pick (both (eqb (firstTwin g) (g .n)) (eqb (dummyOf g) (g .n))) (largestAt g (g .n)) (g .n)
 
 unfoldable pub plainReason : Image → ℕ → ℕ → ℕ
 plainReason g spare i = pick (unclearAt g i) 6 (pick (hasTwin g i) 7 (pick (eqb i spare) 8 0))
