@@ -6,6 +6,7 @@ use mathlib.Core.List.{List, _++_}
 use native.Mathlib.Omega.{arith}
 use native.Mathlib.Nat.{zero-add}
 use lib.ListN.{length, getD, take, drop, take-append-drop}
+use lib.Seq.{drop-at}
 use lib.Dec.{eqb, ltb}
 use borrow.Author.Tests.{ltb-true, ltb-false, lt-ltb, le-ltb}
 use Rattle.lists.specs.Find.{pick, both, least, any}
@@ -98,6 +99,13 @@ module _ (f : ℕ → Bool) (g : Image) where
   pub cleared-length : g .n ≤ length (g .nodes) → length (cleared f g .nodes) ≡ length (g .nodes)
   unfolding cleared
   cleared-length h = tabs.front-size (λ i. unlinked (f i) (contentAt (g .nodes) i)) (g .n) (g .nodes) h
+
+  -- nodes beyond the last are as they were
+  pub cleared-beyond : drop (g .n) (cleared f g .nodes) ≡ drop (g .n) (g .nodes)
+  unfolding cleared front
+  cleared-beyond =
+      let t = tab (λ i. unlinked (f i) (contentAt (g .nodes) i)) (g .n) in
+      drop-at t (drop (g .n) (g .nodes)) (g .n) (tabs.length-tab (λ i. unlinked (f i) (contentAt (g .nodes) i)) (g .n))
 
   recovered-is : (i : ℕ) → i < g .n → recoveredAt (cleared f g) i ≡ recovered (headOf g) (unlinked (f i) (contentAt (g .nodes) i))
   recovered-is i h = ap₂ recovered cleared-head (cleared-at i h)

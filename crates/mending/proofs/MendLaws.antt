@@ -4,7 +4,7 @@ use mathlib.Core.Path.{_≡_, refl, sym, ap, ap₂, _∙_}
 use mathlib.Core.Bool.{Bool, true, false, not}
 use mathlib.Core.List.{List}
 use native.Mathlib.Omega.{arith}
-use lib.ListN.{length}
+use lib.ListN.{length, drop}
 use lib.Dec.{eqb, ltb}
 use borrow.Author.Tests.{eqb-true, eqb-false, ltb-true, ltb-false, eq-eqb, ne-eqb, le-ltb, not-false, not-true}
 use Rattle.lists.specs.Find.{pick, both, least}
@@ -314,12 +314,22 @@ module _ (g : Image) where
       let e2 = twins-none g l (q .1) in
       rw (q .0 i p, e1, q .1 i p, e2, q .2 i)
 
-  mended-length : g .n ≤ length (g .nodes) → length (mended g .nodes) ≡ length (g .nodes)
+  pub mended-length : g .n ≤ length (g .nodes) → length (mended g .nodes) ≡ length (g .nodes)
   unfolding mended spareMended twinsMended bytesMended
   mended-length l =
       let l1 = clear.cleared-length (unclearAt g) g l in
       let l2 = clear.cleared-length (hasTwin (cleared (unclearAt g) g)) (cleared (unclearAt g) g) (omega (arith, clear.cleared-n (unclearAt g) g)) in
       clear.cleared-length (spareAt (twinsMended (bytesMended g))) (twinsMended (bytesMended g)) (omega (arith, size2)) ∙ l2 ∙ l1
+
+  -- nodes beyond the last are as they were
+  pub mended-beyond : drop (g .n) (mended g .nodes) ≡ drop (g .n) (g .nodes)
+  unfolding mended spareMended twinsMended bytesMended cleared
+  mended-beyond =
+      clear.cleared-beyond (spareAt g2) g2 ∙ clear.cleared-beyond (hasTwin g1) g1 ∙ clear.cleared-beyond (unclearAt g) g
+
+  pub mended-form : mended g .form ≡ g .form
+  unfolding mended spareMended twinsMended bytesMended cleared
+  mended-form = refl
 
 -- "mending twice is mending once"
 pub mended-once : (g : Image) → 0 < g .n → g .n ≤ length (g .nodes) → mended (mended g) ≡ mended g

@@ -4,17 +4,23 @@ use mathlib.Core.Path.{_≡_, refl, sym, ap, ap₂, _∙_}
 use mathlib.Core.Bool.{Bool, true, false, not}
 use mathlib.Core.List.{List, [], _∷_, _++_}
 use native.Mathlib.Omega.{arith}
+use native.Mathlib.Decide.{ℕ-discrete}
 use native.Mathlib.Nat.{zero-add}
 use native.Mathlib.Numerals.{add-one}
 use lib.ListN.{length, set, length-append}
-use lib.Dec.{eqb}
-use Rattle.lists.specs.Find.{pick, count}
+use lib.Dec.{eqb, ltb}
+use Rattle.lists.specs.Find.{pick, both, count}
 use Rattle.lists.specs.Tab.{joined, over, front}
 use Rattle.lists.proofs.TabLaws as tabs
-use Rattle.image.specs.Layout.{contentAt}
+use Rattle.image.specs.Bytes.{at1}
+use Rattle.image.specs.Layout.{noContent, noContents, contentAt, formIn, nodePlace, readContent, readNodes, imageIn}
+use Rattle.image.specs.Recovered.{hasTwin, firstTwin, dummyOf}
 use Rattle.image.specs.declared.Content.{Content}
 use Rattle.image.specs.declared.Image.{Image}
-use Rattle.mending.specs.Mended.{unlinked, largerAt, largestAt, reasonAt, isChanged, changed, entryOf, changes}
+use Rattle.mending.specs.Mended.{unlinked, unclearAt, largerAt, largestAt, mended, spareOf, plainReason, reasonAt, isChanged, changed, entryOf, changes}
+use Rattle.mending.proofs.ClearLaws as clear
+use Rattle.mending.proofs.MendLaws as mend
+use Rattle.mending.proofs.Plain.{reason-plain}
 
 module _ (g : Image) where
   pub largest-none : 0 ≡ largestAt g 0
@@ -24,6 +30,17 @@ module _ (g : Image) where
   pub largest-next : (k : ℕ) → largerAt g (largestAt g k) k ≡ largestAt g (k + 1)
   unfolding largestAt
   largest-next k = ap (largestAt g) (sym (add-one k))
+
+  -- ---- the reason, by the numbers that the searches find
+
+  pub spare-by : (n t d : ℕ) → n ≡ g .n → t ≡ firstTwin g → d ≡ dummyOf g → pick (both (eqb t n) (eqb d n)) (largestAt g n) n ≡ spareOf g
+  unfolding spareOf
+  spare-by n t d e p q = rw (e, p, q)
+
+  pub reason-by : (i v : ℕ) (t : Bool) (spare : ℕ) → i < g .n → v ≡ contentAt (g .nodes) i .linked → t ≡ hasTwin g i → spare ≡ spareOf g
+      → pick (ltb 1 v) 6 (pick t 7 (pick (eqb i spare) 8 0)) ≡ reasonAt g i
+  unfolding plainReason unclearAt
+  reason-by i v t spare h e p q = rw (e, p, q) (sym (reason-plain g i h))
 
   -- ---- how many nodes are changed
 
@@ -64,3 +81,60 @@ module _ (g : Image) where
       two : (b : Bool) → length (pick b (k ∷ reasonAt g k ∷ []) []) ≡ pick b 1 0 * 2
       two true = refl
       two false = refl
+
+  pub changes-upto : (i n : ℕ) → i ≤ n → length (changes g i) ≤ length (changes g n)
+  unfolding changes joined
+  changes-upto i zero h = let e : i ≡ 0 = omega arith in rw e (omega arith)
+  changes-upto i (suc n) h = by (ℕ-discrete i (suc n)) (λ p. changes-upto i n p)
+    where
+      by : Dec (i ≡ suc n) → (i ≤ n → length (changes g i) ≤ length (changes g n)) → length (changes g i) ≤ length (changes g n ++ entryOf n (reasonAt g n))
+      by (yes e) f = rw e (omega arith)
+      by (no ne) f = omega (arith, f (omega arith), length-append (changes g n) (entryOf n (reasonAt g n)))
+
+  -- node i's entry fits where the list of all does
+  pub entry-within : (i n : ℕ) → i < n → length (changes g i) + length (entryOf i (reasonAt g i)) ≤ length (changes g n)
+  entry-within i n h =
+      omega (arith, changes-upto (i + 1) n (omega arith), ap length (changes-next i), length-append (changes g i) (entryOf i (reasonAt g i)))
+
+  pub entry-over : (l : List ℕ) (i : ℕ) → over (over l 0 (changes g i)) (length (changes g i)) (entryOf i (reasonAt g i)) ≡ over l 0 (changes g (i + 1))
+  entry-over l i =
+      ap (λ (k : ℕ). over (over l 0 (changes g i)) k (entryOf i (reasonAt g i))) (sym (zero-add (length (changes g i))))
+      ∙ tabs.over-append l 0 (changes g i) (entryOf i (reasonAt g i))
+      ∙ ap (over l 0) (changes-next i)
+
+  -- ---- the nodes
+
+  -- the first k nodes mended, the others as they came
+  unfoldable pub nodesMended : ℕ → List Content
+  nodesMended k = front (λ i. unlinked (not (eqb (reasonAt g i) 0)) (contentAt (g .nodes) i)) k (g .nodes)
+
+  pub nodes-none : g .nodes ≡ nodesMended 0
+  unfolding nodesMended
+  nodes-none = tabs.front-none (λ i. unlinked (not (eqb (reasonAt g i) 0)) (contentAt (g .nodes) i)) (g .nodes)
+
+  pub nodes-next : (i : ℕ) → i < length (g .nodes) → set (nodesMended i) i (unlinked (not (eqb (reasonAt g i) 0)) (contentAt (g .nodes) i)) ≡ nodesMended (i + 1)
+  unfolding nodesMended
+  nodes-next i h = tabs.front-next (λ i. unlinked (not (eqb (reasonAt g i) 0)) (contentAt (g .nodes) i)) i (g .nodes) h
+
+  pub nodes-all : g .n ≤ length (g .nodes) → nodesMended (g .n) ≡ mended g .nodes
+  unfolding nodesMended front
+  nodes-all l =
+      let own : ℕ → Content = λ i. contentAt (mended g .nodes) i in
+      let fresh : ℕ → Content = λ i. unlinked (not (eqb (reasonAt g i) 0)) (contentAt (g .nodes) i) in
+      ap₂ (λ (a b : List Content). a ++ b)
+      (tabs.tab-same fresh own (g .n) (λ i p. sym (mend.mended-at g i p)))
+      (sym (mend.mended-beyond g))
+      ∙ clear.front-own noContent (mended g .nodes) (g .n) (omega (arith, mend.mended-length g l))
+
+  pub mended-by : g .n ≤ length (g .nodes) → (l : List Content) → l ≡ nodesMended (g .n) → record { form = g .form; n = g .n; heads = g .heads; nodes = l } ≡ mended g
+  mended-by h l e = sym (λ k. record { form = mend.mended-form g k; n = mend.size3 g k; heads = mend.mended-heads g k; nodes = sym (e ∙ nodes-all h) k })
+
+-- ---- bytes that are an image
+
+pub in-length : (s : List ℕ) → at1 s 5 ≤ 64 → length (imageIn s .nodes) ≡ 64
+unfolding imageIn readNodes noContents
+in-length s h = tabs.front-size (λ i. readContent (formIn s) s (nodePlace (formIn s) i)) (at1 s 5) noContents h
+
+pub one-or-none : (b : Bool) → pick b 1 0 ≤ 1
+one-or-none true = omega arith
+one-or-none false = omega arith
