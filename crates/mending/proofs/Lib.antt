@@ -2,3 +2,4 @@ pub mod ClearLaws
 pub mod MendLaws
 pub mod Plain
 pub mod Turns
+pub mod Answers

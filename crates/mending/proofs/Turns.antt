@@ -131,6 +131,10 @@ module _ (g : Image) where
 
 -- ---- bytes that are an image
 
+pub form-in : (s : List ℕ) → imageIn s .form ≡ formIn s
+unfolding imageIn
+form-in s = refl
+
 pub in-length : (s : List ℕ) → at1 s 5 ≤ 64 → length (imageIn s .nodes) ≡ 64
 unfolding imageIn readNodes noContents
 in-length s h = tabs.front-size (λ i. readContent (formIn s) s (nodePlace (formIn s) i)) (at1 s 5) noContents h
