@@ -6,3 +6,4 @@ pub mod Answers
 pub mod ListLaws
 pub mod OnBytes
 pub mod Unique
+pub mod Computed

@@ -159,8 +159,7 @@ module _ (s : List ℕ) (b : num.Bytes s) (h : accepted (shape 0 s Taken) ≡ tr
   twice-once =
       let n : at1 (imageBytes m) 5 ≡ m .n = sym (nodes-in (imageBytes m)) ∙ ap (λ (g : Image). g .n) mended-read in
       let t : m .n ≤ length (m .nodes) = omega (arith, mend.size3 g, mend.mended-length g table, table) in
-      let ok = ap accepted (mend.mended-sound g some) in
-      (
+      let ok = ap accepted (mend.mended-sound g some) in (
         ap (λ (g : Image). imageBytes (mended g)) mended-read ∙ ap imageBytes (mend.mended-once g some table),
         ap₂ changes mended-read n ∙ lists.changes-empty m (m .n) (mend.accepted-reasons m t ok),
       )
@@ -218,8 +217,7 @@ module _ (s : List ℕ) (b : num.Bytes s) (h : accepted (shape 0 s Taken) ≡ tr
       let z : 0 < nodeSize (formIn s) = omega (arith, size-is (formIn s) mark) in
       let at : nodePlace (formIn s) i ≡ nodePlace (formIn s) i + 0 = sym (add-zero (nodePlace (formIn s) i)) in
       let own = ap (λ k. getD s k 0) at ∙ own-byte i 0 p z in
-      let set = mend.reason-set g i (rw (nodes-in s) p) (λ r. no-way (sym e ∙ ap not (eq-eqb (reasonAt g i) 0 r))) in
-      (
+      let set = mend.reason-set g i (rw (nodes-in s) p) (λ r. no-way (sym e ∙ ap not (eq-eqb (reasonAt g i) 0 r))) in (
         omega (arith, own, set),
         ap (λ k. getD (mendBytes s) k 0) at ∙ mended-byte i 0 p z ∙ ap (λ c. pick c 0 (contentAt (g .nodes) i .linked)) e,
       )
@@ -231,6 +229,7 @@ module _ (s : List ℕ) (b : num.Bytes s) (h : accepted (shape 0 s Taken) ≡ tr
       flag : (i : ℕ) → (c : Bool) → isChanged g i ≡ c → (c ≡ true → ⊥) → getD (nodeBytes (formIn s) (unlinked (isChanged g i) (contentAt (g .nodes) i))) 0 0 ≡ getD (nodeBytes (formIn s) (contentAt (g .nodes) i)) 0 0
       flag i true e n = absurd (n refl)
       flag i false e n = ap (λ c. pick c 0 (contentAt (g .nodes) i .linked)) e
+
       in-node : (i j : ℕ) → i < at1 s 5 → j < nodeSize (formIn s) → k ≡ nodePlace (formIn s) i + j → Dec (0 < j) → getD (mendBytes s) k 0 ≡ getD s k 0
       in-node i j p q e (yes r) =
           rw e (mended-byte i j p q ∙ flag-only (formIn s) (isChanged g i) (contentAt (g .nodes) i) j r ∙ sym (own-byte i j p q))
@@ -240,6 +239,7 @@ module _ (s : List ℕ) (b : num.Bytes s) (h : accepted (shape 0 s Taken) ≡ tr
           let f : k ≡ nodePlace (formIn s) i + 0 = e ∙ ap (λ j. nodePlace (formIn s) i + j) z in
           let n : isChanged g i ≡ true → ⊥ = λ c. ne i p c (f ∙ add-zero (nodePlace (formIn s) i)) in
           rw f (mended-byte i 0 p o ∙ flag i (isChanged g i) refl n ∙ sym (own-byte i 0 p o))
+
       by : Dec (k < headerSize (formIn s)) → getD (mendBytes s) k 0 ≡ getD s k 0
       by (yes p) = head-byte k p
       by (no p) =
@@ -252,8 +252,10 @@ module _ (s : List ℕ) (b : num.Bytes s) (h : accepted (shape 0 s Taken) ≡ tr
     where
       at : ℕ
       at = nodePlace (formIn s) i
+
       z : 0 < nodeSize (formIn s)
       z = omega (arith, size-is (formIn s) mark)
+
       by : (c : Bool) → isChanged g i ≡ c → isChanged g i ≡ not (eqb (getD (mendBytes s) (nodePlace (formIn s) i) 0) (getD s (nodePlace (formIn s) i) 0))
       by true e =
           let r = listed-cleared i p e in
@@ -279,8 +281,7 @@ unfolding mendBytes mendList mendChanged
 accepted-back s b a =
     let e = acc.shaped 0 s (sound (imageIn s) Taken) (sym (ap accepted (acc.answer-shape 0 s)) ∙ a) in
     let t = table s b (e .0) in
-    let none : (i : ℕ) → i < at1 s 5 → reasonAt (imageIn s) i ≡ 0 = λ i p. mend.accepted-reasons (imageIn s) t (e .1) i (rw (nodes-in s) p) in
-    (
+    let none : (i : ℕ) → i < at1 s 5 → reasonAt (imageIn s) i ≡ 0 = λ i p. mend.accepted-reasons (imageIn s) t (e .1) i (rw (nodes-in s) p) in (
       ap imageBytes (mend.accepted-same (imageIn s) t (e .1)) ∙ own-bytes s b (e .0),
       (lists.changes-empty (imageIn s) (at1 s 5) none, lists.changed-zero (imageIn s) (at1 s 5) none),
     )
