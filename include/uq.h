@@ -42,8 +42,8 @@ enum {
     UQ_MAX_THREADS = 8,
     UQ_MAX_EVENTS = 4096,
     UQ_MAX_ENDINGS = 65536,
-    UQ_MAX_IMAGE = 586,      /* 10 + 9N */
-    UQ_MAX_SCHEDULE = 25170, /* 8 + 10 + 9N, and 6 for each event */
+    UQ_MAX_IMAGE = 846,      /* 14 + 13N; in version 1 10 + 9N, at most 586 */
+    UQ_MAX_SCHEDULE = 25430, /* 8, the image, and 6 for each event */
     UQ_RECORD = 1970,
     UQ_PLACES = 6,
     UQ_MAX_HISTORY = 859, /* 3 + 4 for each item, and 22 for each operation */

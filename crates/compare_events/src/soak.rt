@@ -100,7 +100,7 @@ pub(crate) fn answer_soak(s: &[u8], out: &mut [u8; 65536], at: usize, kept: bool
     let count = word(s, 6);
     let d = soaked(m, first as u64, count as u64, kept);
     let end = d.machine;
-    let mut bytes = [0u8; 1412];
+    let mut bytes = [0u8; record::SIZE];
     record::write_record(end, &mut bytes);
     let second = put_pair(out, at, d.taken, d.items);
     let third = put(out, second, b' ');

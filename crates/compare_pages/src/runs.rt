@@ -4,6 +4,7 @@ ghost use mathlib.Core.Bool.{true};
 ghost use Prim.Native.Nat.{_≤_};
 ghost use lib.ListN.{length};
 ghost use Rattle.answer.specs.Answers.{accepted};
+ghost use Rattle.image.specs.Form.{known};
 ghost use Rattle.machine.specs.Line.{lineCount};
 ghost use Rattle.endtable.specs.Picks.{Ready};
 ghost use Rattle.pages.specs.Paged.{PageIs};
@@ -14,15 +15,23 @@ use endtable::ending::ending_picks;
 use image::Content;
 use pages::running::Run;
 
-fn sum_table(t: [[Content; 16]; 65], counts: [u8; 65], n: u8, count: u32, lent: &mut [u8]) -> u64
-    requires { ⌜ (n ≤ 64) × Ready counts (lineCount n) × (586 ≤ length (now lent)) ⌝ }
+fn sum_table(
+    t: [[Content; 16]; 65],
+    counts: [u8; 65],
+    form: u8,
+    n: u8,
+    count: u32,
+    lent: &mut [u8],
+) -> u64
+    requires { ⌜ (known form ≡ true) × (n ≤ 64) × Ready counts (lineCount n) × (846 ≤ length (now lent)) ⌝ }
 {
-    let whole = 10 + (n as usize) * 9;
+    let whole = image::place_of(form, n as usize);
     let mut sum = START;
     let mut k = 0;
     while k < count {
         let picks = ending_picks(counts, n, k);
-        let g = ending_image(t, picks, n);
+        let c = ending_image(t, picks, n);
+        let g = pages::calls::in_form(c, form);
         codec::put_image(lent, g);
         let next = sum_front(sum, lent, whole);
         sum = next;
@@ -39,8 +48,8 @@ fn sum_run(s: &[u8], r: Run, count: u32) -> u64
     let rows = r.rows;
     let counts = pages::tables::counts_of(rows);
     let t = pages::tables::table_of(rows);
-    let mut lent = [0u8; 586];
-    sum_table(t, counts, n, count, &mut lent)
+    let mut lent = [0u8; 846];
+    sum_table(t, counts, m.form, n, count, &mut lent)
 }
 
 // The sum of a schedule's first `count` endings; of no bytes where it is refused.

@@ -12,12 +12,13 @@ use Rattle.schedule.specs.Layout.{threadsIn, countIn, nodesIn}
 use Rattle.page.specs.Printed.{firstLine, endingLine}
 use Rattle.page.specs.Refusals.{endingCount, endingIn}
 use Rattle.page.specs.Filled.{pageLine}
-use Rattle.endtable.specs.Picks.{endingFrom}
+use Rattle.endtable.specs.Picks.{picksOf, pickedImage, endingFrom}
 use Rattle.printing.specs.Lines.{lineFrom}
 use Rattle.pages.specs.Rows.{atsOf, countsOf}
 use Rattle.pages.specs.Paged.{PageIs}
 use Rattle.pages.specs.declared.running.Run.{Run}
 use Rattle.pages.proofs.PageLaws as laws
+use Rattle.printing.proofs.ItemLaws as lines
 use Rattle.filling.specs.Lines.{tableLine}
 use Rattle.filling.proofs.Lined.{Lined, lined-same}
 use Rattle.filling.proofs.Numbers as numbers
@@ -32,7 +33,9 @@ module _ (s : List ℕ) (r : Run) (p : PageIs s r) (a : accepted (r .answer) ≡
   pub line-is : (i : ℕ) → i < suc (endingCount s) → tableLine t cs (r .machine .n) (threadsIn s) (countIn s) (endingCount s) i ≡ pageLine s i
   unfolding tableLine pageLine lineFrom endingFrom
   line-is zero h = ap (λ (n : ℕ). firstLine (threadsIn s) n (countIn s) (endingCount s)) (numbers.page-nodes s r p a)
-  line-is (suc k) h = ap (endingLine k) (laws.page-ending s r p a k (omega arith))
+  line-is (suc k) h =
+      sym (lines.line-form k (r .machine .form) (pickedImage t (picksOf cs (r .machine .n) k) (r .machine .n)))
+      ∙ ap (endingLine k) (laws.page-ending s r p a k (omega arith))
 
   pub page-lined : (t′ : List (List Content)) (cs′ : List ℕ) (threads events count : ℕ)
       → t′ ≡ t → cs′ ≡ cs → threads ≡ threadsIn s → events ≡ countIn s → count ≡ endingCount s

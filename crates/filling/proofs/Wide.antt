@@ -223,13 +223,13 @@ module _ (s : List ℕ) (y : Bytes s) (a : accepted (pageAnswer s) ≡ true) whe
   lines-short zero h = first-fits
   lines-short (suc k) h = line-fits k (omega arith)
 
-  -- the numbers of an ending are of 32 bits
-  pub ending-head : (k : ℕ) → k < endingCount s → (j : ℕ) → j < headLines (endingIn s k .n) → headIn (endingIn s k) j < 4294967296
+  -- the indices of an ending are of 64 bits, its items of 32
+  pub ending-head : (k : ℕ) → k < endingCount s → (j : ℕ) → j < headLines (endingIn s k .n) → headIn (endingIn s k) j < 18446744073709551616
   unfolding endingIn ending tableIn endingCount imageOf
   ending-head k h j p =
       let n = ran s .bench .machine .n in
       let c = getD (choices (tableOf (ran s .bench))) k [] in
-      subst (λ x. x < 4294967296) (sym (heads-at n (λ i. contentAt c i .index) j p))
+      subst (λ x. x < 18446744073709551616) (sym (heads-at n (λ i. contentAt c i .index) j p))
       (chosen-little (ran s .bench) (ran-small s y (holds.page-ran s a)) k h j (omega arith) .0)
 
   pub ending-little : (k : ℕ) → k < endingCount s → (i : ℕ) → Little (contentAt (endingIn s k .nodes) i)

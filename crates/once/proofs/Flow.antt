@@ -8,13 +8,14 @@ use native.Mathlib.Omega.{arith}
 use native.Mathlib.Decide.{decLt}
 use lib.ListN.{getD, set, length, length-set, List·getD-eq-default}
 use lib.Seq.{getD-set-same, getD-set-other}
-use lib.Dec.{eqb}
+use lib.Dec.{eqb, leb}
 use Rattle.lists.specs.Find.{pick, both}
 use Rattle.lists.specs.Word.{without}
 use Rattle.lists.proofs.BoolLaws.{false-true}
 use Rattle.answer.specs.declared.Answer.{Answer}
 use Rattle.answer.specs.declared.Answer.the-variants.{Taken, Done, Full, WornOut, Item, Empty}
-use Rattle.machine.specs.Record.{none, top, node, headAt, thread, zeroThread, atStep, idleThread, ownNode, readTail, readHead, readNext, readItem, withItem, withNext, withLinked, withIndex, putNode, putTail, putFree, putHead, putThread}
+use Rattle.image.specs.Form.{topOf}
+use Rattle.machine.specs.Record.{none, node, headAt, thread, zeroThread, atStep, idleThread, ownNode, readTail, readHead, readNext, readItem, withItem, withNext, withLinked, withIndex, putNode, putTail, putFree, putHead, putThread}
 use Rattle.machine.specs.Stage.{Stage, noStep, A1, A2, A3, A4, A5, A6, A7, A8, A9, A10, A11, A12, D1, D2, D3, D4, D5, D6, D7, stageOf, number, stage}
 use Rattle.machine.specs.Line.{persist}
 use Rattle.machine.specs.declared.Line.the-variants.{OfHead as ofHead, OfNode as ofNode}
@@ -119,7 +120,7 @@ step-own m k x A6 e h q = by (eqb (node m (thread m k .tail) .next) none)
 step-own m k x A7 e h q =
     let i = thread m k .node in
     let t = thread m k .tail in
-    pick-goes (eqb (node m t .index) top) (answering WornOut (freed m i) k)
+    pick-goes (leb (topOf (m .form)) (node m t .index)) (answering WornOut (freed m i) k)
     (storing (ofNode i) (going (putNode m i (withIndex (node m i) (node m t .index + 1))) k (number A8))) x k
     (leaves WornOut (released (freed m i) k (m .n)) k (thread m k .held) nothing x (omega (arith, q)))
     (moves (putNode m i (withIndex (node m i) (node m t .index + 1))) k (atStep (thread m k) 8) (aStore (ofNode i)) x A8 h refl (omega (arith, q)))
@@ -204,7 +205,7 @@ step-spares m k A6 = inr (_, refl)
 step-spares m k A7 =
     let i = thread m k .node in
     let t = thread m k .tail in
-    pick-spares m k (eqb (node m t .index) top) (answering WornOut (freed m i) k)
+    pick-spares m k (leb (topOf (m .form)) (node m t .index)) (answering WornOut (freed m i) k)
     (storing (ofNode i) (going (putNode m i (withIndex (node m i) (node m t .index + 1))) k (number A8)))
     (left-spares m (freed m i) k (m .n) (thread m k .held) refl) (inr (_, refl))
 step-spares m k A8 =

@@ -5,8 +5,9 @@ use lib.ListN.{replicate, set}
 use lib.Dec.{eqb}
 use Rattle.lists.specs.Find.{pick}
 use Rattle.answer.specs.declared.Answer.the-variants.{Done, Full, WornOut, Item, Empty}
+use Rattle.image.specs.Form.{topOf}
 use Rattle.image.specs.Layout.{noContents, noHeads}
-use Rattle.machine.specs.Record.{top, thread}
+use Rattle.machine.specs.Record.{thread}
 use Rattle.machine.specs.Stage.{A9, number}
 use Rattle.machine.specs.declared.Line.the-variants.{OfNode as ofNode}
 use Rattle.machine.specs.Start.{startOf, freshOf}
@@ -35,7 +36,7 @@ four = enqueue 7 ∷ stepping 11 ++ (crash ∷ dequeue ∷ stepping 6 ++ (enqueu
 
 -- the largest head index: an enqueue wears out
 abbrev pub worn : Machine
-worn = startOf (record { n = 2; heads = set noHeads 0 top; nodes = noContents }) 1
+worn = startOf (record { form = 1; n = 2; heads = set noHeads 0 (topOf 1); nodes = noContents }) 1
 
 abbrev pub by0 : (ℕ → Machine → Event → Touch) → Machine → List Event → List Answered
 by0 touches m l = answeredBy touches 0 m (λ k. 0) l

@@ -37,7 +37,7 @@ pub fn count_endings(s: &[u8]) -> Count
 }
 
 // The same contents in another form.
-fn in_form(g: Image, form: u8) -> Image
+pub fn in_form(g: Image, form: u8) -> Image
     ensures { λ r. ⌜ r ≡ inForm form g ⌝ }
 {
     let heads = g.heads;

@@ -14,7 +14,7 @@ use Rattle.image.specs.Refusals.{readImage, writeAnswer, written}
 use Rattle.image.specs.declared.Image.{Image}
 use Rattle.image.specs.declared.Read.{Read}
 use Rattle.codec.proofs.ReadWrite.{read-written}
-use Rattle.codec.proofs.WriteRead.{Fits, trimmed, written-read}
+use Rattle.codec.proofs.WriteRead.{Items, trimmed, written-read}
 use Rattle.lawful.specs.Demand3.{Bytes}
 use Rattle.signed.specs.Images.{ReadsAs, WritesAs}
 
@@ -44,12 +44,12 @@ read-then-written s r b a z y p h l w =
 
 -- "a written image reads back as the same contents"
 pub written-then-read :
-    (g : Image) (b : List ℕ) (a : Answer) (z : List ℕ) (r : Read) → Fits g → WritesAs g b a z → accepted a ≡ true →
-    ReadsAs (take (nodePlace (g .n)) z) r → (r .answer ≡ Taken) × (r .image ≡ trimmed g)
+    (g : Image) (b : List ℕ) (a : Answer) (z : List ℕ) (r : Read) → Items g → WritesAs g b a z → accepted a ≡ true →
+    ReadsAs (take (nodePlace (g .form) (g .n)) z) r → (r .answer ≡ Taken) × (r .image ≡ trimmed g)
 written-then-read g b a z r f w h p =
-    let e = reads-is (take (nodePlace (g .n)) z) r p in
+    let e = reads-is (take (nodePlace (g .form) (g .n)) z) r p in
     let t = ap accepted (sym (writes-answer g b a z w)) ∙ h in
-    let o = e ∙ ap (λ (l : List ℕ). readImage (take (nodePlace (g .n)) l)) (writes-bytes g b a z w) ∙ written-read g b f t in (
+    let o = e ∙ ap (λ (l : List ℕ). readImage (take (nodePlace (g .form) (g .n)) l)) (writes-bytes g b a z w) ∙ written-read g b f t in (
       ap (λ (x : Read). x .answer) o,
       ap (λ (x : Read). x .image) o,
     )

@@ -66,7 +66,7 @@ module _ (s : List ℕ) (bytes : Bytes s) (a : accepted (pageAnswer s) ≡ true)
   unfolding ran scheduleIn
   first-few =
       let p = page-parts s a in
-      first-short (scheduleIn s .image) (scheduleIn s .t) (schedule-starts s (p .0)) (schedule-narrow s bytes) (eventsIn s) (p .1)
+      first-short (scheduleIn s .image) (scheduleIn s .t) (schedule-starts s bytes (p .0)) (schedule-narrow s bytes) (eventsIn s) (p .1)
 
   last-few : length (lastQueue s k) ≤ 63
   last-few = start-short (endingIn s k) (threadsIn s) (page-lawful s bytes a k lt .starts)

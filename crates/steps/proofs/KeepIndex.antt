@@ -13,9 +13,11 @@ use Rattle.image.specs.declared.Content.{Content}
 use Rattle.image.proofs.HeadLaws.{one-head}
 use Rattle.machine.specs.Record.{none, zeroNode, zeroThread, node, thread, kept, headAt, keptHead, contentOf, ownNode, readTail, readNext, readItem, readHead, atStep, withItem, withNext, withLinked, withIndex, withWaits, idleThread, putNode, putTail, putFree, putHead, putKept, putKeptHead, putThread}
 use Rattle.machine.specs.Stage.{Stage, noStep, A1, A2, A3, A4, A5, A6, A7, A8, A9, A10, A11, A12, D1, D2, D3, D4, D5, D6, D7, stage}
-use Rattle.machine.specs.Line.{Line, ofHead, ofNode, persist}
+use Rattle.machine.specs.Line.{persist}
+use Rattle.machine.specs.declared.Line.{Line}
+use Rattle.machine.specs.declared.Line.the-variants.{OfHead as ofHead, OfNode as ofNode}
 use Rattle.answer.specs.declared.Answer.the-variants.{Full, WornOut}
-use Rattle.machine.specs.Retire.{moving, going, answering, nextFree, freed, lastWait, releasedAt, released, left, others, retired}
+use Rattle.machine.specs.Retire.{moving, going, answering, storing, nextFree, freed, lastWait, releasedAt, released, left, others, retired}
 use Rattle.machine.specs.Event.{begun, stepped}
 use Rattle.machine.specs.declared.Machine.{Machine}
 use Rattle.machine.specs.declared.Node.{Node}
@@ -113,7 +115,7 @@ module _ (m : Machine) (k : ℕ) (w : Narrow m) (u : Used m k) (l : k < m .t) (h
   A1-by false = let f = without (m .free) (nextFree m) in goes (putFree m f) (narrow-free m f w) (ownNode (thread m k) (nextFree m)) mine 2
 
   A7-by : (b : Bool) → leb (topOf (m .form)) (node m (thread m k .tail) .index) ≡ b
-      → Narrow (pick b (answering WornOut (freed m (thread m k .node)) k) (going (putNode m (thread m k .node) (withIndex (node m (thread m k .node)) (node m (thread m k .tail) .index + 1))) k 8) .machine)
+      → Narrow (pick b (answering WornOut (freed m (thread m k .node)) k) (storing (ofNode (thread m k .node)) (going (putNode m (thread m k .node) (withIndex (node m (thread m k .node)) (node m (thread m k .tail) .index + 1))) k 8)) .machine)
   A7-by true e = let i = thread m k .node in narrow-left (freed m i) k (thread m k .held) (narrow-free m (with (m .free) i) w)
   A7-by false e =
       let i = thread m k .node in
@@ -134,7 +136,7 @@ module _ (m : Machine) (k : ℕ) (w : Narrow m) (u : Used m k) (l : k < m .t) (h
   A12-by false = goes m w (thread m k) mine 5
 
   D4-by : thread m k .next < m .n → (b : Bool)
-      → Narrow (pick b (going (putHead m (thread m k .next) (node m (thread m k .next) .index)) k 17) (going m k 13) .machine)
+      → Narrow (pick b (storing (ofHead 0) (going (putHead m (thread m k .next) (node m (thread m k .next) .index)) k 17)) (going m k 13) .machine)
   D4-by h true =
       let x = thread m k .next in
       let i = node m x .index in

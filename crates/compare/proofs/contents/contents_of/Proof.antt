@@ -42,6 +42,9 @@ byte-requires c κs = tt
 word-requires : tie.Need-word-requires Inv-loop μ-loop
 word-requires c κs = omega arith
 
+cast-heads : tie.Need-cast-heads Inv-loop μ-loop
+cast-heads c = omega arith
+
 array-write-heads : tie.Need-array-write-heads Inv-loop μ-loop
 array-write-heads c = omega arith
 
@@ -65,5 +68,6 @@ contents-of-spec =
     loop-again
     byte-requires
     word-requires
+    cast-heads
     array-write-heads
     returns)

@@ -7,47 +7,50 @@ use Rattle.machine.specs.Line.{lineCount}
 use Rattle.endtable.specs.Opened.{blankCounts}
 use Rattle.endtable.specs.Picks.{picksOf, Filled}
 use Rattle.endtable.proofs.Digits as digits
+use Rattle.image.proofs.FormLaws.{place-most}
 use Rattle.pages.proofs.PageLaws as pages
 use borrow.Author.Needs.{needs}
 use Rattle.compare_pages.proofs.runs.sum_table.Statement.{statement}
 use Rattle.compare_pages.proofs.runs.sum_table.Tie as tie
 
 abbrev Inv-loop : tie.InvT-loop
-Inv-loop t counts n count lent₀ whole sum₀ k₀ lent sum k = (k ≤ count) × (length lent ≡ length lent₀)
+Inv-loop t counts form n count lent₀ whole sum₀ k₀ lent sum k = (k ≤ count) × (length lent ≡ length lent₀)
 
 abbrev μ-loop : tie.MeasureT-loop
-μ-loop t counts n count lent₀ whole sum₀ k₀ lent sum k = count - k
+μ-loop t counts form n count lent₀ whole sum₀ k₀ lent sum k = count - k
 
-mul-whole : tie.Need-mul-whole Inv-loop μ-loop
-mul-whole c = search needs
-
-add-whole : tie.Need-add-whole Inv-loop μ-loop
-add-whole c = search needs
+place-of-requires : tie.Need-place-of-requires Inv-loop μ-loop
+place-of-requires c κs = (c .before .pre .0, c .before .pre .1)
 
 loop-holds : tie.Need-loop-holds Inv-loop μ-loop
 loop-holds c = (omega arith, refl)
 
 ending-picks-requires : tie.Need-ending-picks-requires Inv-loop μ-loop
-ending-picks-requires c κs = let z = c .before .before .before in (z .pre .0, z .pre .1 .0)
+ending-picks-requires c κs = let z = c .before .before .before .before in (z .pre .1, z .pre .2 .0)
 
 ending-image-requires : tie.Need-ending-image-requires Inv-loop μ-loop
 unfolding picksOf
 ending-image-requires c κs =
-    let z = c .before .before .before .before in
+    let z = c .before .before .before .before .before in
     let a = z .args in
     let p = c .before .before .loop in (
-      z .pre .0,
+      z .pre .1,
       subst (λ ps. Filled ps (lineCount (a .n))) (sym (c .ending-picks .ensures))
-          (digits.digits-front (a .counts) (lineCount (a .n)) (p .k) (drop (lineCount (a .n)) blankCounts) (z .pre .1)),
+          (digits.digits-front (a .counts) (lineCount (a .n)) (p .k) (drop (lineCount (a .n)) blankCounts) (z .pre .2)),
     )
+
+in-form-requires : tie.Need-in-form-requires Inv-loop μ-loop
+in-form-requires c κs = tt
 
 put-image-requires : tie.Need-put-image-requires Inv-loop μ-loop
 put-image-requires c κs =
-    let z = c .before .before .before .before .before .before in
-    let p = c .before .before .before .before .loop in
-    let i = c .before .ending-image in
-    let e : i .result .n ≡ z .args .n = ap (λ (x : Image). x .n) (i .ensures) ∙ pages.picked-nodes _ _ _ in
-    (omega (arith, e, z .pre .0), omega (arith, e, z .pre .0, z .pre .2, p .inv .1))
+    let p = c .before .before .before .before .before .loop in
+    let z = c .before .before .before .before .before .before .before .before in
+    let i = c .before .before .ending-image in
+    let g = c .before .in-form in
+    let n : g .result .n ≡ z .args .n = ap (λ (x : Image). x .n) (g .ensures) ∙ ap (λ (x : Image). x .n) (i .ensures) ∙ pages.picked-nodes _ _ _ in
+    let f : g .result .form ≡ z .args .form = ap (λ (x : Image). x .form) (g .ensures) in
+    rw (n, f) (z .pre .0, (z .pre .1, omega (arith, place-most (z .args .form) (z .args .n) (z .pre .0) (z .pre .1) .1, z .pre .3, p .inv .1)))
 
 sum-front-requires : tie.Need-sum-front-requires Inv-loop μ-loop
 sum-front-requires c κs = tt
@@ -61,7 +64,7 @@ loop-less c = omega arith
 loop-again : tie.Need-loop-again Inv-loop μ-loop
 loop-again c =
     let f = c .before .before .before .before in
-    (omega arith, f .put-image .kept .0 ∙ f .before .before .before .before .before .loop .inv .1)
+    (omega arith, f .put-image .kept .0 ∙ f .before .before .before .before .before .before .loop .inv .1)
 
 same-length : tie.Need-same-length Inv-loop μ-loop
 same-length c = c .before .loop .inv .1
@@ -75,11 +78,11 @@ sum-table-spec =
     (tie.spec
     Inv-loop
     μ-loop
-    mul-whole
-    add-whole
+    place-of-requires
     loop-holds
     ending-picks-requires
     ending-image-requires
+    in-form-requires
     put-image-requires
     sum-front-requires
     add-k

@@ -67,8 +67,8 @@ returns-2 c =
     let e = laws.ending-none (z .args .s .now) (p .result) (p .ensures) f (z .args .k) (length (z .args .b .now)) (omega (arith, n)) in
     (ap told e, laws.same-bytes (z .args .s .now) (z .args .k) (z .args .b .now) (ap accepted (sym e)))
 
-cast-if3 : tie.Need-cast-if3
-cast-if3 c = search needs
+cast-place-of : tie.Need-cast-place-of
+cast-place-of c = search needs
 
 place-of-requires : tie.Need-place-of-requires
 place-of-requires c κs =
@@ -149,7 +149,7 @@ ending-of-spec =
     ending-count-requires
     cast-if2
     returns-2
-    cast-if3
+    cast-place-of
     place-of-requires
     returns-3
     cast-ending-picks
