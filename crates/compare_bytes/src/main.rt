@@ -2,15 +2,18 @@
 // Standard input: one byte that names the mode, then a stream of items, each behind its length (4 bytes, little-endian).
 //   i  an image:    `refused N at P`, or the image written again, in hex
 //   s  a schedule:  `refused N at P`, or `taken T COUNT IMAGE EVENTS`, the last two in hex
+//   m  an image to be mended and a room: `N P BUFFER LIST`, the whole lent buffer in hex, then `NODE:REASON` for each changed node, or `-`
 //   c  contents to be written: `N P BUFFER`, the whole lent buffer in hex
 mod contents;
 mod images;
+mod mended;
 mod schedules;
 
 use compare::text::finish;
 use contents::answer_contents;
 use images::answer_image;
 use libc::STDIN_FILENO;
+use mended::answer_mended;
 use schedules::answer_schedule;
 use stream::next_item;
 
@@ -19,6 +22,7 @@ fn answer_one(mode: u8, s: &[u8], out: &mut [u8; 65536], at: usize) -> usize {
         b'i' => answer_image(s, out, at),
         b's' => answer_schedule(s, out, at),
         b'c' => answer_contents(s, out, at),
+        b'm' => answer_mended(s, out, at),
         _ => at,
     }
 }
