@@ -44,6 +44,7 @@ enum {
     UQ_MAX_ENDINGS = 65536,
     UQ_MAX_IMAGE = 846,      /* 14 + 13N; in version 1 10 + 9N, at most 586 */
     UQ_MAX_SCHEDULE = 25430, /* 8, the image, and 6 for each event */
+    UQ_MAX_LIST = 128,       /* of uq_mend: 2 for each node */
     UQ_RECORD = 1970,
     UQ_PLACES = 6,
     UQ_MAX_HISTORY = 859, /* 3 + 4 for each item, and 22 for each operation */
@@ -86,6 +87,13 @@ enum { UQ_NO_REPLY = 0, UQ_DONE = 1, UQ_FULL = 2, UQ_WORN_OUT = 3, UQ_ITEM = 4, 
    Nothing is written.
    A refusal has number 1, 2, 3, 6, 7 or 8 and its place. */
 uint64_t uq_check_image(const uint8_t *image, size_t length);
+
+/* The image, mended: linked bytes above 1 become 0; then of recovered nodes with one index all but the lowest-numbered have linked cleared; then, if every
+   node is recovered, the one with the largest index has. Where it is taken the value is how many nodes were changed, at most N.
+   The mended image, as long as `image`, is written into the front of `buffer`; into the front of `list` two bytes for each changed node, in node order: its
+   number and the reason, UQ_LINKED, UQ_TWIN or UQ_NO_DUMMY. The bytes after them stay. The mended image is accepted; of an accepted one the value is 0.
+   A refusal has number 1, 2 or 3, or 17 where either buffer is too short, with place 0, and writes nothing. UQ_MAX_LIST bytes are always enough for the list. */
+uint64_t uq_mend(const uint8_t *image, size_t length, uint8_t *buffer, size_t room, uint8_t *list, size_t list_room);
 
 /* Whether `schedule` is a schedule, looked at up to its events: those are tested by a run. Value 0 where it is taken.
    Nothing is written.
@@ -142,7 +150,7 @@ uint64_t uq_judge(const uint8_t *history, size_t length, uint8_t *order, size_t 
 /* The number: 0 where the call was taken. */
 static inline uint32_t uq_number(uint64_t result) { return (uint32_t)(result % 256); }
 
-/* The place of a refusal, or the count that uq_count_endings gives. */
+/* The place of a refusal, or the count that uq_count_endings or uq_mend gives. */
 static inline uint64_t uq_value(uint64_t result) { return result / 256; }
 
 /* Of an event that was taken: what an operation answered, UQ_NO_REPLY where none did. */
