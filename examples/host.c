@@ -151,6 +151,28 @@ static void refusals(void) {
     expect("nine threads", uq_check_schedule(schedule, P1_BYTES), refusal(UQ_THREADS, 0));
 }
 
+/* Two recovered nodes with one index, in an image of two: the second is cleared, for 7. Mended, it is accepted; mended again it stays. */
+static void mending(void) {
+    uint8_t image[IMAGE], mended[IMAGE + 1], list[3] = {9, 9, 9}, wanted[IMAGE];
+    put_image(image, 0, 1, 4, 7);
+    image[10] = 1;
+    put_word(image + 11, 4);
+    for (int i = 0; i < IMAGE; i++) wanted[i] = image[i];
+    wanted[19] = 0;
+    mended[IMAGE] = 9;
+    expect("twins", uq_check_image(image, IMAGE), refusal(UQ_TWIN, 1));
+    expect("no room for the image", uq_mend(image, IMAGE, mended, IMAGE - 1, list, 2), refusal(UQ_ROOM, 0));
+    expect("no room for the list", uq_mend(image, IMAGE, mended, IMAGE, list, 1), refusal(UQ_ROOM, 0));
+    expect("one node changed", uq_value(uq_mend(image, IMAGE, mended, IMAGE, list, 2)), 1);
+    expect("node 1", list[0], 1);
+    expect("for 7", list[1], UQ_TWIN);
+    expect("the bytes behind stay", list[2] == 9 && mended[IMAGE] == 9, 1);
+    expect("nothing else", same(mended, wanted, IMAGE), 1);
+    expect("mended", uq_check_image(mended, IMAGE), UQ_TAKEN);
+    expect("mended again", uq_mend(mended, IMAGE, image, IMAGE, list, 0), UQ_TAKEN);
+    expect("the same", same(image, mended, IMAGE), 1);
+}
+
 /* The machine of an image of two nodes whose head index is `head`. */
 static void start(uint8_t *record, uint32_t head) {
     uint8_t image[IMAGE];
@@ -331,6 +353,7 @@ int main(void) {
     contents();
     text();
     refusals();
+    mending();
     run();
     worn_out();
     event_refusals();

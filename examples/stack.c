@@ -121,6 +121,12 @@ static void judge(void) {
     result = uq_judge(history, 7 + 22 * UQ_MAX_ORDER, order, sizeof order);
 }
 
+/* The schedule's image. */
+static void mend(void) {
+    static uint8_t mended[UQ_MAX_IMAGE], list[UQ_MAX_LIST];
+    result = uq_mend(schedule + 8, schedule[11] == 2 ? 14 + 13 * (size_t)schedule[13] : 10 + 9 * (size_t)schedule[13], mended, sizeof mended, list, sizeof list);
+}
+
 static void (*call)(void);
 static uint8_t *entry;
 
@@ -181,5 +187,6 @@ int main(void) {
     measure("uq_save", save);
     measure("uq_places", places);
     measure("uq_judge", judge);
+    measure("uq_mend", mend);
     return bad;
 }

@@ -24,6 +24,9 @@ int agree_on_record(u64 seed, u64 number);
 int agree_on_start(const u8 *bytes, u64 length);
 int agree_on_history(u64 seed, u64 number);
 int agree_on_conversions(const u8 *bytes, u64 length, u64 number);
+
+/* mended.c: 1 where the mender did on some damaged image what request 105 says, and 0 and says what is wrong where it did not. */
+int agree_on_mended(void);
 extern u64 numbers_seen[NUMBERS];
 
 /* of the histories alone: how often each number was given back, and each verdict (0 unlawful, 1 lawful, 2 undecided) */

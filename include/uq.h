@@ -44,6 +44,7 @@ enum {
     UQ_MAX_ENDINGS = 65536,
     UQ_MAX_IMAGE = 846,      /* 14 + 13N; in version 1 10 + 9N, at most 586 */
     UQ_MAX_SCHEDULE = 25430, /* 8, the image, and 6 for each event */
+    UQ_MAX_LIST = 128,       /* of uq_mend: 2 for each node */
     UQ_MAX_CONTENTS = 208,   /* 16 contents of 13 */
     UQ_RECORD = 1971,
     UQ_PLACES = 6,
@@ -99,6 +100,12 @@ uint64_t uq_widen(const uint8_t *image, size_t length, uint8_t *buffer, size_t r
    A refusal has number 1, 2 (of version 1 too), 3, 6, 7, 8, 20 where an index is above 4,294,967,295, or 17, and its place: of 20 the first such node,
    recovered or not, and N for the head, which is tested first. It writes nothing. */
 uint64_t uq_narrow(const uint8_t *image, size_t length, uint8_t *buffer, size_t room);
+/* The image, mended: linked bytes above 1 become 0; then of recovered nodes with one index all but the lowest-numbered have linked cleared; then, if every
+   node is recovered, the one with the largest index has. Where it is taken the value is how many nodes were changed, at most N.
+   The mended image, as long as `image`, is written into the front of `buffer`; into the front of `list` two bytes for each changed node, in node order: its
+   number and the reason, UQ_LINKED, UQ_TWIN or UQ_NO_DUMMY. The bytes after them stay. The mended image is accepted; of an accepted one the value is 0.
+   A refusal has number 1, 2 or 3, or 17 where either buffer is too short, with place 0, and writes nothing. UQ_MAX_LIST bytes are always enough for the list. */
+uint64_t uq_mend(const uint8_t *image, size_t length, uint8_t *buffer, size_t room, uint8_t *list, size_t list_room);
 
 /* Whether `schedule` is a schedule, looked at up to its events: those are tested by a run. Value 0 where it is taken.
    Nothing is written.
@@ -162,7 +169,7 @@ uint64_t uq_judge(const uint8_t *history, size_t length, uint8_t *order, size_t 
 /* The number: 0 where the call was taken. */
 static inline uint32_t uq_number(uint64_t result) { return (uint32_t)(result % 256); }
 
-/* The place of a refusal, or the count that uq_count_endings or uq_line gives. */
+/* The place of a refusal, or the count that uq_count_endings, uq_line or uq_mend gives. */
 static inline uint64_t uq_value(uint64_t result) { return result / 256; }
 
 /* Of an event that was taken: what an operation answered, UQ_NO_REPLY where none did. */

@@ -7,7 +7,7 @@ use native.Mathlib.Omega.{arith}
 use borrow.Author.Tests.{eqb-true, ltb-false, leb-true, lt-ltb, le-ltb, not-false}
 use lib.ListN.{length, drop, length-drop}
 use lib.Dec.{eqb, ltb, leb}
-use Rattle.lists.proofs.BoolLaws.{false-true, both-true}
+use Rattle.lists.proofs.BoolLaws.{no-way, false-true, both-true}
 use Rattle.answer.specs.Answers.{check, accepted}
 use Rattle.answer.specs.declared.Answer.{Answer}
 use Rattle.answer.specs.declared.Answer.the-variants.{Taken, Length, Mark, Nodes, Threads, Events, Room}
@@ -18,7 +18,7 @@ use Rattle.image.specs.Refusals.{nodesFit, sound, whole, imageAnswer, writeAnsw
 use Rattle.image.proofs.SoundLaws.{whole-then, whole-else}
 use Rattle.image.specs.declared.Image.{Image}
 use Rattle.machine.specs.Start.{threadsFit}
-use Rattle.codec.specs.Parts.{Lies}
+use Rattle.codec.specs.Parts.{Lies, shape}
 use Rattle.schedule.specs.Layout.{isSchedule, threadsIn, countIn, imagePart, nodesIn, eventPlace, scheduleIn, scheduleAnswer, readSchedule}
 
 pub nodes-least : (n : ℕ) → nodesFit n ≡ true → 2 ≤ n
@@ -38,6 +38,57 @@ check-not b a rest e h = let p = check-true (not b) a rest e h in (not-false b (
 
 -- ---- an image with `more` bytes behind it
 
+-- 1, 2, 3, 1 in front of what follows
+shape-by : (w x y z : Bool) (rest : Answer) → accepted (check w Length (check x Mark (check y Nodes (check z Length Taken)))) ≡ true
+    → check w Length (check x Mark (check y Nodes (check z Length rest))) ≡ rest
+shape-by true x y z rest h = false-true h
+shape-by false true y z rest h = false-true h
+shape-by false false true z rest h = false-true h
+shape-by false false false true rest h = false-true h
+shape-by false false false false rest h = refl
+
+misshape-by : (w x y z : Bool) (rest : Answer) → accepted (check w Length (check x Mark (check y Nodes (check z Length Taken)))) ≡ false
+    → check w Length (check x Mark (check y Nodes (check z Length rest))) ≡ check w Length (check x Mark (check y Nodes (check z Length Taken)))
+misshape-by true x y z rest h = refl
+misshape-by false true y z rest h = refl
+misshape-by false false true z rest h = refl
+misshape-by false false false true rest h = refl
+misshape-by false false false false rest h = no-way h
+
+pub shape-then : (more : ℕ) (s : List ℕ) (rest : Answer) → accepted (shape more s Taken) ≡ true → shape more s rest ≡ rest
+unfolding shape
+shape-then more s rest h =
+    shape-by (ltb (length s) 10) (not (isImage s)) (not (nodesFit (at1 s 5))) (not (eqb (length s) (nodePlace (formIn s) (at1 s 5) + more))) rest h
+
+pub shape-else : (more : ℕ) (s : List ℕ) (rest : Answer) → accepted (shape more s Taken) ≡ false → shape more s rest ≡ shape more s Taken
+unfolding shape
+shape-else more s rest h =
+    misshape-by (ltb (length s) 10) (not (isImage s)) (not (nodesFit (at1 s 5))) (not (eqb (length s) (nodePlace (formIn s) (at1 s 5) + more))) rest h
+
+-- 6, 7, 8 follow
+pub answer-shape : (more : ℕ) (s : List ℕ) → imageAnswer more s ≡ shape more s (sound (imageIn s) Taken)
+unfolding shape imageAnswer
+answer-shape more s = refl
+
+pub record ShapeTaken (more : ℕ) (s : List ℕ) : Type 0 where
+  pub long : 10 ≤ length s
+  pub mark : isImage s ≡ true
+  pub nodes : nodesFit (at1 s 5) ≡ true
+  pub size : length s ≡ nodePlace (formIn s) (at1 s 5) + more
+
+pub shape-taken : (more : ℕ) (s : List ℕ) → accepted (shape more s Taken) ≡ true → ShapeTaken more s
+unfolding shape
+shape-taken more s h =
+    let a = check-true (ltb (length s) 10) Length _ refl h in
+    let b = check-not (isImage s) Mark _ refl (a .1) in
+    let c = check-not (nodesFit (at1 s 5)) Nodes _ refl (b .1) in
+    let d = check-not (eqb (length s) (nodePlace (formIn s) (at1 s 5) + more)) Length _ refl (c .1) in
+    record { long = ltb-false _ _ (a .0); mark = b .0; nodes = c .0; size = eqb-true _ _ (d .0) }
+
+-- the image lies in the bytes
+pub shape-lies : (more : ℕ) (s : List ℕ) → accepted (shape more s Taken) ≡ true → Lies s
+shape-lies more s h = let t = shape-taken more s h in (t .mark, (nodes-most _ (t .nodes), omega (arith, t .size)))
+
 pub record PartTaken (more : ℕ) (s : List ℕ) : Type 0 where
   pub long : 10 ≤ length s
   pub mark : isImage s ≡ true
@@ -45,14 +96,19 @@ pub record PartTaken (more : ℕ) (s : List ℕ) : Type 0 where
   pub size : length s ≡ nodePlace (formIn s) (at1 s 5) + more
   pub clear : accepted (sound (imageIn s) Taken) ≡ true
 
+-- what follows is accepted only behind 1, 2, 3, 1
+pub shaped : (more : ℕ) (s : List ℕ) (rest : Answer) → accepted (shape more s rest) ≡ true → (accepted (shape more s Taken) ≡ true) × (accepted rest ≡ true)
+shaped more s rest h = by (accepted (shape more s Taken)) refl
+  where
+    by : (b : Bool) → accepted (shape more s Taken) ≡ b → (accepted (shape more s Taken) ≡ true) × (accepted rest ≡ true)
+    by true e = (e, sym (ap accepted (shape-then more s rest e)) ∙ h)
+    by false e = false-true (sym e ∙ sym (ap accepted (shape-else more s rest e)) ∙ h)
+
 pub part-taken : (more : ℕ) (s : List ℕ) → accepted (imageAnswer more s) ≡ true → PartTaken more s
-unfolding imageAnswer
 part-taken more s h =
-    let a = check-true (ltb (length s) 10) Length _ refl h in
-    let b = check-not (isImage s) Mark _ refl (a .1) in
-    let c = check-not (nodesFit (at1 s 5)) Nodes _ refl (b .1) in
-    let d = check-not (eqb (length s) (nodePlace (formIn s) (at1 s 5) + more)) Length _ refl (c .1) in
-    record { long = ltb-false _ _ (a .0); mark = b .0; nodes = c .0; size = eqb-true _ _ (d .0); clear = d .1 }
+    let e = shaped more s (sound (imageIn s) Taken) (sym (ap accepted (answer-shape more s)) ∙ h) in
+    let t = shape-taken more s (e .0) in
+    record { long = t .long; mark = t .mark; nodes = t .nodes; size = t .size; clear = e .1 }
 
 -- ---- contents to be written into a buffer of `room` bytes
 

@@ -81,19 +81,21 @@ body-there f s n b k e =
     ∙ ap (take (nodeSize f)) (sym (drop-drop (i * nodeSize f) (headerSize f) s)))
     ∙ tabs.joined-parts (drop (headerSize f) s) (nodeSize f) n
 
--- an image with bytes behind it: its own bytes come back
-pub part-again : (more : ℕ) (s : List ℕ) → num.Bytes s → accepted (imageAnswer more s) ≡ true → im.imageBytes (im.imageIn s) ≡ take (im.nodePlace (im.formIn s) (at1 s 5)) s
+-- an image that lies in the bytes: its own bytes come back
+pub shape-again : (s : List ℕ) → num.Bytes s → im.isImage s ≡ true → im.nodePlace (im.formIn s) (at1 s 5) ≤ length s → im.imageBytes (im.imageIn s) ≡ take (im.nodePlace (im.formIn s) (at1 s 5)) s
 unfolding im.imageBytes im.imageIn im.readHeads
-part-again more s b h =
-    let a = acc.part-taken more s h in
+shape-again s b m l =
     let n = at1 s 5 in
     let f = im.formIn s in
     let x : ℕ → ℕ = λ k. atW (widthOf f) s (headsAt f + k * widthOf f) in
     ap₂ (λ (x y : List ℕ). x ++ y)
-    (heads-there f n _ x (λ k p. heads-at n x k p) ∙ head-there s b (a .mark) (omega (arith, a .size, place-from f n)))
-    (body-there f s n b (a .mark) (omega (arith, a .size)))
+    (heads-there f n _ x (λ k p. heads-at n x k p) ∙ head-there s b m (omega (arith, l, place-from f n)))
+    (body-there f s n b m l)
     ∙ sym (take-add (headerSize f) (n * nodeSize f) s)
     ∙ ap (λ (k : ℕ). take k s) (sym (place-from f n))
+
+pub part-again : (more : ℕ) (s : List ℕ) → num.Bytes s → accepted (imageAnswer more s) ≡ true → im.imageBytes (im.imageIn s) ≡ take (im.nodePlace (im.formIn s) (at1 s 5)) s
+part-again more s b h = let a = acc.part-taken more s h in shape-again s b (a .mark) (omega (arith, a .size))
 
 -- an image alone
 pub bytes-again : (s : List ℕ) → num.Bytes s → accepted (imageAnswer 0 s) ≡ true → im.imageBytes (im.imageIn s) ≡ s

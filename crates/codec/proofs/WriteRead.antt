@@ -60,7 +60,7 @@ trimmed-same g x l e =
     λ k. record { form = g .form; n = g .n; heads = x k; nodes = e′ k }
 
 module _ (g : Image) (k : known (g .form) ≡ true) where
-  nodeOf : ℕ → List ℕ
+  unfoldable pub nodeOf : ℕ → List ℕ
   nodeOf i = im.nodeBytes (g .form) (im.contentAt (g .nodes) i)
 
   node-size : (i : ℕ) → length (nodeOf i) ≡ nodeSize (g .form)
@@ -68,7 +68,7 @@ module _ (g : Image) (k : known (g .form) ≡ true) where
   node-size i = laws.node-length (g .form) (im.contentAt (g .nodes) i) k
 
   -- byte j of node i
-  at-node : (i j : ℕ) → i < g .n → j < nodeSize (g .form) → getD (im.imageBytes g) (im.nodePlace (g .form) i + j) 0 ≡ getD (nodeOf i) j 0
+  pub at-node : (i j : ℕ) → i < g .n → j < nodeSize (g .form) → getD (im.imageBytes g) (im.nodePlace (g .form) i + j) 0 ≡ getD (nodeOf i) j 0
   unfolding im.imageBytes im.bodyBytes nodeOf
   at-node i j p q =
       let h = laws.head-length (g .form) (g .n) (im.headIn g) k in

@@ -1,18 +1,17 @@
 -- What the calls of this crate hand out, where images and schedules do not say it already.
-use Prim.Native.Nat.{ℕ, _≤_}
+use Prim.Native.Nat.{ℕ, _+_, _≤_}
 use mathlib.Core.Path.{_≡_}
-use mathlib.Core.Bool.{true}
+use mathlib.Core.Bool.{true, false, not}
 use mathlib.Core.List.{List}
 use lib.ListN.{length}
-use mathlib.Core.Bool.{Bool, true, false}
-use lib.Dec.{ltb, leb}
+use lib.Dec.{eqb, ltb, leb}
 use Rattle.lists.specs.Find.{pick, both}
 use Rattle.answer.specs.Answers.{check, accepted}
 use Rattle.answer.specs.declared.Answer.{Answer}
 use Rattle.image.specs.Bytes.{at1}
-use Rattle.answer.specs.declared.Answer.the-variants.{Taken, NoEnding}
+use Rattle.answer.specs.declared.Answer.the-variants.{Taken, Length, Mark, Nodes, NoEnding}
 use Rattle.image.specs.Layout.{formIn, isImage, nodePlace, imageIn}
-use Rattle.image.specs.Refusals.{imageAnswer, blankImage}
+use Rattle.image.specs.Refusals.{nodesFit, imageAnswer, blankImage}
 use Rattle.image.specs.declared.Read.{Read}
 use Rattle.machine.specs.declared.Event.{Event}
 use Rattle.schedule.specs.Layout.{countIn, eventIn, scheduleAnswer, blankSchedule}
@@ -21,6 +20,14 @@ use Rattle.schedule.specs.declared.Opened.{Opened}
 -- an image's head and nodes lie in the bytes
 abbrev pub Lies : List ℕ → Type 0
 Lies s = (isImage s ≡ true) × ((at1 s 5 ≤ 64) × (nodePlace (formIn s) (at1 s 5) ≤ length s))
+
+-- 1, 2, 3, 1: what is asked of an image with `more` bytes behind it before its nodes are looked at, with what follows
+unfoldable pub shape : ℕ → List ℕ → Answer → Answer
+shape more s rest =
+    check (ltb (length s) 10) Length
+    (check (not (isImage s)) Mark
+    (check (not (nodesFit (at1 s 5))) Nodes
+    (check (not (eqb (length s) (nodePlace (formIn s) (at1 s 5) + more))) Length rest)))
 
 -- an image with `more` bytes behind it, as `readImage` reads one alone
 unfoldable pub readPart : ℕ → List ℕ → Read

@@ -6,7 +6,7 @@ mod images;
 mod nodes;
 mod opening;
 mod reading;
-mod sound;
+pub mod sound;
 mod writing;
 
 pub use bytes::form_in;
@@ -20,6 +20,7 @@ pub use opening::check_schedule;
 pub use opening::open_schedule;
 pub use reading::check_part;
 pub use reading::read_part;
+pub use reading::shape_part;
 pub use writing::write_image;
 ghost use mathlib.Core.Path.{_≡_};
 ghost use Rattle.answer.specs.Answers.{told};

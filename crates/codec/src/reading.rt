@@ -1,8 +1,9 @@
 // An image read from bytes, alone or in front of others.
 ghost use mathlib.Core.Path.{_≡_};
 ghost use Prim.Native.Nat.{_≤_};
+ghost use Rattle.answer.specs.declared.Answer.the-variants.{Taken};
 ghost use Rattle.image.specs.Refusals.{imageAnswer};
-ghost use Rattle.codec.specs.Parts.{refusedRead, readPart};
+ghost use Rattle.codec.specs.Parts.{shape, refusedRead, readPart};
 use crate::bytes::form_in;
 use crate::images::image_in;
 use crate::sound::sound_at;
@@ -20,10 +21,10 @@ fn refused(a: Answer) -> Read
     Read { answer: a, image }
 }
 
-// 1, 2, 3, 1, 6, 7, 8: what is wrong with the image that the bytes begin with, `more` bytes behind it. It builds none.
-pub fn check_part(s: &[u8], more: usize) -> Answer
+// 1, 2, 3, 1: what is wrong with the image that the bytes begin with before its nodes are looked at, `more` bytes behind it.
+pub fn shape_part(s: &[u8], more: usize) -> Answer
     requires { ⌜ more ≤ 24576 ⌝ }
-    ensures { λ r. ⌜ r ≡ imageAnswer more (now (s .entry)) ⌝ }
+    ensures { λ r. ⌜ r ≡ shape more (now (s .entry)) Taken ⌝ }
 {
     let len = s.len();
     if len < 10 {
@@ -44,6 +45,19 @@ pub fn check_part(s: &[u8], more: usize) -> Answer
     if len != place_of(form, k) + more {
         return Answer::Length;
     }
+    Answer::Taken
+}
+
+// 1, 2, 3, 1, 6, 7, 8. It builds no image.
+pub fn check_part(s: &[u8], more: usize) -> Answer
+    requires { ⌜ more ≤ 24576 ⌝ }
+    ensures { λ r. ⌜ r ≡ imageAnswer more (now (s .entry)) ⌝ }
+{
+    let a = shape_part(s, more);
+    if !is_taken(a) {
+        return a;
+    }
+    let k = s[5] as usize;
     sound_at(s, k)
 }
 

@@ -13,7 +13,7 @@ use answer::Answer;
 use image::place_of;
 
 // Node i's linked byte.
-fn linked_at(s: &[u8], i: usize) -> u8
+pub fn linked_at(s: &[u8], i: usize) -> u8
     requires { ⌜ (i < at1 (now s) 5) × Lies (now s) ⌝ }
     ensures { λ r. ⌜ r ≡ contentAt (imageIn (now (s .entry)) .nodes) i .linked ⌝ }
 {
@@ -23,7 +23,7 @@ fn linked_at(s: &[u8], i: usize) -> u8
 }
 
 // Node i's index.
-fn index_at(s: &[u8], i: usize) -> u64
+pub fn index_at(s: &[u8], i: usize) -> u64
     requires { ⌜ (i < at1 (now s) 5) × Lies (now s) ⌝ }
     ensures { λ r. ⌜ r ≡ contentAt (imageIn (now (s .entry)) .nodes) i .index ⌝ }
 {
@@ -33,7 +33,7 @@ fn index_at(s: &[u8], i: usize) -> u64
 }
 
 // The head index that a start takes.
-fn head_at(s: &[u8]) -> u64
+pub fn head_at(s: &[u8]) -> u64
     requires { ⌜ Lies (now s) ⌝ }
     ensures { λ r. ⌜ r ≡ headOf (imageIn (now (s .entry))) ⌝ }
 {
@@ -54,7 +54,7 @@ fn recovered_at(s: &[u8], i: usize, h: u64) -> bool
 }
 
 // Nodes i and j are recovered, with one index.
-fn twins_at(s: &[u8], i: usize, j: usize, h: u64) -> bool
+pub fn twins_at(s: &[u8], i: usize, j: usize, h: u64) -> bool
     requires { ⌜ (i < at1 (now s) 5) × ((j < at1 (now s) 5) × (Lies (now s) × (h ≡ headOf (imageIn (now s))))) ⌝ }
     ensures { λ r. ⌜ r ≡ twins (imageIn (now (s .entry))) i j ⌝ }
 {
@@ -85,7 +85,7 @@ fn first_unclear_at(s: &[u8], n: usize) -> usize
 }
 
 // The smallest node number that has a lower-numbered twin, and N where none has.
-fn first_twin_at(s: &[u8], n: usize, h: u64) -> usize
+pub fn first_twin_at(s: &[u8], n: usize, h: u64) -> usize
     requires { ⌜ (n ≡ at1 (now s) 5) × (Lies (now s) × (h ≡ headOf (imageIn (now s)))) ⌝ }
     ensures { λ r. ⌜ r ≡ firstTwin (imageIn (now (s .entry))) ⌝ }
 {
@@ -104,7 +104,7 @@ fn first_twin_at(s: &[u8], n: usize, h: u64) -> usize
 }
 
 // The lowest-numbered node that is not recovered, and N where every node is.
-fn dummy_at(s: &[u8], n: usize, h: u64) -> usize
+pub fn dummy_at(s: &[u8], n: usize, h: u64) -> usize
     requires { ⌜ (n ≡ at1 (now s) 5) × (Lies (now s) × (h ≡ headOf (imageIn (now s)))) ⌝ }
     ensures { λ r. ⌜ r ≡ dummyOf (imageIn (now (s .entry))) ⌝ }
 {

@@ -2,6 +2,7 @@
 // Standard input: one byte that names the mode, then a stream of items, each behind its length (4 bytes, little-endian).
 //   i  an image:    `refused N at P`, or the image written again, in hex
 //   s  a schedule:  `refused N at P`, or `taken T COUNT IMAGE EVENTS`, the last two in hex
+//   m  an image to be mended and a room: `N P BUFFER LIST`, the whole lent buffer in hex, then `NODE:REASON` for each changed node, or `-`
 //   c  contents to be written: `N P BUFFER`, the whole lent buffer in hex
 //   d  contents that say the version they are for, with indices of 8 bytes: the same
 //   w  an image to be widened, the buffer's room behind it: the same
@@ -9,6 +10,7 @@
 mod contents;
 mod conversions;
 mod images;
+mod mended;
 mod schedules;
 
 use compare::text::finish;
@@ -17,6 +19,7 @@ use contents::answer_wide_contents;
 use conversions::answer_converted;
 use images::answer_image;
 use libc::STDIN_FILENO;
+use mended::answer_mended;
 use schedules::answer_schedule;
 use stream::next_item;
 
@@ -28,6 +31,7 @@ fn answer_one(mode: u8, s: &[u8], out: &mut [u8; 65536], at: usize) -> usize {
         b'd' => answer_wide_contents(s, out, at),
         b'w' => answer_converted(s, out, at, true),
         b'v' => answer_converted(s, out, at, false),
+        b'm' => answer_mended(s, out, at),
         _ => at,
     }
 }

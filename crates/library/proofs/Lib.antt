@@ -5,3 +5,4 @@ pub mod LineLaws
 pub mod Refused
 pub mod Unique
 pub mod Whole
+pub mod Mended

@@ -4,3 +4,4 @@ pub mod Conversions
 pub mod Texts
 pub mod Judging
 pub mod Line
+pub mod Mend

@@ -3,6 +3,7 @@
 pub mod conversions;
 pub mod histories;
 pub mod line;
+pub mod mend;
 mod packing;
 pub mod records;
 pub mod schedules;

@@ -1,75 +1,59 @@
-use mathlib.Core.Bool.{true}
 use mathlib.Core.Path.{_≡_, refl, sym, ap, _∙_}
 use native.Mathlib.Omega.{arith}
-use Rattle.image.proofs.FormLaws as forms
-use Rattle.image.specs.Layout.{formIn, isImage, nodePlace}
-use Rattle.image.specs.Bytes.{at1}
-use Rattle.image.specs.Form.{known}
-use Rattle.image.specs.Refusals.{imageAnswer}
-use borrow.Author.Tests.{eq-eqb, ne-eqb, lt-ltb, le-ltb, le-leb, lt-leb, not-true, not-false}
+use borrow.Author.Tests.{not-true, not-false}
 use borrow.Author.Needs.{needs}
+use Rattle.answer.specs.Answers.{accepted}
+use Rattle.codec.proofs.Accepted as acc
 use Rattle.codec.proofs.reading.check_part.Statement.{statement}
 use Rattle.codec.proofs.reading.check_part.Tie as tie
 
+shape-part-requires : tie.Need-shape-part-requires
+shape-part-requires c κs = search needs
+
+is-taken-requires : tie.Need-is-taken-requires
+is-taken-requires c κs = search needs
+
 returns : tie.Need-returns
-unfolding imageAnswer
-returns c = rw (lt-ltb _ _ (c .if1 .taken))
+returns c =
+    let z = c .before .before in
+    let a = z .before .before .args in
+    z .shape-part .ensures ∙ sym (acc.answer-shape (a .more) (a .s .now) ∙ acc.shape-else (a .more) (a .s .now) _ (sym (ap accepted (z .shape-part .ensures)) ∙ sym (c .before .is-taken .ensures) ∙ not-true (c .before .is-taken .result) (c .if1 .taken)))
 
-form-in-requires : tie.Need-form-in-requires
-form-in-requires c κs = search needs
-
-is-known-requires : tie.Need-is-known-requires
-is-known-requires c κs = search needs
-
-returns-2 : tie.Need-returns-2
-unfolding imageAnswer
-returns-2 c = rw (le-ltb _ _ (c .before .before .before .if1 .left), ← c .before .before .form-in .ensures, ← c .before .is-known .ensures, not-true (c .before .is-known .result) (c .if2 .taken))
-
-shared-slice-read-n : tie.Need-shared-slice-read-n
-shared-slice-read-n c = search needs
-
-returns-3 : tie.Need-returns-3
-unfolding imageAnswer
-returns-3 c = rw (le-ltb _ _ (c .before .before .before .before .before .if1 .left), ← c .before .before .before .before .form-in .ensures, ← c .before .before .before .is-known .ensures, not-false (c .before .before .before .is-known .result) (c .before .before .if2 .left), lt-leb _ _ (c .if3 .taken))
-
-returns-4 : tie.Need-returns-4
-unfolding imageAnswer
-returns-4 c = rw (le-ltb _ _ (c .before .before .before .before .before .before .if1 .left), ← c .before .before .before .before .before .form-in .ensures, ← c .before .before .before .before .is-known .ensures, not-false (c .before .before .before .before .is-known .result) (c .before .before .before .if2 .left), le-leb _ _ (c .before .if3 .left), lt-leb _ _ (c .if4 .taken))
+shared-slice-read-k : tie.Need-shared-slice-read-k
+shared-slice-read-k c =
+    let y = c .before in
+    let z = y .before .before in
+    let a = z .before .before .args in
+    let h = sym (ap accepted (z .shape-part .ensures)) ∙ sym (y .before .is-taken .ensures) ∙ not-false (y .before .is-taken .result) (y .if1 .left) in
+    omega (arith, acc.shape-taken (a .more) (a .s .now) h .long)
 
 cast-k : tie.Need-cast-k
-cast-k c = search needs
-
-place-of-requires : tie.Need-place-of-requires
-place-of-requires c κs = (sym (c .before .before .before .before .is-known .ensures) ∙ not-false (c .before .before .before .before .is-known .result) (c .before .before .before .if2 .left), omega (arith, c .if4 .left))
-
-add-if5 : tie.Need-add-if5
-add-if5 c = let k = sym (c .before .before .before .before .before .is-known .ensures) ∙ not-false (c .before .before .before .before .before .is-known .result) (c .before .before .before .before .if2 .left) in omega (arith, c .place-of .ensures, forms.place-most _ _ k (c .before .if4 .left) .1, c .before .before .before .before .before .before .before .before .before .pre)
-
-returns-5 : tie.Need-returns-5
-unfolding imageAnswer
-returns-5 c = rw (le-ltb _ _ (c .before .before .before .before .before .before .before .before .if1 .left), ← c .before .before .before .before .before .before .before .form-in .ensures, ← c .before .before .before .before .before .before .is-known .ensures, not-false (c .before .before .before .before .before .before .is-known .result) (c .before .before .before .before .before .if2 .left), le-leb _ _ (c .before .before .before .if3 .left), le-leb _ _ (c .before .before .if4 .left), ← c .before .place-of .ensures, ne-eqb _ _ (c .if5 .taken))
+cast-k c = omega (arith, c .shared-slice-known2 .given 5)
 
 sound-at-requires : tie.Need-sound-at-requires
-sound-at-requires c κs = let s = c .before .before .before .before .before .before .before .before .before .before .args .s .now in let k : isImage s ≡ true = ap known (sym (c .before .before .before .before .before .before .before .form-in .ensures)) ∙ sym (c .before .before .before .before .before .before .is-known .ensures) ∙ not-false (c .before .before .before .before .before .before .is-known .result) (c .before .before .before .before .before .if2 .left) in let e : c .before .place-of .result ≡ nodePlace (formIn s) (at1 s 5) = c .before .place-of .ensures ∙ ap (λ f. nodePlace f (at1 s 5)) (c .before .before .before .before .before .before .before .form-in .ensures) in (refl, (k, (c .before .before .if4 .left, omega (arith, e, c .if5 .left))))
+sound-at-requires c κs =
+    let y = c .before in
+    let z = y .before .before in
+    let a = z .before .before .args in
+    let h = sym (ap accepted (z .shape-part .ensures)) ∙ sym (y .before .is-taken .ensures) ∙ not-false (y .before .is-taken .result) (y .if1 .left) in
+    (refl, acc.shape-lies (a .more) (a .s .now) h)
 
-returns-6 : tie.Need-returns-6
-unfolding imageAnswer
-returns-6 c = rw (le-ltb _ _ (c .before .before .before .before .before .before .before .before .before .if1 .left), ← c .before .before .before .before .before .before .before .before .form-in .ensures, ← c .before .before .before .before .before .before .before .is-known .ensures, not-false (c .before .before .before .before .before .before .before .is-known .result) (c .before .before .before .before .before .before .if2 .left), le-leb _ _ (c .before .before .before .before .if3 .left), le-leb _ _ (c .before .before .before .if4 .left), ← c .before .before .place-of .ensures, eq-eqb _ _ (c .before .if5 .left)) (c .sound-at .ensures)
+returns-2 : tie.Need-returns-2
+returns-2 c =
+    let y = c .before .before in
+    let z = y .before .before in
+    let a = z .before .before .args in
+    let h = sym (ap accepted (z .shape-part .ensures)) ∙ sym (y .before .is-taken .ensures) ∙ not-false (y .before .is-taken .result) (y .if1 .left) in
+    c .sound-at .ensures ∙ sym (acc.answer-shape (a .more) (a .s .now) ∙ acc.shape-then (a .more) (a .s .now) _ h)
 
 pub check-part-spec : {M : Type 1} → statement M
 check-part-spec =
     tie.close
     (tie.spec
+    shape-part-requires
+    is-taken-requires
     returns
-    form-in-requires
-    is-known-requires
-    returns-2
-    shared-slice-read-n
-    returns-3
-    returns-4
+    shared-slice-read-k
     cast-k
-    place-of-requires
-    add-if5
-    returns-5
     sound-at-requires
-    returns-6)
+    returns-2)
