@@ -100,6 +100,7 @@ uint64_t uq_widen(const uint8_t *image, size_t length, uint8_t *buffer, size_t r
    A refusal has number 1, 2 (of version 1 too), 3, 6, 7, 8, 20 where an index is above 4,294,967,295, or 17, and its place: of 20 the first such node,
    recovered or not, and N for the head, which is tested first. It writes nothing. */
 uint64_t uq_narrow(const uint8_t *image, size_t length, uint8_t *buffer, size_t room);
+
 /* The image, mended: linked bytes above 1 become 0; then of recovered nodes with one index all but the lowest-numbered have linked cleared; then, if every
    node is recovered, the one with the largest index has. Where it is taken the value is how many nodes were changed, at most N.
    The mended image, as long as `image`, is written into the front of `buffer`; into the front of `list` two bytes for each changed node, in node order: its
