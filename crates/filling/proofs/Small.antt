@@ -24,7 +24,7 @@ use Rattle.machine.specs.Stage.{Stage, noStep, A1, A2, A3, A4, A5, A6, A7, A8, 
 use Rattle.machine.specs.Line.{lineAt, persist, persisted}
 use Rattle.machine.specs.declared.Line.{Line}
 use Rattle.machine.specs.declared.Line.the-variants.{OfHead as ofHead, OfNode as ofNode}
-use Rattle.machine.specs.Retire.{left, freed, released, releasedAt, retired, retiredHeld, going, answering, storing}
+use Rattle.machine.specs.Retire.{left, nextFree, handOut, freed, released, releasedAt, retired, retiredHeld, going, answering, storing}
 use Rattle.answer.specs.declared.Answer.the-variants.{WornOut}
 use Rattle.machine.specs.Start.{startWith, startOf, startNode, queueOf}
 use Rattle.machine.specs.Event.{Deed, unknown, enqueues, dequeues, steps, writesBack, crashes, stepped, done}
@@ -91,6 +91,9 @@ small-thread m s k v l = record {
 
 small-free : (m : Machine) (x : ℕ) → Small m → Small (putFree m x)
 small-free m x s = record { cached = s .cached; saved = s .saved; mark = s .mark; savedMark = s .savedMark; items = s .items }
+
+small-given : (m : Machine) (x : ℕ) → Small m → Small (handOut m x)
+small-given m x s = record { cached = s .cached; saved = s .saved; mark = s .mark; savedMark = s .savedMark; items = s .items }
 
 small-tail : (m : Machine) (x : ℕ) → Small m → Small (putTail m x)
 small-tail m x s = record { cached = s .cached; saved = s .saved; mark = s .mark; savedMark = s .savedMark; items = s .items }
@@ -160,7 +163,7 @@ small-worn m k i t s false e =
 module _ (m : Machine) (k : ℕ) (s : Small m) where
   small-step : (g : Stage) → Small (stepped m k g .machine)
   small-step noStep = s
-  small-step A1 = small-pick (eqb (m .free) 0) _ _ (small-left m k (thread m k .held) s) (small-thread _ (small-free m _ s) k _ (s .items k))
+  small-step A1 = small-pick (eqb (m .free) 0) _ _ (small-left m k (thread m k .held) s) (small-thread _ (small-given m (nextFree m) s) k _ (s .items k))
   small-step A2 = small-going _ k 3 (small-node m s (thread m k .node) _ (s .cached (thread m k .node) .0, s .items k))
   small-step A3 = small-going _ k 4 (small-node m s (thread m k .node) _ (s .cached (thread m k .node)))
   small-step A4 = small-going _ k 5 (small-node m s (thread m k .node) _ (s .cached (thread m k .node)))
