@@ -466,6 +466,21 @@ int check_sequences(void);
 int print_sequence(const char *name);
 int print_sequence_names(void);
 
+/* holds.c */
+int mode_plain(int count, char **words);
+int mode_judge(int count, char **words);
+int mode_places(int count, char **words);
+int mode_there_and_back(int count, char **words);
+int mode_out_and_in(int count, char **words);
+int mode_clean_or_same(int count, char **words);
+int mode_same_when_fenced(int count, char **words);
+int mode_plainly_same(int count, char **words);
+int mode_lists_hold(int count, char **words);
+int mode_mend_two_ways(int count, char **words);
+int mode_replay_by_parts(int count, char **words);
+int mode_same_when_wide(int count, char **words);
+int mode_histories(int count, char **words);
+
 /* main.c, streams.c */
 u64 number_from(const char *text);
 int mode_frame(int count, char **words);
