@@ -119,7 +119,7 @@ Finding out_and_in(const u8 *bytes, u64 length)
 {
     static u8 there[MAX_IMAGE], back[MAX_IMAGE];
     Image image;
-    int desks = length > 2 && bytes[2] == 'P', wide = length >= IMAGE_LEAST && !desks && get2(bytes + 3) == 2;
+    int desks = length > 2 && bytes[2] == 'P', wide = length >= IMAGE_LEAST && !desks && (get2(bytes + 3) == 2 || is_version_3(bytes, length));
     Verdict v = read_image(bytes, length, &image), in = import(bytes, length, back, sizeof back), out = export(bytes, length, 1, there, sizeof there);
     if (desks) {
         int refused = out.number == (length < IMAGE_LEAST ? WRONG_LENGTH : WRONG_MARK), right = in.number != TAKEN || imported_rightly(bytes, back);

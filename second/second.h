@@ -274,6 +274,7 @@ extern u32 only_form; /* 0, or the one form that is taken for the time being */
 Verdict read_image_beginning(const u8 *bytes, u64 length, u64 least, Image *image);
 Verdict read_uqi_head(const u8 *bytes, u64 length, Image *image);
 void take_largest(Image *image);
+int is_version_3(const u8 *bytes, u64 length);
 Verdict verdict(u32 number, u32 place);
 Verdict read_image_head(const u8 *bytes, u64 length, Image *image);
 Verdict read_image_nodes(const u8 *bytes, Image *image);
