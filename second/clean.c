@@ -22,7 +22,8 @@ static u32 first_clean(const Schedule *s)
 Finding clean_or_same(const u8 *bytes, u64 length)
 {
     static u8 before[PAGE], after[PAGE];
-    Finding agrees = {AGREES, 0, "", 1}, another = {CONTRADICTS, 0, "another page than without request 102", 1}, place = {CONTRADICTS, 0, "not refused by 19 at its first clean write-back", 1};
+    Finding agrees = {AGREES, 0, "", 1}, another = {CONTRADICTS, 0, "another page than without request 102", 1};
+    Finding place = {CONTRADICTS, 0, "not refused by 19 at its first clean write-back", 1};
     Schedule s;
     set(CLEAN, 0);
     u32 first = read_schedule(bytes, length, &s).number == TAKEN ? first_clean(&s) : NEVER;

@@ -153,6 +153,8 @@ Finding there_and_back(const u8 *bytes, u64 length)
     Verdict v = read_image(bytes, length, &image), given = forth(bytes, length, there, 0);
     if (!same_verdict(again(bytes, length, there, 0), length < IMAGE_LEAST ? verdict(WRONG_LENGTH, 0) : verdict(WRONG_MARK, 0)))
         return finding(CONTRADICTS, 0, "the other version was not refused by 2");
+    if (is_version_3(bytes, length))
+        v = verdict(WRONG_MARK, 0); /* which the reader takes */
     if (v.number != TAKEN)
         return finding(same_verdict(given, v) ? AGREES : CONTRADICTS, v.number, "refused otherwise than the reader refuses it");
     Verdict fits = form == WIDE ? fits_by_bytes(bytes) : verdict(TAKEN, 0);

@@ -119,10 +119,12 @@ Finding out_and_in(const u8 *bytes, u64 length)
 {
     static u8 there[MAX_IMAGE], back[MAX_IMAGE];
     Image image;
-    int desks = length > 2 && bytes[2] == 'P', wide = length >= IMAGE_LEAST && !desks && get2(bytes + 3) == 2;
+    int desks = length > 2 && bytes[2] == 'P', wide = length >= IMAGE_LEAST && !desks && (get2(bytes + 3) == 2 || is_version_3(bytes, length));
     Verdict v = read_image(bytes, length, &image), in = import(bytes, length, back, sizeof back), out = export(bytes, length, 1, there, sizeof there);
-    if (desks)
-        return finding(out.number == (length < IMAGE_LEAST ? WRONG_LENGTH : WRONG_MARK) && (in.number != TAKEN || imported_rightly(bytes, back)) ? AGREES : CONTRADICTS, 0, "not imported rightly");
+    if (desks) {
+        int refused = out.number == (length < IMAGE_LEAST ? WRONG_LENGTH : WRONG_MARK), right = in.number != TAKEN || imported_rightly(bytes, back);
+        return finding(refused && right ? AGREES : CONTRADICTS, 0, "not imported rightly");
+    }
     if (in.number != (length < 7 ? WRONG_LENGTH : WRONG_MARK))
         return finding(CONTRADICTS, 0, "imported, and is no such image");
     if (wide || v.number != TAKEN)

@@ -53,7 +53,7 @@ static void mend_no_dummy(Image *image, Mending *mending)
 /* "every image that passes 1 to 3": 1, 2, 3, 1. What read_image_nodes says (6, 7, 8) is what is to be mended. */
 static Verdict read_damaged(const u8 *bytes, u64 length, Image *image)
 {
-    if (length >= IMAGE_LEAST && get2(bytes + 3) == 3)
+    if (is_version_3(bytes, length))
         return verdict(WRONG_MARK, 0); /* "Version 3 has no conversions and no mender." */
     Verdict v = read_uqi_head(bytes, length, image);
     if (v.number != TAKEN)
@@ -159,6 +159,8 @@ Finding mend_two_ways(const u8 *bytes, u64 length)
     Mending ours, theirs, none;
     Image image;
     Verdict v = read_image(bytes, length, &image), given = mend(bytes, length, mended, sizeof mended, &ours);
+    if (is_version_3(bytes, length))
+        v = verdict(WRONG_MARK, 0); /* which the reader takes */
     if (v.number == WRONG_LENGTH || v.number == WRONG_MARK || v.number == WRONG_N) {
         contradicts.why = "not refused as the reader refuses it";
         return given.number == v.number && given.place == v.place ? agrees : contradicts;
@@ -227,6 +229,7 @@ u64 generate_mendable(u64 number, int with_room, u8 *bytes)
         length = generate_image(number, bytes);
     } else {
         image.n = chance(70) ? 2 + below(5) : 2 + below(63);
+        image.t = 1;
         some_image(&image);
         if (chance(35))
             all_recovered(&image);
@@ -235,7 +238,7 @@ u64 generate_mendable(u64 number, int with_room, u8 *bytes)
         if (chance(40))
             some_linked_bytes(&image);
         image_to_bytes(&image, bytes);
-        length = image_length(image.form, image.n);
+        length = length_of(&image);
     }
     if (!with_room)
         return length;

@@ -19,8 +19,8 @@ static int index_in_range(const Machine *m, u64 index)
 
 static int node_in_range(const Machine *m, const Node *node)
 {
-    return index_in_range(m, node->cached.index) && index_in_range(m, node->persisted.index) && is_node_or_none(m, node->next) && node->cached.linked <= 1 && node->persisted.linked <= 1 &&
-           (node->waits & ~low_bits(m->t)) == 0;
+    return index_in_range(m, node->cached.index) && index_in_range(m, node->persisted.index) && is_node_or_none(m, node->next) &&
+           node->cached.linked <= 1 && node->persisted.linked <= 1 && (node->waits & ~low_bits(m->t)) == 0;
 }
 
 static int uses_own(u32 step)

@@ -274,6 +274,7 @@ extern u32 only_form; /* 0, or the one form that is taken for the time being */
 Verdict read_image_beginning(const u8 *bytes, u64 length, u64 least, Image *image);
 Verdict read_uqi_head(const u8 *bytes, u64 length, Image *image);
 void take_largest(Image *image);
+int is_version_3(const u8 *bytes, u64 length);
 Verdict verdict(u32 number, u32 place);
 Verdict read_image_head(const u8 *bytes, u64 length, Image *image);
 Verdict read_image_nodes(const u8 *bytes, Image *image);
@@ -465,6 +466,21 @@ int search(u32 machine, u64 seed, u64 tries);
 int check_sequences(void);
 int print_sequence(const char *name);
 int print_sequence_names(void);
+
+/* holds.c */
+int mode_plain(int count, char **words);
+int mode_judge(int count, char **words);
+int mode_places(int count, char **words);
+int mode_there_and_back(int count, char **words);
+int mode_out_and_in(int count, char **words);
+int mode_clean_or_same(int count, char **words);
+int mode_same_when_fenced(int count, char **words);
+int mode_plainly_same(int count, char **words);
+int mode_lists_hold(int count, char **words);
+int mode_mend_two_ways(int count, char **words);
+int mode_replay_by_parts(int count, char **words);
+int mode_same_when_wide(int count, char **words);
+int mode_histories(int count, char **words);
 
 /* main.c, streams.c */
 u64 number_from(const char *text);
