@@ -14,7 +14,7 @@ use Rattle.converting.specs.Converted.{widenAnswer, widened, narrowAnswer, narr
 use Rattle.converting.proofs.Laws.{refused-same}
 use Rattle.converting.proofs.Versions.{wide-and-back, narrow-and-back}
 use Rattle.library.specs.Conversions.{widenGiven, narrowGiven}
-use Rattle.library.specs.Packed.{packed}
+use Rattle.calls.specs.Packed.{packed}
 use Rattle.library.proofs.Refused.{Refused, not-taken}
 use Rattle.library.proofs.Whole.{number-taken}
 use Rattle.library.proofs.conversions.uq_widen.Reads as widening

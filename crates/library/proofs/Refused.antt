@@ -26,12 +26,12 @@ use Rattle.page.specs.Filled.{linesOn, linesAnswer, linesTaken, linesBytes, lin
 use Rattle.printing.specs.Lines.{refusedText, ifFits}
 use Rattle.filling.specs.Lines.{refusalAnswer, refusalBytes, refusalWritten}
 use Rattle.record.specs.Layout.{recordSize, readRecord, recordIn, recordAnswer, recordWritten, recordBytes}
-use Rattle.library.specs.Packed.{packed, replyOf}
-use Rattle.library.specs.Calls.{eventGiven, startAnswered, startWritten, eventAnswered, saveAnswered, saveWritten, placesAnswered}
-use Rattle.library.specs.Judging.{judgeAnswered}
-use Rattle.library.specs.Line.{lineAnswered}
-use Rattle.library.proofs.Laws as laws
-use Rattle.library.proofs.LineLaws as lines
+use Rattle.calls.specs.Packed.{packed, replyOf}
+use Rattle.calls.specs.Calls.{eventGiven, startAnswered, startWritten, eventAnswered, saveAnswered, saveWritten, placesAnswered}
+use Rattle.calls.specs.Judging.{judgeAnswered}
+use Rattle.calls.specs.Line.{lineAnswered}
+use Rattle.calls.proofs.Laws as laws
+use Rattle.calls.proofs.LineLaws as lines
 use Rattle.library.proofs.schedules.uq_ending.Reads as ending
 use Rattle.library.proofs.texts.uq_page_lines.Reads as page-lines
 use Rattle.library.proofs.texts.uq_refusal_line.Reads as refusal-line

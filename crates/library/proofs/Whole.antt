@@ -20,13 +20,13 @@ use Rattle.filling.specs.Lines.{refusalAnswer, refusalBytes}
 use Rattle.filling.proofs.Answers as answers
 use Rattle.filling.proofs.Numbers as numbers
 use Rattle.filling.proofs.Wide as wide
-use Rattle.library.specs.Packed.{packed, linesOf}
+use Rattle.calls.specs.Packed.{packed, linesOf}
 use Rattle.library.specs.Texts.{linesGiven, refusalGiven}
 use Rattle.judging.specs.Judged.{numberOf, judgedIn}
 use Rattle.judging.proofs.Small.{judged-small}
 use Rattle.judging.proofs.Turns.{number-le}
-use Rattle.library.specs.Judging.{judgeValue, judgeAnswered, judgeGiven}
-use Rattle.library.proofs.Apart as apart
+use Rattle.calls.specs.Judging.{judgeValue, judgeAnswered, judgeGiven}
+use Rattle.calls.proofs.Apart as apart
 
 -- number 0 says that a call is taken
 pub number-taken : (a : Answer) (v : ℕ) → packed (told a) v % 256 ≡ 0 → accepted a ≡ true

@@ -3,7 +3,7 @@ use Prim.Native.Nat.{ℕ}
 use mathlib.Core.List.{List}
 use Rattle.answer.specs.Answers.{told}
 use Rattle.converting.specs.Converted.{widenAnswer, narrowAnswer}
-use Rattle.library.specs.Packed.{packed}
+use Rattle.calls.specs.Packed.{packed}
 
 abbrev pub widenGiven : List ℕ → ℕ → ℕ
 widenGiven s room = packed (told (widenAnswer s room)) 0

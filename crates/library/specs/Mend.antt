@@ -3,7 +3,7 @@ use Prim.Native.Nat.{ℕ}
 use mathlib.Core.List.{List}
 use Rattle.answer.specs.Answers.{told}
 use Rattle.mending.specs.Bytes.{mendAnswer, mendCount}
-use Rattle.library.specs.Packed.{packed}
+use Rattle.calls.specs.Packed.{packed}
 
 -- the value is the number of changed nodes
 abbrev pub mendGiven : List ℕ → ℕ → ℕ → ℕ

@@ -5,7 +5,7 @@ use lib.ListN.{length}
 use Rattle.answer.specs.Answers.{told}
 use Rattle.page.specs.Filled.{linesAnswer, linesTaken, linesBytes}
 use Rattle.filling.specs.Lines.{refusalAnswer, refusalBytes}
-use Rattle.library.specs.Packed.{packed, linesOf}
+use Rattle.calls.specs.Packed.{packed, linesOf}
 
 abbrev pub linesGiven : List ℕ → ℕ → ℕ → ℕ
 linesGiven s k room = packed (told (linesAnswer s k room)) (linesOf (linesTaken s k room) (length (linesBytes s k room)))

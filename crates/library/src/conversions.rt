@@ -3,7 +3,7 @@ ghost use mathlib.Core.Path.{_≡_};
 ghost use lib.ListN.{length};
 ghost use Rattle.converting.specs.Converted.{widened, narrowed};
 ghost use Rattle.library.specs.Conversions.{widenGiven, narrowGiven};
-use crate::packing::packed_of;
+use calls::packing::packed_of;
 
 // An image of version 1 as one of version 2, into the buffer's first 14 + 13N bytes.
 #[no_mangle]

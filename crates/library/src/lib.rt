@@ -4,7 +4,6 @@ pub mod conversions;
 pub mod histories;
 pub mod line;
 pub mod mend;
-mod packing;
 pub mod records;
 pub mod schedules;
 pub mod texts;

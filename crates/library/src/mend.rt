@@ -3,7 +3,7 @@ ghost use mathlib.Core.Path.{_≡_};
 ghost use lib.ListN.{length};
 ghost use Rattle.mending.specs.Bytes.{mendWritten, listWritten};
 ghost use Rattle.library.specs.Mend.{mendGiven};
-use crate::packing::packed_of;
+use calls::packing::packed_of;
 
 // The image, mended, into the buffer's front; node and reason of each changed node, in node order, into the list's. The value is how many were changed.
 #[no_mangle]

@@ -2,8 +2,8 @@
 ghost use mathlib.Core.Path.{_≡_};
 ghost use lib.ListN.{length};
 ghost use Rattle.page.specs.Refusals.{endingWritten};
-ghost use Rattle.library.specs.Calls.{imageChecked, scheduleChecked, endingsCounted, endingGiven};
-use crate::packing::packed_of;
+ghost use Rattle.calls.specs.Calls.{imageChecked, scheduleChecked, endingsCounted, endingGiven};
+use calls::packing::packed_of;
 
 // Whether the bytes are an image. None is built.
 #[no_mangle]

@@ -4,8 +4,8 @@ ghost use lib.ListN.{length};
 ghost use Rattle.page.specs.Filled.{linesWritten};
 ghost use Rattle.filling.specs.Lines.{refusalWritten};
 ghost use Rattle.library.specs.Texts.{linesGiven, refusalGiven};
-use crate::packing::lines_of;
-use crate::packing::packed_of;
+use calls::packing::lines_of;
+use calls::packing::packed_of;
 
 // As many lines of the page as fit into the buffer, from line k on. The value is how many, and their bytes.
 #[no_mangle]

@@ -18,9 +18,9 @@ use Rattle.page.specs.Refusals.{pageAnswer, endingCount, endingIn, endingWritte
 use Rattle.lawful.specs.Demand3.{Bytes}
 use Rattle.printing.proofs.Short.{number-small}
 use Rattle.pages.specs.Paged.{countOf}
-use Rattle.library.specs.Calls.{endingsCounted, endingGiven}
-use Rattle.library.specs.Packed.{packed}
-use Rattle.library.proofs.Apart.{number-back, value-back, place-back}
+use Rattle.calls.specs.Calls.{endingsCounted, endingGiven}
+use Rattle.calls.specs.Packed.{packed}
+use Rattle.calls.proofs.Apart.{number-back, value-back, place-back}
 use Rattle.signed.specs.Signed.{endingSize}
 use Rattle.signed.specs.Called.{CountsC, WritesC, PageC, SignedC, AllSignedC}
 use Rattle.signed.proofs.Demand3.{demand3, count-all, ending-taken, ending-held}

@@ -32,10 +32,10 @@ use Rattle.judgeproof.specs.Written.{historyBytes}
 use Rattle.judgeproof.proofs.InTime.{InTime, AllInTime, run-in-time, in-time-at, lawful-fits}
 use Rattle.judgeproof.proofs.Written.{Ordinary}
 use Rattle.judgeproof.proofs.Never.{written-taken, never-unlawful}
-use Rattle.library.specs.Packed.{packed}
-use Rattle.library.specs.Judging.{judgeValue, judgeAnswered, judgeGiven}
-use Rattle.library.proofs.Apart.{number-back}
-use Rattle.library.proofs.Laws.{judge-taken}
+use Rattle.calls.specs.Packed.{packed}
+use Rattle.calls.specs.Judging.{judgeValue, judgeAnswered, judgeGiven}
+use Rattle.calls.proofs.Apart.{number-back}
+use Rattle.calls.proofs.Laws.{judge-taken}
 use Rattle.library.proofs.Whole.{given-verdict}
 use Rattle.tied.proofs.Schedules.{schedule-starts, schedule-narrow}
 use Rattle.lawproof.proofs.Short.{start-short, first-short}

@@ -7,7 +7,7 @@ use denote.Ref.{RefT}
 use lib.ListN.{length}
 use Rattle.page.specs.Refusals.{pageAnswer, endingAnswer, endingWritten}
 use Rattle.pages.specs.Paged.{countOf}
-use Rattle.library.specs.Calls.{endingsCounted, endingGiven}
+use Rattle.calls.specs.Calls.{endingsCounted, endingGiven}
 use Rattle.signed.specs.Signed.{Counts, Writes}
 use Rattle.signed.specs.Called.{CountsC, WritesC}
 

@@ -1,5 +1,5 @@
 use mathlib.Core.Path.{_≡_, refl, sym, ap, ap₂, _∙_}
-use Rattle.library.specs.Packed.{packed}
+use Rattle.calls.specs.Packed.{packed}
 use borrow.Author.Needs.{needs}
 use Rattle.library.proofs.mend.uq_mend.Statement.{statement}
 use Rattle.library.proofs.mend.uq_mend.Tie as tie

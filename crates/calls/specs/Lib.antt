@@ -1,0 +1,4 @@
+pub mod Packed
+pub mod Calls
+pub mod Judging
+pub mod Line
