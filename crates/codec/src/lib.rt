@@ -9,10 +9,14 @@ mod reading;
 mod sound;
 mod writing;
 
+pub use bytes::word_at;
 pub use events::event_at;
+pub use events::event_from;
 pub use images::image_in;
 pub use images::put_image;
+pub use opening::check_file;
 pub use opening::check_schedule;
+pub use opening::open_file;
 pub use opening::open_schedule;
 pub use reading::check_part;
 pub use reading::read_part;

@@ -22,7 +22,7 @@ fn refused(a: Answer) -> Read
 
 // 1, 2, 3, 1, 6, 7, 8: what is wrong with the image that the bytes begin with, `more` bytes behind it. It builds none.
 pub fn check_part(s: &[u8], more: usize) -> Answer
-    requires { ⌜ more ≤ 24576 ⌝ }
+    requires { ⌜ more ≤ 49152 ⌝ }
     ensures { λ r. ⌜ r ≡ imageAnswer more (now (s .entry)) ⌝ }
 {
     let len = s.len();
@@ -49,7 +49,7 @@ pub fn check_part(s: &[u8], more: usize) -> Answer
 
 // The image that the bytes begin with, `more` bytes behind it; or what is wrong.
 pub fn read_part(s: &[u8], more: usize) -> Read
-    requires { ⌜ more ≤ 24576 ⌝ }
+    requires { ⌜ more ≤ 49152 ⌝ }
     ensures { λ r. ⌜ r ≡ readPart more (now (s .entry)) ⌝ }
 {
     let a = check_part(s, more);

@@ -1,0 +1,4 @@
+pub mod ReplayLaws
+pub mod First
+pub mod Unique
+pub mod Cases
