@@ -25,15 +25,15 @@ use Rattle.replaying.specs.Replay.{refusedAt, oddAt, firstRefused, event
 use Rattle.replaying.specs.declared.Replayed.{Replayed}
 
 -- N = 2, T = 1, the all-zero image, so many events
-unfoldable probe : ℕ → List ℕ → List ℕ
+unfoldable pub probe : ℕ → List ℕ → List ℕ
 probe k l = 85 ∷ 81 ∷ 82 ∷ 1 ∷ 0 ∷ 1 ∷ k ∷ 0 ∷ 85 ∷ 81 ∷ 73 ∷ 1 ∷ 0 ∷ 2 ∷ replicate 22 0 ++ l
 
 -- kind and number; observed answer and item; the last byte
-unfoldable seen : ℕ → ℕ → ℕ → ℕ → ℕ → List ℕ
+unfoldable pub seen : ℕ → ℕ → ℕ → ℕ → ℕ → List ℕ
 seen k t a v z = k ∷ t ∷ 0 ∷ 0 ∷ 0 ∷ 0 ∷ a ∷ v ∷ 0 ∷ 0 ∷ 0 ∷ z ∷ []
 
 -- a dequeue of the empty queue answers Empty at its third step
-unfoldable dequeued : ℕ → ℕ → List ℕ
+unfoldable pub dequeued : ℕ → ℕ → List ℕ
 dequeued a v = probe 4 (seen 2 0 0 0 0 ++ seen 3 0 0 0 0 ++ seen 3 0 0 0 0 ++ seen 3 0 a v 0)
 
 pub holds :

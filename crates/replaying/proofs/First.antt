@@ -50,6 +50,9 @@ pub own-even : (x : Probed) (a : Answer) → Own x a → odd x a ≡ false
 unfolding odd
 own-even x a p = ap not (both-of _ _ (eq-eqb _ _ (p .0)) (eq-eqb _ _ (p .1)))
 
+zero-more : (k : ℕ) → k ≡ 0 + k
+zero-more k = omega arith
+
 module _ (s : List ℕ) where
   abbrev n : ℕ
   n = countIn s
@@ -62,14 +65,42 @@ module _ (s : List ℕ) where
   abbrev pub Agrees : ℕ → Type 0
   Agrees i = Own (probedIn s i) (machineReply s i)
 
+  -- the searches as the laws of lists have them
+  refused-found : firstRefused s < n → refusedAt s (firstRefused s) ≡ true
+  unfolding firstRefused
+  refused-found h = least-found (refusedAt s) n 0 (subst (λ (k : ℕ). firstRefused s < k) (zero-more n) h)
+
+  refused-clear : n ≤ firstRefused s → (i : ℕ) → i < n → refusedAt s i ≡ false
+  unfolding firstRefused
+  refused-clear h i l = least-clear (refusedAt s) n 0 (subst (λ (k : ℕ). k ≤ firstRefused s) (zero-more n) h) i (omega arith) (omega arith)
+
+  odd-found : firstOdd s < n → oddAt s (firstOdd s) ≡ true
+  unfolding firstOdd
+  odd-found h = least-found (oddAt s) n 0 (subst (λ (k : ℕ). firstOdd s < k) (zero-more n) h)
+
+  odd-clear : n ≤ firstOdd s → (i : ℕ) → i < n → oddAt s i ≡ false
+  unfolding firstOdd
+  odd-clear h i l = least-clear (oddAt s) n 0 (subst (λ (k : ℕ). k ≤ firstOdd s) (zero-more n) h) i (omega arith) (omega arith)
+
+  odd-before : (i : ℕ) → i < firstOdd s → oddAt s i ≡ false
+  unfolding firstOdd
+  odd-before i l = least-before (oddAt s) n 0 i l (omega arith)
+
+  odd-end : ((i : ℕ) → i < n → oddAt s i ≡ false) → n ≤ firstOdd s
+  unfolding firstOdd
+  odd-end h = omega (arith, least-none (oddAt s) n 0 (λ i p q. h i (omega arith)))
+
+  refused-is : (i : ℕ) → refusedAt s i ≡ not (accepted (fileReply s i))
+  unfolding refusedAt
+  refused-is i = refl
+
   -- ---- refusals
 
   -- "A refused event refuses the file, even where an earlier answer differed": nothing is said of that answer
   pub refused-event : accepted (probeAnswer s) ≡ true → (i : ℕ) → i < n → firstRefused s ≡ i → replayOf s ≡ nothingOdd (fileReply s i)
-  unfolding firstRefused refusedAt
   refused-event a i h e =
       let r : replayAnswer s ≡ fileReply s i = laws.answer-then s a ∙ laws.events-stop s i e h in
-      let f : refusedAt s i ≡ true = subst (λ (k : ℕ). refusedAt s k ≡ true) e (least-found (refusedAt s) n 0 (subst (λ (k : ℕ). k < n) (sym e) h)) in
+      let f : not (accepted (fileReply s i)) ≡ true = sym (refused-is i) ∙ subst (λ (k : ℕ). refusedAt s k ≡ true) e (refused-found (subst (λ (k : ℕ). k < n) (sym e) h)) in
       laws.replay-else s (ap accepted r ∙ refusal (accepted (fileReply s i)) f) ∙ ap nothingOdd r
     where
       refusal : (b : Bool) → not b ≡ true → b ≡ false
@@ -82,19 +113,31 @@ module _ (s : List ℕ) where
   by-answer false e a = false-true (sym (ap accepted (laws.answer-else s e) ∙ e) ∙ a)
 
   all-clear : accepted (replayAnswer s) ≡ true → n ≤ firstRefused s
-  unfolding firstRefused refusedAt
   all-clear a = by (ltb (firstRefused s) n) refl
     where
       by : (b : Bool) → ltb (firstRefused s) n ≡ b → n ≤ firstRefused s
       by true e =
           let h = ltb-true (firstRefused s) n e in
           let r : replayAnswer s ≡ fileReply s (firstRefused s) = laws.answer-then s (by-answer (accepted (probeAnswer s)) refl a) ∙ laws.events-stop s (firstRefused s) refl h in
-          false-true (ap not (sym (sym (ap accepted r) ∙ a)) ∙ least-found (refusedAt s) n 0 h)
+          false-true (ap not (sym (sym (ap accepted r) ∙ a)) ∙ sym (refused-is (firstRefused s)) ∙ refused-found h)
       by false e = ltb-false (firstRefused s) n e
 
   pub all-taken : accepted (replayAnswer s) ≡ true → (i : ℕ) → i < n → accepted (fileReply s i) ≡ true
-  unfolding firstRefused refusedAt
-  all-taken a i h = not-false (accepted (fileReply s i)) (least-clear (refusedAt s) n 0 (omega (arith, all-clear a)) i (omega arith) (omega arith))
+  all-taken a i h = not-false (accepted (fileReply s i)) (sym (refused-is i) ∙ refused-clear (all-clear a) i h)
+
+  odd-taken : (k : ℕ) (b : Bool) → ltb k n ≡ b → oddIn s k .answer ≡ Taken
+  odd-taken k true e = ap (λ (r : Replayed). r .answer) (laws.odd-in s k (ltb-true k n e))
+  odd-taken k false e = ap (λ (r : Replayed). r .answer) (laws.odd-none s k (ltb-false k n e))
+
+  -- the answer handed back is the refusal, or Taken
+  pub answer-is : replayOf s .answer ≡ replayAnswer s
+  answer-is = by (accepted (replayAnswer s)) refl
+    where
+      by : (b : Bool) → accepted (replayAnswer s) ≡ b → replayOf s .answer ≡ replayAnswer s
+      by false a = ap (λ (r : Replayed). r .answer) (laws.replay-else s a)
+      by true a =
+          ap (λ (r : Replayed). r .answer) (laws.replay-then s a) ∙ odd-taken (firstOdd s) (ltb (firstOdd s) n) refl
+          ∙ sym (laws.answer-then s (by-answer (accepted (probeAnswer s)) refl a) ∙ laws.events-end s (firstRefused s) refl (all-clear a))
 
   -- ---- the machine's answers are those of the run of the file's events, as a schedule's run has them
 
@@ -113,19 +156,17 @@ module _ (s : List ℕ) where
 
   -- a file that carries the run's own answers agrees
   pub own-agrees : accepted (replayAnswer s) ≡ true → ((i : ℕ) → i < n → Agrees i) → replayOf s ≡ nothingOdd Taken
-  unfolding firstOdd
   own-agrees a h =
       laws.replay-then s a
-      ∙ laws.odd-none s (firstOdd s) (omega (arith, least-none (oddAt s) n 0 (λ i p q. odd-is i ∙ own-even (probedIn s i) (machineReply s i) (h i (omega arith)))))
+      ∙ laws.odd-none s (firstOdd s) (odd-end (λ i l. odd-is i ∙ own-even (probedIn s i) (machineReply s i) (h i l)))
 
   -- and one that agrees carries them
   pub agrees-own : accepted (replayAnswer s) ≡ true → replayOf s .differs ≡ false → (i : ℕ) → i < n → Agrees i
-  unfolding firstOdd
-  agrees-own a d i h = even-own (probedIn s i) (machineReply s i) (sym (odd-is i) ∙ least-clear (oddAt s) n 0 (by (ltb (firstOdd s) n) refl) i (omega arith) (omega arith))
+  agrees-own a d i h = even-own (probedIn s i) (machineReply s i) (sym (odd-is i) ∙ odd-clear (by (ltb (firstOdd s) n) refl) i h)
     where
-      by : (b : Bool) → ltb (firstOdd s) n ≡ b → 0 + n ≤ firstOdd s
+      by : (b : Bool) → ltb (firstOdd s) n ≡ b → n ≤ firstOdd s
       by true e = no-way (sym (ap (λ (r : Replayed). r .differs) (laws.replay-then s a ∙ laws.odd-in s (firstOdd s) (ltb-true (firstOdd s) n e))) ∙ d)
-      by false e = omega (arith, ltb-false (firstOdd s) n e)
+      by false e = ltb-false (firstOdd s) n e
 
   -- ---- "give the first event whose answer differs from the machine's, with both"
 
@@ -137,12 +178,11 @@ module _ (s : List ℕ) where
     pub both : r ≡ oddBy (r .event) (probedIn s (r .event)) (machineReply s (r .event))
 
   told-by : accepted (replayAnswer s) ≡ true → firstOdd s < n → Told (oddBy (firstOdd s) (probedIn s (firstOdd s)) (machineReply s (firstOdd s)))
-  unfolding firstOdd
   told-by a h = record {
     answer = refl;
     below = h;
-    before = λ j l. even-own (probedIn s j) (machineReply s j) (sym (odd-is j) ∙ least-before (oddAt s) n 0 j l (omega arith));
-    differ = sym (odd-is (firstOdd s)) ∙ least-found (oddAt s) n 0 h;
+    before = λ j l. even-own (probedIn s j) (machineReply s j) (sym (odd-is j) ∙ odd-before j l);
+    differ = sym (odd-is (firstOdd s)) ∙ odd-found h;
     both = refl;
   }
 

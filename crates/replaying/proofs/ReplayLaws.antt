@@ -6,7 +6,7 @@ use mathlib.Core.List.{List}
 use native.Mathlib.Omega.{arith}
 use native.Mathlib.Numerals.{add-one}
 use borrow.Author.Tests.{lt-ltb, le-ltb, not-true, not-false}
-use lib.ListN.{getD}
+use lib.ListN.{getD, length}
 use lib.Dec.{eqb, ltb}
 use Rattle.lists.specs.Find.{pick, least}
 use Rattle.lists.specs.Tab.{tab}
@@ -21,12 +21,16 @@ use Rattle.machine.specs.Start.{startOf}
 use Rattle.machine.specs.declared.Machine.{Machine}
 use Rattle.machine.specs.declared.Event.{Event}
 use Rattle.machine.specs.declared.Acted.{Acted}
-use Rattle.schedule.specs.Layout.{scheduleIn, countIn}
+use Rattle.image.specs.Form.{known}
+use Rattle.image.specs.Layout.{formIn, imageIn}
+use Rattle.schedule.specs.Layout.{scheduleIn, countIn, imagePart, nodesIn, placeIn, fileAnswer, readBy, blankSchedule}
 use Rattle.schedule.specs.Run.{Bench, benchAt, opened}
 use Rattle.schedule.specs.declared.Schedule.{Schedule}
+use Rattle.schedule.specs.declared.Opened.{Opened}
+use Rattle.codec.proofs.Accepted as codec
 use Rattle.tied.proofs.Schedules as schedules
 use Rattle.onward.proofs.Come.{Come, come-none, come-next, next-machine}
-use Rattle.replaying.specs.Probe.{probeAnswer, probedIn, probedEvent, wrongZero, asked, odd}
+use Rattle.replaying.specs.Probe.{probeAnswer, probedFrom, probedIn, probedEvent, wrongZero, asked, odd}
 use Rattle.replaying.specs.Replay.{machineAt, machineReply, fileReply, refusedAt, oddAt, firstRefused, eventsAnswer, replayAnswer, firstOdd, nothingOdd, oddBy, oddIn, replayOf, noted}
 use Rattle.replaying.specs.declared.Probed.{Probed}
 use Rattle.replaying.specs.declared.Replayed.{Replayed}
@@ -112,9 +116,11 @@ module _ (s : List ℕ) where
           subst (λ (z : Replayed). Found z (i + 1)) (sym (noted-is r i false true e o))
           (k .0 ∙ ap (λ (t : Bool). pick t r (oddIn s (least (oddAt s) (n - i) i))) e ∙ ap (oddIn s) (least-hit (oddAt s) n i h (odd-test i true o)) ∙ odd-in i h, λ z. no-way z)
       by false e false o =
-          subst (λ (z : Replayed). Found z (i + 1)) (sym (noted-is r i false false e o))
-          (k .0 ∙ ap (λ (t : Bool). pick t r (oddIn s (least (oddAt s) (n - i) i))) e ∙ ap (oddIn s) (least-next (oddAt s) n i h (odd-test i false o))
-          ∙ sym (ap (λ (t : Bool). pick t r (oddIn s (least (oddAt s) (n - (i + 1)) (i + 1)))) e), k .1)
+          subst (λ (z : Replayed). Found z (i + 1)) (sym (noted-is r i false false e o)) (
+            k .0 ∙ ap (λ (t : Bool). pick t r (oddIn s (least (oddAt s) (n - i) i))) e ∙ ap (oddIn s) (least-next (oddAt s) n i h (odd-test i false o))
+                ∙ sym (ap (λ (t : Bool). pick t r (oddIn s (least (oddAt s) (n - (i + 1)) (i + 1)))) e),
+            k .1,
+          )
 
   found-end : (r : Replayed) (i : ℕ) → n ≤ i → Found r i → r ≡ oddIn s (firstOdd s)
   found-end r i h k = by (r .differs) refl
@@ -122,6 +128,43 @@ module _ (s : List ℕ) where
       by : (b : Bool) → r .differs ≡ b → r ≡ oddIn s (firstOdd s)
       by true e = sym (k .0 ∙ ap (λ (t : Bool). pick t r (oddIn s (least (oddAt s) (n - i) i))) e)
       by false e = k .1 e ∙ sym (k .0 ∙ ap (λ (t : Bool). pick t r (oddIn s (least (oddAt s) (n - i) i))) e ∙ ap (oddIn s) (least-end (oddAt s) n i h) ∙ odd-none i h)
+
+  -- ---- what the bytes of a probe file say
+
+  pub probe-taken : accepted (probeAnswer s) ≡ true → codec.FileTaken 82 12 s
+  unfolding probeAnswer
+  probe-taken a = codec.file-taken 82 12 s a
+
+  pub probe-fits : accepted (probeAnswer s) ≡ true → (i : ℕ) → i < n → (f k : ℕ) → f ≡ formIn (imagePart s) → k ≡ nodesIn s
+      → (known f ≡ true) × ((k ≤ 64) × (placeIn 12 f k i + 12 ≤ length s))
+  unfolding probeAnswer
+  probe-fits a i h f k e q = rw (e, q) (let l = codec.file-lies 82 12 s a in (l .0, (l .1 .0, codec.file-fits 82 12 s i a h)))
+
+  pub probed-is : (i f k : ℕ) → f ≡ formIn (imagePart s) → k ≡ nodesIn s → (x : Probed) → x ≡ probedFrom s (placeIn 12 f k i) → x ≡ probedIn s i
+  probed-is i f k e q x xe = xe ∙ ap₂ (λ (f k : ℕ). probedFrom s (placeIn 12 f k i)) e q
+
+  pub form-is : (d : Schedule) → d ≡ scheduleIn s → d .image .form ≡ formIn (imagePart s)
+  unfolding scheduleIn imageIn
+  form-is d e = ap (λ (x : Schedule). x .image .form) e
+
+  pub nodes-is : (d : Schedule) → d ≡ scheduleIn s → d .image .n ≡ nodesIn s
+  unfolding scheduleIn imageIn
+  nodes-is d e = ap (λ (x : Schedule). x .image .n) e
+
+  pub count-is : (d : Schedule) → d ≡ scheduleIn s → d .count ≡ n
+  unfolding scheduleIn
+  count-is d e = ap (λ (x : Schedule). x .count) e
+
+  pub nodes-small : (d : Schedule) → d ≡ scheduleIn s → accepted (probeAnswer s) ≡ true → d .image .n ≤ 64
+  nodes-small d e a = omega (arith, nodes-is d e, codec.nodes-most (nodesIn s) (probe-taken a .part .nodes))
+
+  pub opened-answer : (o : Opened) → o ≡ readBy (fileAnswer 82 12 s) s → o .answer ≡ probeAnswer s
+  unfolding probeAnswer
+  opened-answer o e = ap (λ (x : Opened). x .answer) e
+
+  pub opened-schedule : (o : Opened) → o ≡ readBy (fileAnswer 82 12 s) s → accepted (probeAnswer s) ≡ true → o .schedule ≡ scheduleIn s
+  unfolding probeAnswer
+  opened-schedule o e a = ap (λ (x : Opened). x .schedule) e ∙ ap (λ (t : Bool). pick t (scheduleIn s) blankSchedule) a
 
   -- ---- the loop
 
@@ -133,14 +176,17 @@ module _ (s : List ℕ) where
     pub clear : firstRefused s ≡ least (refusedAt s) (n - i) i
     pub found : Found r i
 
+  all : (k : ℕ) → k ≡ k - 0
+  all k = omega arith
+
   pub under-begun : (d : Schedule) → d ≡ scheduleIn s → (m : Machine) → m ≡ startOf (d .image) (d .t) → (r : Replayed) → r ≡ nothingOdd Taken → Under 0 m r
   unfolding benchAt firstRefused firstOdd
   under-begun d is m e r q = record {
     within = omega arith;
     machine = e ∙ ap (λ (d : Schedule). startOf (d .image) (d .t)) is;
     come = come-none b₀ (probedEvent s);
-    clear = refl;
-    found = subst (λ (z : Replayed). Found z 0) (sym q) (refl, λ z. refl);
+    clear = ap (λ (k : ℕ). least (refusedAt s) k 0) (all n);
+    found = subst (λ (z : Replayed). Found z 0) (sym q) (ap (λ (k : ℕ). oddIn s (least (oddAt s) k 0)) (all n), λ z. refl);
   }
 
   -- 18 does not refuse the record

@@ -31,7 +31,7 @@ probedEvent s i = probedIn s i .event
 
 -- the observed item is zero unless the observed answer is 4; the last byte is zero
 abbrev pub wrongZero : Probed → Bool
-wrongZero x = not (both (pick (eqb (x .seen) 4) true (eqb (x .item) 0)) (eqb (x .last) 0))
+wrongZero x = not (both (eqb (x .last) 0) (pick (eqb (x .seen) 4) true (eqb (x .item) 0)))
 
 -- 13 stands after 9 and 10 and before all else: a is the event's own answer
 abbrev pub zeroAsked : ℕ → Answer → Answer
