@@ -9,6 +9,7 @@ mod reading;
 mod sound;
 mod writing;
 
+pub use bytes::put_word;
 pub use bytes::word_at;
 pub use events::event_at;
 pub use events::event_from;
