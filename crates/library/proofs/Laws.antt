@@ -39,10 +39,10 @@ use Rattle.library.specs.Calls.{startAnswered, startWritten, eventAnswer
 
 -- ---- one after the other
 
-and-refused : (a rest : Answer) → accepted a ≡ false → andThen a rest ≡ a
+pub and-refused : (a rest : Answer) → accepted a ≡ false → andThen a rest ≡ a
 and-refused a rest h = rw (h, andThen)
 
-and-taken : (a rest : Answer) → accepted a ≡ true → andThen a rest ≡ rest
+pub and-taken : (a rest : Answer) → accepted a ≡ true → andThen a rest ≡ rest
 and-taken a rest h = rw (h, andThen)
 
 pub refused-of : (b : Bool) → not b ≡ true → b ≡ false

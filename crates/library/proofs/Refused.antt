@@ -39,11 +39,11 @@ use Rattle.library.proofs.records.uq_save.Reads as save
 use Rattle.library.proofs.records.uq_places.Reads as places
 use Rattle.library.proofs.histories.uq_judge.Reads as judge
 
-abbrev Refused : ℕ → Type 0
+abbrev pub Refused : ℕ → Type 0
 Refused r = r % 256 ≡ 0 → ⊥
 
 -- a returned number that is a refusal's comes of a refusal
-not-taken : (a : Answer) (v r : ℕ) → r ≡ packed (told a) v → Refused r → accepted a ≡ false
+pub not-taken : (a : Answer) (v r : ℕ) → r ≡ packed (told a) v → Refused r → accepted a ≡ false
 unfolding packed
 not-taken a v r p n = by (accepted a) refl
   where

@@ -2,6 +2,7 @@
 // Each call takes numbers and lent bytes only, returns one number, and has no `requires`.
 pub mod histories;
 mod packing;
+pub mod probes;
 pub mod records;
 pub mod schedules;
 pub mod texts;
