@@ -3,4 +3,4 @@ pub mod Laws
 pub mod Refused
 pub mod Unique
 pub mod Whole
-pub mod Probes
+pub mod Replays

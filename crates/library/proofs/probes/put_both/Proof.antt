@@ -1,0 +1,40 @@
+use borrow.Author.Needs.{needs}
+use Rattle.library.proofs.probes.put_both.Statement.{statement}
+use Rattle.library.proofs.probes.put_both.Tie as tie
+
+slice-write-b : tie.Need-slice-write-b
+slice-write-b c = search needs
+
+cast-put-word : tie.Need-cast-put-word
+cast-put-word c = search needs
+
+put-word-requires : tie.Need-put-word-requires
+put-word-requires c κs = ?
+
+slice-write-b-2 : tie.Need-slice-write-b-2
+slice-write-b-2 c = ?
+
+cast-put-word-2 : tie.Need-cast-put-word-2
+cast-put-word-2 c = search needs
+
+put-word-requires-2 : tie.Need-put-word-requires-2
+put-word-requires-2 c κs = ?
+
+same-length : tie.Need-same-length
+same-length c = ?
+
+returns : tie.Need-returns
+returns c = ?
+
+pub put-both-spec : {M : Type 1} → statement M
+put-both-spec =
+    tie.close
+    (tie.spec
+    slice-write-b
+    cast-put-word
+    put-word-requires
+    slice-write-b-2
+    cast-put-word-2
+    put-word-requires-2
+    same-length
+    returns)
