@@ -10,7 +10,7 @@ static int agree(u64 seed, u64 number)
 {
     u64 length = some_input(seed, number, bytes);
     return agree_on_bytes(bytes, length) && agree_on_ending(bytes, length) && agree_on_line(bytes, length)
-        && agree_on_lines(bytes, length) && agree_on_start(bytes, length) && agree_on_conversions(bytes, length, number) && agree_on_record(seed, number) && agree_on_mended()
+        && agree_on_lines(bytes, length) && agree_on_start(bytes, length) && agree_on_conversions(bytes, length, number) && agree_on_record(seed, number) && agree_on_mended() && agree_on_probe(bytes, length)
         && (number % HISTORY_EVERY != 0 || agree_on_history(seed, number));
 }
 
@@ -22,6 +22,14 @@ static void put_counts(const u64 *seen, u32 count)
         put_text(":");
         put_number(seen[i]);
     }
+}
+
+static void put_probes(void)
+{
+    put_text("; of probe files:");
+    put_counts(probe_numbers_seen, NUMBERS);
+    put_text(", differing ");
+    put_number(probes_differing);
 }
 
 static void put_histories(void)
@@ -59,6 +67,7 @@ int main(int count, char **words)
     put_text(" inputs, all calls agree; how often each number was given back:");
     put_counts(numbers_seen, NUMBERS);
     put_histories();
+    put_probes();
     put_text("\n");
     flush_output();
     return 0;

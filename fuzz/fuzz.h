@@ -29,6 +29,10 @@ int agree_on_conversions(const u8 *bytes, u64 length, u64 number);
 int agree_on_mended(void);
 extern u64 numbers_seen[NUMBERS];
 
+/* probes.c: the probe file of a schedule that is taken, some of its answers changed */
+int agree_on_probe(const u8 *bytes, u64 length);
+extern u64 probe_numbers_seen[NUMBERS], probes_differing;
+
 /* of the histories alone: how often each number was given back, and each verdict (0 unlawful, 1 lawful, 2 undecided) */
 enum { VERDICTS = 3 };
 extern u64 history_numbers_seen[NUMBERS], verdicts_seen[VERDICTS];

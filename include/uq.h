@@ -49,7 +49,9 @@ enum {
     UQ_RECORD = 1971,
     UQ_PLACES = 6,
     UQ_MAX_HISTORY = 859, /* 3 + 4 for each item, and 22 for each operation */
-    UQ_MAX_ORDER = 16
+    UQ_MAX_ORDER = 16,
+    UQ_MAX_PROBE = 50006, /* 8 + 14 + 13N, and 12 for each event */
+    UQ_BOTH = 10
 };
 
 /* What uq_judge says of a history. */
@@ -166,6 +168,13 @@ uint64_t uq_places(const uint8_t *record, size_t length, uint8_t *buffer, size_t
    They are written into the first uq_order bytes of `order`; the bytes after them stay.
    A refusal has number 1 with place 0, 9 or 13 with the operation's number, or 17 where `room` is below n, and writes nothing. */
 uint64_t uq_judge(const uint8_t *history, size_t length, uint8_t *order, size_t room);
+
+/* A probe file replayed: as a schedule with mark "UQR" and 12 bytes an event, which are its 6, the observed answer (UQ_NO_REPLY to UQ_EMPTY), the item
+   (4, zero unless the answer is UQ_ITEM) and a zero byte. The value where it is taken: 0 where all agree, else one more than the number of the first
+   event whose observed answer differs from the machine's.
+   Then the first 10 bytes of `buffer` get: observed answer, its item (4), the machine's answer, its item (4); the bytes after them stay. Nothing is written where all agree.
+   A refusal has number 1 to 13 and its place, or 17 where `room` is below 10, and writes nothing. */
+uint64_t uq_replay(const uint8_t *file, size_t length, uint8_t *buffer, size_t room);
 
 /* The number: 0 where the call was taken. */
 static inline uint32_t uq_number(uint64_t result) { return (uint32_t)(result % 256); }

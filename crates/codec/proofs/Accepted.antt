@@ -1,9 +1,10 @@
 -- What it says of bytes or contents that they are taken.
-use Prim.Native.Nat.{ℕ, _+_, _*_, _≤_, _<_}
+use Prim.Native.Nat.{ℕ, suc, _+_, _*_, _≤_, _<_}
 use mathlib.Core.Path.{_≡_, refl, sym, ap, _∙_}
 use mathlib.Core.Bool.{Bool, true, false, not}
 use mathlib.Core.List.{List}
 use native.Mathlib.Omega.{arith}
+use native.Mathlib.Nat.{suc-mul, mul-le-mul-right}
 use borrow.Author.Tests.{eqb-true, ltb-false, leb-true, lt-ltb, le-ltb, not-false}
 use lib.ListN.{length, drop, length-drop}
 use lib.Dec.{eqb, ltb, leb}
@@ -19,7 +20,7 @@ use Rattle.image.proofs.SoundLaws.{whole-then, whole-else}
 use Rattle.image.specs.declared.Image.{Image}
 use Rattle.machine.specs.Start.{threadsFit}
 use Rattle.codec.specs.Parts.{Lies, shape}
-use Rattle.schedule.specs.Layout.{isSchedule, threadsIn, countIn, imagePart, nodesIn, eventPlace, scheduleIn, scheduleAnswer, readSchedule}
+use Rattle.schedule.specs.Layout.{isFile, threadsIn, countIn, imagePart, nodesIn, placeIn, eventPlace, scheduleIn, fileAnswer, scheduleAnswer, readSchedule}
 
 pub nodes-least : (n : ℕ) → nodesFit n ≡ true → 2 ≤ n
 nodes-least n h = leb-true 2 n (both-true (leb 2 n) (leb n 64) h .0)
@@ -157,23 +158,43 @@ module _ (g : Image) (room : ℕ) where
   unfolding writeAnswer
   write-taken f e h l = rw (f, e) (whole-then g (roomed g room) h ∙ rw (le-ltb room (nodePlace (g .form) (g .n)) l))
 
--- ---- a schedule
+-- ---- a file of the mark "UQ" and z with w bytes an event
 
-pub record ScheduleTaken (s : List ℕ) : Type 0 where
+pub record FileTaken (z w : ℕ) (s : List ℕ) : Type 0 where
   pub long : 8 ≤ length s
-  pub mark : isSchedule s ≡ true
+  pub mark : isFile z s ≡ true
   pub threads : threadsFit (threadsIn s) ≡ true
   pub count : countIn s ≤ 4096
-  pub part : PartTaken (countIn s * 6) (imagePart s)
+  pub part : PartTaken (countIn s * w) (imagePart s)
+
+pub file-taken : (z w : ℕ) (s : List ℕ) → accepted (fileAnswer z w s) ≡ true → FileTaken z w s
+file-taken z w s h =
+    let a = check-true (ltb (length s) 8) Length _ refl h in
+    let b = check-not (isFile z s) Mark _ refl (a .1) in
+    let c = check-not (threadsFit (threadsIn s)) Threads _ refl (b .1) in
+    let d = check-true (ltb 4096 (countIn s)) Events _ refl (c .1) in
+    record { long = ltb-false _ _ (a .0); mark = b .0; threads = c .0; count = ltb-false _ _ (d .0); part = part-taken (countIn s * w) (imagePart s) (d .1) }
+
+-- every event of one that is taken stands in its bytes
+pub file-fits : (z w : ℕ) (s : List ℕ) (i : ℕ) → accepted (fileAnswer z w s) ≡ true → i < countIn s → placeIn w (formIn (imagePart s)) (nodesIn s) i + w ≤ length s
+file-fits z w s i h p =
+    let t = file-taken z w s h in
+    let l = t .long in
+    let m : suc i * w ≤ countIn s * w = mul-le-mul-right w p in
+    omega (arith, length-drop 8 s, t .part .size, m, suc-mul i w)
+
+-- its image lies in them, too
+pub file-lies : (z w : ℕ) (s : List ℕ) → accepted (fileAnswer z w s) ≡ true → Lies (imagePart s)
+file-lies z w s h = let t = file-taken z w s h .part in (t .mark, (nodes-most _ (t .nodes), omega (arith, t .size)))
+
+-- ---- a schedule
+
+abbrev pub ScheduleTaken : List ℕ → Type 0
+ScheduleTaken = FileTaken 83 6
 
 pub schedule-taken : (s : List ℕ) → accepted (scheduleAnswer s) ≡ true → ScheduleTaken s
 unfolding scheduleAnswer
-schedule-taken s h =
-    let a = check-true (ltb (length s) 8) Length _ refl h in
-    let b = check-not (isSchedule s) Mark _ refl (a .1) in
-    let c = check-not (threadsFit (threadsIn s)) Threads _ refl (b .1) in
-    let d = check-true (ltb 4096 (countIn s)) Events _ refl (c .1) in
-    record { long = ltb-false _ _ (a .0); mark = b .0; threads = c .0; count = ltb-false _ _ (d .0); part = part-taken (countIn s * 6) (imagePart s) (d .1) }
+schedule-taken s h = file-taken 83 6 s h
 
 pub opened-answer : (s : List ℕ) → readSchedule s .answer ≡ scheduleAnswer s
 unfolding readSchedule
@@ -183,14 +204,10 @@ pub opened-schedule : (s : List ℕ) → accepted (scheduleAnswer s) ≡ true �
 unfolding readSchedule
 opened-schedule s h = rw h
 
--- every event of a schedule that is taken stands in its bytes
 pub event-fits : (s : List ℕ) (i : ℕ) → accepted (scheduleAnswer s) ≡ true → i < countIn s → eventPlace (formIn (imagePart s)) (nodesIn s) i + 6 ≤ length s
-event-fits s i h p =
-    let t = schedule-taken s h in
-    let l = t .long in
-    let z : length (drop 8 s) ≡ nodePlace (formIn (imagePart s)) (nodesIn s) + countIn s * 6 = t .part .size in
-    omega (arith, length-drop 8 s)
+unfolding scheduleAnswer
+event-fits s i h p = file-fits 83 6 s i h p
 
--- its image lies in them, too
 pub schedule-lies : (s : List ℕ) → accepted (scheduleAnswer s) ≡ true → Lies (imagePart s)
-schedule-lies s h = let t = schedule-taken s h .part in (t .mark, (nodes-most _ (t .nodes), omega (arith, t .size)))
+unfolding scheduleAnswer
+schedule-lies s h = file-lies 83 6 s h

@@ -1,10 +1,11 @@
 -- What is longer than the longest schedule, 25,430 bytes, is refused, and by its first 14 bytes alone: as its first part is.
+-- The same of a file of another mark with w bytes an event.
 use Prim.Native.Nat.{ℕ, _+_, _*_, _≤_, _<_}
 use mathlib.Core.Path.{_≡_, refl, sym, ap, _∙_}
 use mathlib.Core.Bool.{Bool, true, false, not}
 use mathlib.Core.List.{List}
 use native.Mathlib.Omega.{arith}
-use native.Mathlib.Nat.{zero-add}
+use native.Mathlib.Nat.{zero-add, mul-le-mul-right}
 use borrow.Author.Tests.{eqb-true, ltb-false, le-ltb, not-false}
 use lib.ListN.{length, getD, take, drop, length-drop}
 use lib.Seq.{getD-take, getD-drop, length-take-le}
@@ -18,7 +19,7 @@ use Rattle.image.proofs.FormLaws.{place-most}
 use Rattle.image.specs.Layout.{marked, formIn, isImage, nodePlace, imageIn}
 use Rattle.image.specs.Refusals.{nodesFit, sound, imageAnswer}
 use Rattle.machine.specs.Start.{threadsFit}
-use Rattle.schedule.specs.Layout.{isSchedule, threadsIn, countIn, imagePart, scheduleAnswer}
+use Rattle.schedule.specs.Layout.{isFile, threadsIn, countIn, imagePart, fileAnswer, scheduleAnswer}
 use Rattle.codec.proofs.Accepted.{nodes-most}
 
 -- a check is passed, or what follows is not looked at
@@ -27,9 +28,9 @@ under true a x y h = refl
 under false a x y h = h refl
 
 -- the answer without a look at the length
-unfoldable frontAnswer : List ℕ → Answer
-frontAnswer s =
-    check (not (isSchedule s)) Mark
+unfoldable frontAnswer : ℕ → List ℕ → Answer
+frontAnswer z s =
+    check (not (isFile z s)) Mark
     (check (not (threadsFit (threadsIn s))) Threads
     (check (ltb 4096 (countIn s)) Events
     (check (not (isImage (imagePart s))) Mark (check (not (nodesFit (at1 (imagePart s) 5))) Nodes Length))))
@@ -38,10 +39,13 @@ never : (b : Bool) (x : Answer) → (b ≡ true → ⊥) → check (not b) Lengt
 never true x h = absurd (h refl)
 never false x h = refl
 
--- longer than every schedule
-module _ (s : List ℕ) (h : 25430 < length s) where
+-- longer than every such file
+module _ (z w : ℕ) (s : List ℕ) (h : 854 + 4096 * w < length s) where
+  events-most : countIn s ≤ 4096 → countIn s * w ≤ 4096 * w
+  events-most c = mul-le-mul-right w c
+
   image-front : countIn s ≤ 4096
-      → imageAnswer (countIn s * 6) (imagePart s)
+      → imageAnswer (countIn s * w) (imagePart s)
       ≡ check (not (isImage (imagePart s))) Mark (check (not (nodesFit (at1 (imagePart s) 5))) Nodes Length)
   unfolding imageAnswer
   image-front c =
@@ -49,16 +53,16 @@ module _ (s : List ℕ) (h : 25430 < length s) where
       rw (e, check) refl
       ∙ under (not (isImage (imagePart s))) Mark _ _ (λ m.
       under (not (nodesFit (at1 (imagePart s) 5))) Nodes _ _ (λ n.
-      never (eqb (length (imagePart s)) (nodePlace (formIn (imagePart s)) (at1 (imagePart s) 5) + countIn s * 6)) (sound (imageIn (imagePart s)) Taken)
-      (λ q. let z = eqb-true (length (imagePart s)) (nodePlace (formIn (imagePart s)) (at1 (imagePart s) 5) + countIn s * 6) q in
-      omega (arith, z, length-drop 8 s, place-most (formIn (imagePart s)) (at1 (imagePart s) 5) (not-false (isImage (imagePart s)) m) (nodes-most (at1 (imagePart s) 5) (not-false (nodesFit (at1 (imagePart s) 5)) n)) .1))))
+      never (eqb (length (imagePart s)) (nodePlace (formIn (imagePart s)) (at1 (imagePart s) 5) + countIn s * w)) (sound (imageIn (imagePart s)) Taken)
+      (λ q. let e′ = eqb-true (length (imagePart s)) (nodePlace (formIn (imagePart s)) (at1 (imagePart s) 5) + countIn s * w) q in
+      omega (arith, e′, events-most c, length-drop 8 s, place-most (formIn (imagePart s)) (at1 (imagePart s) 5) (not-false (isImage (imagePart s)) m) (nodes-most (at1 (imagePart s) 5) (not-false (nodesFit (at1 (imagePart s) 5)) n)) .1))))
 
-  front-is : scheduleAnswer s ≡ frontAnswer s
-  unfolding scheduleAnswer frontAnswer
+  front-is : fileAnswer z w s ≡ frontAnswer z s
+  unfolding frontAnswer
   front-is =
       let e : ltb (length s) 8 ≡ false = le-ltb (length s) 8 (omega arith) in
       rw (e, check) refl
-      ∙ under (not (isSchedule s)) Mark _ _ (λ m.
+      ∙ under (not (isFile z s)) Mark _ _ (λ m.
       under (not (threadsFit (threadsIn s))) Threads _ _ (λ t.
       under (ltb 4096 (countIn s)) Events _ _ (λ c. image-front (ltb-false 4096 (countIn s) c))))
 
@@ -72,12 +76,16 @@ front-refused false false false false true = refl
 front-refused false false false false false = refl
 
 -- refused
-pub long-refused : (s : List ℕ) → 25430 < length s → accepted (scheduleAnswer s) ≡ false
+pub file-long : (z w : ℕ) (s : List ℕ) → 854 + 4096 * w < length s → accepted (fileAnswer z w s) ≡ false
 unfolding frontAnswer
-long-refused s h =
-    ap accepted (front-is s h)
-    ∙ front-refused (not (isSchedule s)) (not (threadsFit (threadsIn s))) (ltb 4096 (countIn s)) (not (isImage (imagePart s)))
+file-long z w s h =
+    ap accepted (front-is z w s h)
+    ∙ front-refused (not (isFile z s)) (not (threadsFit (threadsIn s))) (ltb 4096 (countIn s)) (not (isImage (imagePart s)))
     (not (nodesFit (at1 (imagePart s) 5)))
+
+pub long-refused : (s : List ℕ) → 25430 < length s → accepted (scheduleAnswer s) ≡ false
+unfolding scheduleAnswer
+long-refused s h = file-long 83 6 s (omega arith)
 
 -- two inputs whose first 14 bytes are the same
 module _ (s p : List ℕ) (long : 14 ≤ length s) (long′ : 14 ≤ length p) (h : (i : ℕ) → i < 14 → at1 p i ≡ at1 s i) where
@@ -87,9 +95,9 @@ module _ (s p : List ℕ) (long : 14 ≤ length s) (long′ : 14 ≤ length p) (
   count : countIn p ≡ countIn s
   count = at-same 2 p s 0 6 14 (λ k l. ap (at1 p) (zero-add k) ∙ h k l) (omega arith) (omega arith) (omega arith)
 
-  front-same : frontAnswer p ≡ frontAnswer s
+  front-same : (z : ℕ) → frontAnswer z p ≡ frontAnswer z s
   unfolding marked formIn frontAnswer
-  front-same =
+  front-same z =
       rw (
         h 0 (omega arith),
         h 1 (omega arith),
@@ -107,8 +115,12 @@ module _ (s p : List ℕ) (long : 14 ≤ length s) (long′ : 14 ≤ length p) (
       ) refl
 
 -- refused as its first part is
+pub file-same : (z w : ℕ) (s : List ℕ) (room : ℕ) → 854 + 4096 * w < room → room ≤ length s → fileAnswer z w (take room s) ≡ fileAnswer z w s
+file-same z w s room h l =
+    front-is z w (take room s) (omega (arith, length-take-le room s l))
+    ∙ front-same s (take room s) (omega arith) (omega (arith, length-take-le room s l)) (λ i q. getD-take room s i 0 (omega arith)) z
+    ∙ sym (front-is z w s (omega arith))
+
 pub long-same : (s : List ℕ) (room : ℕ) → 25430 < room → room ≤ length s → scheduleAnswer (take room s) ≡ scheduleAnswer s
-long-same s room h l =
-    front-is (take room s) (omega (arith, length-take-le room s l))
-    ∙ front-same s (take room s) (omega arith) (omega (arith, length-take-le room s l)) (λ i q. getD-take room s i 0 (omega arith))
-    ∙ sym (front-is s (omega arith))
+unfolding scheduleAnswer
+long-same s room h l = file-same 83 6 s room (omega arith) l

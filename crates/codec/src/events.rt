@@ -9,16 +9,23 @@ use crate::bytes::word_at;
 use image::place_of;
 use machine::Event;
 
-// Event i of a schedule that is long enough, whose image is in this form, with n nodes.
-pub fn event_at(s: &[u8], form: u8, n: usize, i: usize) -> Event
-    requires { ⌜ (known form ≡ true) × ((n ≤ 64) × (eventPlace form n i + 6 ≤ length (now s))) ⌝ }
-    ensures { λ r. ⌜ r ≡ eventFrom (now (s .entry)) (eventPlace form n i) ⌝ }
+// The event whose bytes begin at a place.
+pub fn event_from(s: &[u8], at: usize) -> Event
+    requires { ⌜ at + 6 ≤ length (now s) ⌝ }
+    ensures { λ r. ⌜ r ≡ eventFrom (now (s .entry)) at ⌝ }
 {
-    let at = 8 + place_of(form, n) + i * 6;
     let item = word_at(s, at + 2);
     Event {
         kind: s[at],
         number: s[at + 1],
         item,
     }
+}
+
+// Event i of a schedule that is long enough, whose image is in this form, with n nodes.
+pub fn event_at(s: &[u8], form: u8, n: usize, i: usize) -> Event
+    requires { ⌜ (known form ≡ true) × ((n ≤ 64) × (eventPlace form n i + 6 ≤ length (now s))) ⌝ }
+    ensures { λ r. ⌜ r ≡ eventFrom (now (s .entry)) (eventPlace form n i) ⌝ }
+{
+    event_from(s, 8 + place_of(form, n) + i * 6)
 }

@@ -1,7 +1,8 @@
-// A schedule read up to its events.
+// A schedule, or another file with its layout, read up to its events.
 ghost use mathlib.Core.Path.{_≡_};
+ghost use Prim.Native.Nat.{_≤_};
 ghost use Rattle.codec.specs.Parts.{refusedOpened};
-ghost use Rattle.schedule.specs.Layout.{scheduleAnswer, readSchedule};
+ghost use Rattle.schedule.specs.Layout.{fileAnswer, scheduleAnswer, readBy, readSchedule};
 use crate::bytes::half_at;
 use crate::bytes::is_marked;
 use crate::images::image_in;
@@ -28,14 +29,15 @@ fn refused(a: Answer) -> Opened
     }
 }
 
-// What is wrong with a schedule, up to its events. It builds none.
-pub fn check_schedule(s: &[u8]) -> Answer
-    ensures { λ r. ⌜ r ≡ scheduleAnswer (now (s .entry)) ⌝ }
+// What is wrong, up to its events, with a file of the mark "UQ" and z that has w bytes an event. It builds none.
+pub fn check_file(s: &[u8], z: u8, w: usize) -> Answer
+    requires { ⌜ w ≤ 12 ⌝ }
+    ensures { λ r. ⌜ r ≡ fileAnswer z w (now (s .entry)) ⌝ }
 {
     if s.len() < 8 {
         return Answer::Length;
     }
-    if !is_marked(s, 85, 81, 83, 1) {
+    if !is_marked(s, 85, 81, z, 1) {
         return Answer::Mark;
     }
     let t = s[5];
@@ -49,14 +51,21 @@ pub fn check_schedule(s: &[u8]) -> Answer
     if Machine::EVENTS < count {
         return Answer::Events;
     }
-    check_part(&s[8..], (count as usize) * 6)
+    check_part(&s[8..], (count as usize) * w)
 }
 
-// The schedule up to its events, or what is wrong.
-pub fn open_schedule(s: &[u8]) -> Opened
-    ensures { λ r. ⌜ r ≡ readSchedule (now (s .entry)) ⌝ }
+pub fn check_schedule(s: &[u8]) -> Answer
+    ensures { λ r. ⌜ r ≡ scheduleAnswer (now (s .entry)) ⌝ }
 {
-    let a = check_schedule(s);
+    check_file(s, 83, 6)
+}
+
+// The file up to its events, or what is wrong.
+pub fn open_file(s: &[u8], z: u8, w: usize) -> Opened
+    requires { ⌜ w ≤ 12 ⌝ }
+    ensures { λ r. ⌜ r ≡ readBy (fileAnswer z w (now (s .entry))) (now (s .entry)) ⌝ }
+{
+    let a = check_file(s, z, w);
     if !is_taken(a) {
         return refused(a);
     }
@@ -68,4 +77,10 @@ pub fn open_schedule(s: &[u8]) -> Opened
         answer: a,
         schedule,
     }
+}
+
+pub fn open_schedule(s: &[u8]) -> Opened
+    ensures { λ r. ⌜ r ≡ readSchedule (now (s .entry)) ⌝ }
+{
+    open_file(s, 83, 6)
 }

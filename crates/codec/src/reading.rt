@@ -23,7 +23,7 @@ fn refused(a: Answer) -> Read
 
 // 1, 2, 3, 1: what is wrong with the image that the bytes begin with before its nodes are looked at, `more` bytes behind it.
 pub fn shape_part(s: &[u8], more: usize) -> Answer
-    requires { ⌜ more ≤ 24576 ⌝ }
+    requires { ⌜ more ≤ 49152 ⌝ }
     ensures { λ r. ⌜ r ≡ shape more (now (s .entry)) Taken ⌝ }
 {
     let len = s.len();
@@ -50,7 +50,7 @@ pub fn shape_part(s: &[u8], more: usize) -> Answer
 
 // 1, 2, 3, 1, 6, 7, 8. It builds no image.
 pub fn check_part(s: &[u8], more: usize) -> Answer
-    requires { ⌜ more ≤ 24576 ⌝ }
+    requires { ⌜ more ≤ 49152 ⌝ }
     ensures { λ r. ⌜ r ≡ imageAnswer more (now (s .entry)) ⌝ }
 {
     let a = shape_part(s, more);
@@ -63,7 +63,7 @@ pub fn check_part(s: &[u8], more: usize) -> Answer
 
 // The image that the bytes begin with, `more` bytes behind it; or what is wrong.
 pub fn read_part(s: &[u8], more: usize) -> Read
-    requires { ⌜ more ≤ 24576 ⌝ }
+    requires { ⌜ more ≤ 49152 ⌝ }
     ensures { λ r. ⌜ r ≡ readPart more (now (s .entry)) ⌝ }
 {
     let a = check_part(s, more);

@@ -11,8 +11,10 @@
 //   f  N and T: the same for a fresh machine, with the record's sum
 //   v  N, T, a number and a count: that many events drawn from the number, on one record: `TAKEN ITEMS SUM`
 //   w  the same, by the call on a kept record
+//   q  a probe file: `refused N at P`, `all agree`, or `event E recorded ANSWER ITEM given ANSWER ITEM` of the first that differs
 mod kept;
 mod moments;
+mod probes;
 mod records;
 mod soak;
 mod starts;
@@ -20,6 +22,7 @@ mod traces;
 
 use compare::text::finish;
 use libc::STDIN_FILENO;
+use probes::answer_probe;
 use records::answer_places;
 use records::answer_record;
 use records::answer_saved;
@@ -43,6 +46,7 @@ fn answer_one(mode: u8, s: &[u8], out: &mut [u8; 65536], at: usize) -> usize {
         b'f' => answer_fresh(s, out, at),
         b'v' => answer_soak(s, out, at, false),
         b'w' => answer_soak(s, out, at, true),
+        b'q' => answer_probe(s, out, at),
         _ => at,
     }
 }
@@ -67,8 +71,8 @@ fn answer_all(mode: u8, item: &mut [u8], out: &mut [u8; 65536]) -> usize {
 fn main() {
     let mut mode = [0u8; 1];
     io::read_full(STDIN_FILENO, &mut mode);
-    // Longer than any schedule; what is longer still is refused as its first part is.
-    let mut item = [0u8; 40000];
+    // Longer than any schedule or probe file; what is longer still is refused as its first part is.
+    let mut item = [0u8; 65536];
     let mut out = [0u8; 65536];
     let at = answer_all(mode[0], &mut item, &mut out);
     finish(&out, at);

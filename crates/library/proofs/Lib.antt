@@ -3,3 +3,4 @@ pub mod Refused
 pub mod Unique
 pub mod Whole
 pub mod Mended
+pub mod Replays

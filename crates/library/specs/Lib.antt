@@ -1,3 +1,4 @@
 pub mod Conversions
 pub mod Texts
 pub mod Mend
+pub mod Probes

@@ -1,34 +1,31 @@
 -- A run that has been opened has come to its first event; one event forward that is taken, it has come one further.
-use Prim.Native.Nat.{ℕ, suc, _+_, _<_, _≤_}
+use Prim.Native.Nat.{ℕ, _+_, _<_, _≤_}
 use mathlib.Core.Path.{_≡_, refl, sym, ap, ap₂, subst, _∙_}
 use mathlib.Core.Bool.{Bool, true, false}
-use mathlib.Core.List.{List, [], _∷_}
+use mathlib.Core.List.{List}
 use native.Mathlib.Omega.{arith}
 use native.Mathlib.Numerals.{add-one}
-use lib.ListN.{length, getD}
+use lib.ListN.{getD}
 use Rattle.lists.specs.Tab.{tab}
-use Rattle.lists.proofs.BoolLaws.{yes-of}
-use Rattle.lists.proofs.TabLaws as tabs
 use Rattle.answer.specs.Answers.{accepted}
 use Rattle.answer.specs.declared.Answer.the-variants.{Taken}
 use Rattle.image.specs.Layout.{formIn, imageIn}
 use Rattle.machine.specs.Start.{startOf}
-use Rattle.machine.specs.Event.{Deed, unknown, enqueues, dequeues, steps, writesBack, crashes, deedOf, done, eventAt}
+use Rattle.machine.specs.Event.{eventAt}
 use Rattle.machine.specs.Range.{inRange}
 use Rattle.machine.specs.declared.Machine.{Machine}
 use Rattle.machine.specs.declared.Event.{Event}
 use Rattle.machine.specs.declared.Acted.{Acted}
 use Rattle.machine.specs.declared.Touch.the-variants.{Nothing as nothing}
 use Rattle.schedule.specs.Layout.{scheduleIn, scheduleAnswer, eventFrom, eventPlace, eventIn, countIn, imagePart, nodesIn}
-use Rattle.schedule.specs.Run.{Bench, Ran, turned, forward, benchAt, andBefore, run, opened}
+use Rattle.schedule.specs.Run.{Bench, benchAt, opened}
 use Rattle.schedule.specs.Running.{Reached, noEvent, openedRun, forwardRun, benchTo, ranTo}
 use Rattle.schedule.specs.declared.Schedule.{Schedule}
 use Rattle.schedule.specs.declared.Running.{Running}
 use Rattle.machine.proofs.AnswerLaws as machines
 use Rattle.codec.proofs.Accepted as codec
-use Rattle.pageproof.proofs.Events.{taken-is}
-use Rattle.pageproof.proofs.Runs as runs
 use Rattle.tied.proofs.Schedules as schedules
+use Rattle.onward.proofs.Come.{Come, replyIn, come-none, come-next, next-machine}
 
 -- ---- at the code's terms
 
@@ -55,26 +52,11 @@ forward-is s g n f e o q a =
 
 -- ---- how far a run has come
 
-one-more : (q : ℕ) (b : Bench) (e : Event) → accepted (eventAt q (b .machine) e .answer) ≡ true
-    → run q b (e ∷ []) ≡ andBefore (eventAt q (b .machine) e .answer) (record { answer = Taken; replies = []; bench = forward q b e })
-unfolding run
-one-more q b e h = yes-of _ _ (accepted (eventAt q (b .machine) e .answer)) h
-
--- the bench goes on with the machine that the event left
-forward-machine : (p : ℕ) (b : Bench) (e : Event) → accepted (eventAt p (b .machine) e .answer) ≡ true → forward p b e .machine ≡ eventAt p (b .machine) e .machine
-forward-machine p b e h = by (deedOf (e .kind)) refl
-  where
-    by : (d : Deed) → deedOf (e .kind) ≡ d → turned b (eventAt p (b .machine) e) d .machine ≡ eventAt p (b .machine) e .machine
-    by unknown q = sym (ap (λ (o : Acted). o .machine) (taken-is p (b .machine) e h) ∙ ap (λ (d : Deed). done (b .machine) e d .machine) q)
-    by enqueues q = refl
-    by dequeues q = refl
-    by steps q = refl
-    by writesBack q = refl
-    by crashes q = refl
-
 pub reached-opened : (s : List ℕ) → accepted (scheduleAnswer s) ≡ true → Reached s (openedRun s)
-unfolding benchAt tab run
-reached-opened s a = record { schedule = a; nodes = refl; form = refl; count = refl; machine = refl; taken = refl; come = refl }
+unfolding benchAt
+reached-opened s a =
+    let c = come-none (opened (scheduleIn s)) (eventIn s) in
+    record { schedule = a; nodes = refl; form = refl; count = refl; machine = refl; taken = c .taken; come = c .come }
 
 module _ (s : List ℕ) (g : Running) (r : Reached s g) where
   -- 18 does not refuse the record
@@ -87,30 +69,25 @@ module _ (s : List ℕ) (g : Running) (r : Reached s g) where
     abbrev i : ℕ
     i = g .place
 
-    abbrev b : Bench
-    b = benchTo s i
+    abbrev b₀ : Bench
+    b₀ = opened (scheduleIn s)
 
-    taken′ : accepted (eventAt i (b .machine) (eventIn s i) .answer) ≡ true
+    here : Come b₀ (eventIn s) i
+    here = record { taken = r .taken; come = r .come }
+
+    taken′ : accepted (replyIn b₀ (eventIn s) i) ≡ true
     taken′ = subst (λ (x : Machine). accepted (eventAt i x (eventIn s i) .answer) ≡ true) (r .machine) a
 
-    more : ranTo s (suc i) ≡ runs.andAfter (ranTo s i) (andBefore (eventAt i (b .machine) (eventIn s i) .answer) (record { answer = Taken; replies = []; bench = forward i b (eventIn s i) }))
-    unfolding tab
-    more =
-        runs.run-append (tab (eventIn s) i) (eventIn s i ∷ []) 0 (opened (scheduleIn s)) (r .taken)
-        ∙ ap (runs.andAfter (ranTo s i))
-        (ap₂ (λ (q : ℕ) (x : Bench). run q x (eventIn s i ∷ [])) (let z : 0 + length (tab (eventIn s) i) ≡ i = omega (arith, tabs.length-tab (eventIn s) i) in z) (r .come) ∙ one-more i b (eventIn s i) taken′)
+    next : Come b₀ (eventIn s) (i + 1)
+    next = subst (Come b₀ (eventIn s)) (sym (add-one i)) (come-next b₀ (eventIn s) i here taken′)
 
     pub reached-next : Reached s (forwardRun s g)
-    unfolding benchAt
     reached-next = record {
       schedule = r .schedule;
       nodes = r .nodes;
       form = r .form;
       count = r .count;
-      machine = ap (λ (x : Machine). eventAt i x (eventIn s i) .machine) (r .machine) ∙ sym (one-machine) ∙ ap (λ (k : ℕ). benchTo s k .machine) (sym (add-one i));
-      taken = ap (λ (k : ℕ). accepted (ranTo s k .answer)) (add-one i) ∙ ap (λ (x : Ran). accepted (x .answer)) more;
-      come = subst (λ (k : ℕ). ranTo s k .bench ≡ benchTo s k) (sym (add-one i)) (ap (λ (x : Ran). x .bench) more);
+      machine = ap (λ (x : Machine). eventAt i x (eventIn s i) .machine) (r .machine) ∙ sym (next-machine b₀ (eventIn s) i here taken′) ∙ ap (λ (k : ℕ). benchTo s k .machine) (sym (add-one i));
+      taken = next .taken;
+      come = next .come;
     }
-      where
-        one-machine : benchTo s (suc i) .machine ≡ eventAt i (b .machine) (eventIn s i) .machine
-        one-machine = forward-machine i b (eventIn s i) taken′

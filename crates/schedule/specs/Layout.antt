@@ -18,9 +18,13 @@ use Rattle.machine.specs.declared.Event.{Event}
 use Rattle.schedule.specs.declared.Schedule.{Schedule}
 use Rattle.schedule.specs.declared.Opened.{Opened}
 
--- mark "UQS", version 1; T; the event count; one image; then the events
+-- mark "UQ" with a third letter z, version 1; T; the event count; one image; then the events
+abbrev pub isFile : ℕ → List ℕ → Bool
+isFile z = marked 85 81 z 1
+
+-- a schedule's mark is "UQS"
 abbrev pub isSchedule : List ℕ → Bool
-isSchedule = marked 85 81 83 1
+isSchedule = isFile 83
 
 abbrev pub threadsIn : List ℕ → ℕ
 threadsIn s = at1 s 5
@@ -38,9 +42,12 @@ scheduleIn s = record { t = threadsIn s; count = countIn s; image = imageIn (ima
 abbrev pub eventFrom : List ℕ → ℕ → Event
 eventFrom s at = record { kind = at1 s at; number = at1 s (at + 1); item = at4 s (at + 2) }
 
--- where event i of a schedule begins whose image is in form f, with N nodes
+-- where event i of a file with w bytes an event begins whose image is in form f, with N nodes; of a schedule
+abbrev pub placeIn : ℕ → ℕ → ℕ → ℕ → ℕ
+placeIn w f n i = 8 + nodePlace f n + i * w
+
 abbrev pub eventPlace : ℕ → ℕ → ℕ → ℕ
-eventPlace f n i = 8 + nodePlace f n + i * 6
+eventPlace = placeIn 6
 
 abbrev pub nodesIn : List ℕ → ℕ
 nodesIn s = at1 (imagePart s) 5
@@ -51,21 +58,29 @@ eventIn s i = eventFrom s (eventPlace (formIn (imagePart s)) (nodesIn s) i)
 unfoldable pub eventsIn : List ℕ → List Event
 eventsIn s = tab (eventIn s) (countIn s)
 
--- 1, 2, 4, 5, then its image, whose length allows for the events: 1, 2, 3, 1, 6, 7, 8
-unfoldable pub scheduleAnswer : List ℕ → Answer
-scheduleAnswer s =
+-- 1, 2, 4, 5, then the image, whose length allows for w bytes an event: 1, 2, 3, 1, 6, 7, 8
+abbrev pub fileAnswer : ℕ → ℕ → List ℕ → Answer
+fileAnswer z w s =
     check (ltb (length s) 8) Length
-    (check (not (isSchedule s)) Mark
+    (check (not (isFile z s)) Mark
     (check (not (threadsFit (threadsIn s))) Threads
-    (check (ltb 4096 (countIn s)) Events (imageAnswer (countIn s * 6) (imagePart s)))))
+    (check (ltb 4096 (countIn s)) Events (imageAnswer (countIn s * w) (imagePart s)))))
+
+-- a schedule has six bytes an event
+unfoldable pub scheduleAnswer : List ℕ → Answer
+scheduleAnswer s = fileAnswer 83 6 s
 
 -- what is handed back beside a refusal
 abbrev pub blankSchedule : Schedule
 blankSchedule = record { t = 0; count = 0; image = blankImage }
 
+-- what reading a file up to its events gives, by its answer
+abbrev pub readBy : Answer → List ℕ → Opened
+readBy a s = record {
+  answer = a;
+  schedule = pick (accepted a) (scheduleIn s) blankSchedule;
+}
+
 -- a schedule read up to its events
 unfoldable pub readSchedule : List ℕ → Opened
-readSchedule s = record {
-  answer = scheduleAnswer s;
-  schedule = pick (accepted (scheduleAnswer s)) (scheduleIn s) blankSchedule;
-}
+readSchedule s = readBy (scheduleAnswer s) s

@@ -23,7 +23,7 @@ use Rattle.image.specs.Form.{widthOf, topOf, headsAt}
 use Rattle.machine.specs.Start.{threadsFit, startAnswer}
 use Rattle.machine.specs.Range.{inRange}
 use Rattle.machine.specs.declared.Event.{Event}
-use Rattle.schedule.specs.Layout.{isSchedule, threadsIn, countIn, imagePart, scheduleIn, scheduleAnswer, eventsIn}
+use Rattle.schedule.specs.Layout.{isFile, threadsIn, countIn, imagePart, scheduleIn, fileAnswer, scheduleAnswer, eventsIn}
 use Rattle.schedule.specs.Run.{run, ran, opened}
 use Rattle.tied.specs.Shown.{Narrow}
 use Rattle.tied.proofs.Accepted.{pass}
@@ -69,22 +69,31 @@ image-starts s more t b a h =
 image-bytes : (s : List ℕ) → Bytes s → Bytes (imagePart s)
 image-bytes s b i = subst (λ x. x < 256) (sym (getD-drop 8 s i 0)) (b (8 + i))
 
-pub schedule-starts : (s : List ℕ) → Bytes s → accepted (scheduleAnswer s) ≡ true → accepted (startAnswer (scheduleIn s .image) (scheduleIn s .t)) ≡ true
-unfolding scheduleAnswer scheduleIn
-schedule-starts s b a =
+-- a file with a schedule's layout begins with an accepted start
+pub file-starts : (k v : ℕ) (s : List ℕ) → Bytes s → accepted (fileAnswer k v s) ≡ true → accepted (startAnswer (scheduleIn s .image) (scheduleIn s .t)) ≡ true
+unfolding scheduleIn
+file-starts k v s b a =
     let x = pass (ltb (length s) 8) Length _ refl a in
-    let y = pass (not (isSchedule s)) Mark _ refl (x .1) in
+    let y = pass (not (isFile k s)) Mark _ refl (x .1) in
     let z = pass (not (threadsFit (threadsIn s))) Threads _ refl (y .1) in
     let w = pass (ltb 4096 (countIn s)) Events _ refl (z .1) in
-    image-starts (imagePart s) (countIn s * 6) (threadsIn s) (image-bytes s b) (w .1) (not-false _ (z .0))
+    image-starts (imagePart s) (countIn s * v) (threadsIn s) (image-bytes s b) (w .1) (not-false _ (z .0))
+
+pub schedule-starts : (s : List ℕ) → Bytes s → accepted (scheduleAnswer s) ≡ true → accepted (startAnswer (scheduleIn s .image) (scheduleIn s .t)) ≡ true
+unfolding scheduleAnswer
+schedule-starts s b a = file-starts 83 6 s b a
 
 pub schedule-narrow : (s : List ℕ) → Bytes s → Narrow (scheduleIn s .image)
 unfolding scheduleIn
 schedule-narrow s b = narrow-image (imagePart s) (image-bytes s b)
 
--- no record of a schedule's run is refused by 18, nor any of its start with other events
+-- no record of a run of the file's start is refused by 18, whatever its events
+pub file-in-range : (k v : ℕ) (s : List ℕ) → Bytes s → accepted (fileAnswer k v s) ≡ true → (q : ℕ) (l : List Event) → inRange (run q (opened (scheduleIn s)) l .bench .machine) ≡ true
+file-in-range k v s b a q l = run-in-range (scheduleIn s .image) (scheduleIn s .t) (file-starts k v s b a) (schedule-narrow s b) q l
+
 pub events-in-range : (s : List ℕ) → Bytes s → accepted (scheduleAnswer s) ≡ true → (q : ℕ) (l : List Event) → inRange (run q (opened (scheduleIn s)) l .bench .machine) ≡ true
-events-in-range s b a q l = run-in-range (scheduleIn s .image) (scheduleIn s .t) (schedule-starts s b a) (schedule-narrow s b) q l
+unfolding scheduleAnswer
+events-in-range s b a q l = file-in-range 83 6 s b a q l
 
 pub ran-in-range : (s : List ℕ) → Bytes s → accepted (scheduleAnswer s) ≡ true → inRange (ran s .bench .machine) ≡ true
 unfolding ran

@@ -1,0 +1,5 @@
+pub mod ReplayLaws
+pub mod First
+pub mod Unique
+pub mod Cases
+pub mod Long
