@@ -2,13 +2,7 @@
 // hold at the stop, and with an ending's number as the argument which content each line has there and what recovery makes of it. With the
 // argument `columns` the same facts, and every ending, as rows (docs/COLUMNS.md). Every value comes from a public call; the words are not proved.
 mod asked;
-mod deeds;
-mod lines;
-mod refusals;
-mod starts;
 mod stops;
-mod text;
-mod turns;
 
 use answer::Told;
 use answer::told_of;
@@ -20,11 +14,11 @@ use libc::STDERR_FILENO;
 use machine::Event;
 use machine::Machine;
 use schedule::Schedule;
-use starts::line_total;
-use text::end;
-use text::field;
-use text::line_name;
-use text::said;
+use telling::starts::line_total;
+use telling::text::end;
+use telling::text::field;
+use telling::text::line_name;
+use telling::text::said;
 
 // How far a run came: the text's place, whether all events were taken, and the machine.
 struct Walked {
@@ -99,7 +93,7 @@ fn events_told(
         let a = r.answer;
         let t = told_of(a);
         if t.number != 0 {
-            let last = refusals::refused(out, place, columns, at_event(t, i), e);
+            let last = telling::refusals::refused(out, place, columns, at_event(t, i), e);
             return Walked {
                 at: last,
                 whole: false,
@@ -107,7 +101,7 @@ fn events_told(
             };
         }
         let after = r.machine;
-        let next = turns::happened(
+        let next = telling::turns::happened(
             out,
             place,
             columns,
@@ -155,7 +149,7 @@ fn endings_told(
             reply: 0,
             item: 0,
         };
-        return refusals::refused(out, place, false, t, no_event());
+        return telling::refusals::refused(out, place, false, t, no_event());
     }
     stops::ending_words(
         out,
@@ -185,7 +179,7 @@ fn stop_told(
     }
     let next = stops::lines_kept(out, place, how.columns, book, line_total(m));
     if t.number != 0 {
-        return refusals::refused(out, next, how.columns, t, no_event());
+        return telling::refusals::refused(out, next, how.columns, t, no_event());
     }
     endings_told(out, next, how, book, s, m, page.count)
 }
@@ -206,7 +200,7 @@ fn run_told(
         let next = names(out, place, line_total(m));
         place = next;
     }
-    let begun = starts::started(out, place, how.columns, book, 0, m);
+    let begun = telling::starts::started(out, place, how.columns, book, 0, m);
     let w = events_told(out, begun, how.columns, book, s, m, d.count as usize);
     if !w.whole {
         return w.at;
@@ -225,7 +219,7 @@ fn explained(out: &mut [u8; 65536], how: Asked, book: &mut [u64; 8385], s: &[u8]
     let a = o.answer;
     let t = told_of(a);
     if t.number != 0 {
-        return refusals::refused(out, place, how.columns, t, no_event());
+        return telling::refusals::refused(out, place, how.columns, t, no_event());
     }
     let d = o.schedule;
     run_told(out, place, how, book, s, d)

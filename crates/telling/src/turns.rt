@@ -224,7 +224,7 @@ fn written_back(
 }
 
 // Event i, which led from m to `after` and answered t.
-pub(crate) fn happened(
+pub fn happened(
     out: &mut [u8; 65536],
     at: usize,
     columns: bool,

@@ -189,7 +189,7 @@ fn dequeue_deed(
 }
 
 // What the step of thread k did.
-pub(crate) fn deed(out: &mut [u8; 65536], at: usize, k: u8, m: Machine, after: Machine) -> usize {
+pub fn deed(out: &mut [u8; 65536], at: usize, k: u8, m: Machine, after: Machine) -> usize {
     let b = thread_of(m, k);
     let th = thread_of(after, k);
     if b.step <= Machine::A12 {

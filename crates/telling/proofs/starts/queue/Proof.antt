@@ -1,8 +1,8 @@
 use Prim.Native.Nat.{_-_, _≤_}
 use native.Mathlib.Omega.{arith}
 use borrow.Author.Needs.{needs}
-use Rattle.explain.proofs.starts.queue.Statement.{statement}
-use Rattle.explain.proofs.starts.queue.Tie as tie
+use Rattle.telling.proofs.starts.queue.Statement.{statement}
+use Rattle.telling.proofs.starts.queue.Tie as tie
 
 abbrev Inv-loop : tie.InvT-loop
 Inv-loop out₀ at m items place₀ i₀ turns₀ out place i turns = turns ≤ 64

@@ -4,7 +4,7 @@ use image::Content;
 use machine::Machine;
 use machine::Thread;
 
-pub(crate) const PLACES: u8 = 64;
+pub const PLACES: u8 = 64;
 
 fn no_content() -> Content {
     Content {
@@ -15,7 +15,7 @@ fn no_content() -> Content {
 }
 
 // The cached content of a line.
-pub(crate) fn cached_of(m: Machine, line: u8) -> Content {
+pub fn cached_of(m: Machine, line: u8) -> Content {
     if line == 0 {
         let index = m.heads[0];
         return Content {
@@ -37,7 +37,7 @@ pub(crate) fn cached_of(m: Machine, line: u8) -> Content {
 }
 
 // The persisted content of a line.
-pub(crate) fn kept_of(m: Machine, line: u8) -> Content {
+pub fn kept_of(m: Machine, line: u8) -> Content {
     if line == 0 {
         let index = m.kept_heads[0];
         return Content {
@@ -54,7 +54,7 @@ pub(crate) fn kept_of(m: Machine, line: u8) -> Content {
     no_content()
 }
 
-pub(crate) fn thread_of(m: Machine, k: u8) -> Thread {
+pub fn thread_of(m: Machine, k: u8) -> Thread {
     let i = k as usize;
     if i < 8 {
         let th = m.threads[i];
@@ -72,7 +72,7 @@ pub(crate) fn thread_of(m: Machine, k: u8) -> Thread {
     }
 }
 
-pub(crate) fn same(a: Content, b: Content) -> bool {
+pub fn same(a: Content, b: Content) -> bool {
     a.linked == b.linked && a.index == b.index && a.item == b.item
 }
 
@@ -89,12 +89,12 @@ fn set(book: &mut [u64; 8385], i: usize, x: u64) {
     }
 }
 
-pub(crate) fn count_of(book: &[u64; 8385], line: u8) -> u8 {
+pub fn count_of(book: &[u64; 8385], line: u8) -> u8 {
     let n = get(book, (line as usize) * 129 + 128);
     (n % 65) as u8
 }
 
-pub(crate) fn content_at(book: &[u64; 8385], line: u8, j: u8) -> Content {
+pub fn content_at(book: &[u64; 8385], line: u8, j: u8) -> Content {
     let at = (line as usize) * 129 + (j as usize) * 2;
     let index = get(book, at);
     let rest = get(book, at + 1);
@@ -116,7 +116,7 @@ fn put_at(book: &mut [u64; 8385], line: u8, j: u8, c: Content) {
 }
 
 // The place of a content in a line's list; where it is not there, how many there are.
-pub(crate) fn seat_of(book: &[u64; 8385], line: u8, c: Content) -> u8 {
+pub fn seat_of(book: &[u64; 8385], line: u8, c: Content) -> u8 {
     let n = count_of(book, line);
     let mut j = 0;
     while j < n {
@@ -130,7 +130,7 @@ pub(crate) fn seat_of(book: &[u64; 8385], line: u8, c: Content) -> u8 {
 }
 
 // The line's cached content became c: it joins the list unless it is there. Its place.
-pub(crate) fn joined(book: &mut [u64; 8385], line: u8, c: Content) -> u8 {
+pub fn joined(book: &mut [u64; 8385], line: u8, c: Content) -> u8 {
     let n = count_of(book, line);
     let j = seat_of(book, line, c);
     if j == n && j < PLACES {
@@ -141,7 +141,7 @@ pub(crate) fn joined(book: &mut [u64; 8385], line: u8, c: Content) -> u8 {
 }
 
 // The line's list begins anew with c.
-pub(crate) fn begun(book: &mut [u64; 8385], line: u8, c: Content) {
+pub fn begun(book: &mut [u64; 8385], line: u8, c: Content) {
     put_at(book, line, 0, c);
     set(book, (line as usize) * 129 + 128, 1);
 }

@@ -115,7 +115,7 @@ fn event_fields(out: &mut [u8; 65536], at: usize, t: Told, e: Event) -> usize {
 }
 
 // The last row, or the last line.
-pub(crate) fn refused(out: &mut [u8; 65536], at: usize, columns: bool, t: Told, e: Event) -> usize {
+pub fn refused(out: &mut [u8; 65536], at: usize, columns: bool, t: Told, e: Event) -> usize {
     if columns {
         let first = put_all(out, at, b"refused");
         let second = field(out, first, t.number as u64);

@@ -39,7 +39,7 @@ fn item_or_index(v: Node, items: bool) -> u64 {
 }
 
 // The items of the queue, or their indices, apart by blanks, as the links run from the dummy on; - where there is none.
-pub(crate) fn queue(out: &mut [u8; 65536], at: usize, m: Machine, items: bool) -> usize {
+pub fn queue(out: &mut [u8; 65536], at: usize, m: Machine, items: bool) -> usize {
     let mut place = at;
     let mut i = m.head;
     let mut turns: u8 = 0;
@@ -64,7 +64,7 @@ pub(crate) fn queue(out: &mut [u8; 65536], at: usize, m: Machine, items: bool) -
 }
 
 // A content of a line: moment, line, place in its list.
-pub(crate) fn content_row(
+pub fn content_row(
     out: &mut [u8; 65536],
     at: usize,
     moment: usize,
@@ -124,7 +124,7 @@ fn lines_begun(
 }
 
 // In words: the dummy, the head index, the queue.
-pub(crate) fn recovered(out: &mut [u8; 65536], at: usize, m: Machine) -> usize {
+pub fn recovered(out: &mut [u8; 65536], at: usize, m: Machine) -> usize {
     let first = said(out, at, b"the dummy is node ", m.head as u64, b", ");
     let head = cached_of(m, 0);
     let second = said(out, first, b"head index ", head.index, b", queue ");
@@ -156,14 +156,14 @@ fn start_row(out: &mut [u8; 65536], at: usize, columns: bool, moment: usize, m: 
 }
 
 // How many lines a machine has.
-pub(crate) fn line_total(m: Machine) -> u8 {
+pub fn line_total(m: Machine) -> u8 {
     if m.n < 64 {
         return m.n + 1;
     }
     65
 }
 
-pub(crate) fn started(
+pub fn started(
     out: &mut [u8; 65536],
     at: usize,
     columns: bool,

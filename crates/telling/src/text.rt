@@ -6,24 +6,24 @@ use image::Content;
 use machine::Machine;
 
 // A number behind a tab.
-pub(crate) fn field(out: &mut [u8; 65536], at: usize, x: u64) -> usize {
+pub fn field(out: &mut [u8; 65536], at: usize, x: u64) -> usize {
     let place = put(out, at, b'\t');
     put_decimal(out, place, x)
 }
 
-pub(crate) fn end(out: &mut [u8; 65536], at: usize) -> usize {
+pub fn end(out: &mut [u8; 65536], at: usize) -> usize {
     put(out, at, b'\n')
 }
 
 // Words, a number, words.
-pub(crate) fn said(out: &mut [u8; 65536], at: usize, before: &[u8], x: u64, after: &[u8]) -> usize {
+pub fn said(out: &mut [u8; 65536], at: usize, before: &[u8], x: u64, after: &[u8]) -> usize {
     let first = put_all(out, at, before);
     let second = put_decimal(out, first, x);
     put_all(out, second, after)
 }
 
 // The same with two numbers.
-pub(crate) fn said_both(
+pub fn said_both(
     out: &mut [u8; 65536],
     at: usize,
     before: &[u8],
@@ -36,7 +36,7 @@ pub(crate) fn said_both(
 }
 
 // The event of a moment: moment 0 is the start, moment i + 1 event i.
-pub(crate) fn event_field(out: &mut [u8; 65536], at: usize, moment: usize) -> usize {
+pub fn event_field(out: &mut [u8; 65536], at: usize, moment: usize) -> usize {
     if moment == 0 {
         return put_all(out, at, b"\t-");
     }
@@ -44,18 +44,18 @@ pub(crate) fn event_field(out: &mut [u8; 65536], at: usize, moment: usize) -> us
 }
 
 // A1 to A12, D1 to D7.
-pub(crate) fn step_name(out: &mut [u8; 65536], at: usize, step: u8) -> usize {
+pub fn step_name(out: &mut [u8; 65536], at: usize, step: u8) -> usize {
     if step <= Machine::A12 {
         return said(out, at, b"A", step as u64, b"");
     }
     said(out, at, b"D", (step - Machine::A12) as u64, b"")
 }
 
-pub(crate) fn is_head(line: u8) -> bool {
+pub fn is_head(line: u8) -> bool {
     (line as usize) < Machine::HEADS
 }
 
-pub(crate) fn line_name(out: &mut [u8; 65536], at: usize, line: u8) -> usize {
+pub fn line_name(out: &mut [u8; 65536], at: usize, line: u8) -> usize {
     if line == 0 {
         return put_all(out, at, b"Head");
     }
@@ -63,7 +63,7 @@ pub(crate) fn line_name(out: &mut [u8; 65536], at: usize, line: u8) -> usize {
 }
 
 // A content as three fields.
-pub(crate) fn content_fields(out: &mut [u8; 65536], at: usize, line: u8, c: Content) -> usize {
+pub fn content_fields(out: &mut [u8; 65536], at: usize, line: u8, c: Content) -> usize {
     if is_head(line) {
         let first = put_all(out, at, b"\t-");
         let second = field(out, first, c.index);
@@ -74,7 +74,7 @@ pub(crate) fn content_fields(out: &mut [u8; 65536], at: usize, line: u8, c: Cont
     field(out, second, c.item as u64)
 }
 
-pub(crate) fn content_words(out: &mut [u8; 65536], at: usize, line: u8, c: Content) -> usize {
+pub fn content_words(out: &mut [u8; 65536], at: usize, line: u8, c: Content) -> usize {
     if is_head(line) {
         return said(out, at, b"index ", c.index, b"");
     }
@@ -88,7 +88,7 @@ pub(crate) fn content_words(out: &mut [u8; 65536], at: usize, line: u8, c: Conte
 }
 
 // Letters a to p, + for those behind.
-pub(crate) fn letter(out: &mut [u8; 65536], at: usize, j: u8) -> usize {
+pub fn letter(out: &mut [u8; 65536], at: usize, j: u8) -> usize {
     if j < 16 {
         return put(out, at, 97 + j);
     }

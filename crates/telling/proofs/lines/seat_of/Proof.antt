@@ -1,8 +1,8 @@
 use Prim.Native.Nat.{_-_, _≤_}
 use native.Mathlib.Omega.{arith}
 use borrow.Author.Needs.{needs}
-use Rattle.explain.proofs.lines.seat_of.Statement.{statement}
-use Rattle.explain.proofs.lines.seat_of.Tie as tie
+use Rattle.telling.proofs.lines.seat_of.Statement.{statement}
+use Rattle.telling.proofs.lines.seat_of.Tie as tie
 
 abbrev Inv-loop : tie.InvT-loop
 Inv-loop book line c n j₀ j = j ≤ n
