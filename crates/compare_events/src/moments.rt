@@ -8,7 +8,7 @@ use machine::Machine;
 
 // `REPLY VALUE RECORD`
 pub(crate) fn put_moment(out: &mut [u8; 65536], at: usize, t: Told, m: Machine) -> usize {
-    let mut bytes = [0u8; 1970];
+    let mut bytes = [0u8; record::SIZE];
     record::write_record(m, &mut bytes);
     let first = put_pair(out, at, t.reply as u64, t.item as u64);
     let second = put(out, first, b' ');
@@ -18,7 +18,7 @@ pub(crate) fn put_moment(out: &mut [u8; 65536], at: usize, t: Told, m: Machine) 
 
 // `REPLY VALUE SUM`
 pub(crate) fn put_moment_sum(out: &mut [u8; 65536], at: usize, t: Told, m: Machine) -> usize {
-    let mut bytes = [0u8; 1970];
+    let mut bytes = [0u8; record::SIZE];
     record::write_record(m, &mut bytes);
     let first = put_pair(out, at, t.reply as u64, t.item as u64);
     let second = put(out, first, b' ');

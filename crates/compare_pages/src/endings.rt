@@ -97,11 +97,22 @@ fn put_all_endings(
     put_sum_line(out, at, sum)
 }
 
-// A schedule that is taken has its image's N at byte 13, and at least one ending.
+// A schedule that is taken has its image's version at byte 11 and N at byte 13.
+fn size_of(s: &[u8]) -> usize
+    ensures { λ r. ⌜ (1 ≤ r) × (r ≤ 3329) ⌝ }
+{
+    let n = byte(s, 13) as usize;
+    if byte(s, 11) == 2 {
+        return 14 + n * 13;
+    }
+    10 + n * 9
+}
+
+// It has at least one ending.
 fn put_taken(out: &mut [u8; 65536], at: usize, s: &[u8], count: u32) -> usize {
-    let whole = 10 + (byte(s, 13) as usize) * 9;
+    let whole = size_of(s);
     let last = if count == 0 { 0 } else { count - 1 };
-    let mut lent = [0xaau8; 2305];
+    let mut lent = [0xaau8; 3329];
     let first = put_all(out, at, b"endings ");
     let second = put_decimal(out, first, count as u64);
     let third = put(out, second, b'\n');

@@ -12,7 +12,7 @@ returns : tie.Need-returns
 returns c = search needs
 
 slice-aggregate-read-record : tie.Need-slice-aggregate-read-record
-slice-aggregate-read-record c = let a = c .before .before .before .args in sym (length-take-le 1970 (a .s .now) (omega arith))
+slice-aggregate-read-record c = let a = c .before .before .before .args in sym (length-take-le _ (a .s .now) (omega arith))
 
 read-record-requires-2 : tie.Need-read-record-requires-2
 read-record-requires-2 c κs = search needs
