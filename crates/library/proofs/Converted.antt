@@ -44,15 +44,14 @@ narrow-refused κs s b z r p n =
 
 -- an image s, converted into a buffer that held b and now holds z; the image t that stands there, converted back into a buffer that held c and now holds w
 module _ (κs : Lfts 2) (s b z : RefT (List ℕ)) (r : ℕ) (λs : Lfts 2) (t c w : RefT (List ℕ)) (q : ℕ)
-  (bytes : Bytes (now s)) (taken : r % 256 ≡ 0) (room : length (now s) ≤ length (now c)) where
+    (bytes : Bytes (now s)) (taken : r % 256 ≡ 0) (room : length (now s) ≤ length (now c)) where
   pub widened-narrowed : widening.Post κs (s, (b, tt)) r (s, (z, tt)) → now t ≡ take (14 + at1 (now s) 5 * 13) (now z) → narrowing.Post λs (t, (c, tt)) q (t, (w, tt))
       → (q ≡ 0) × (now w ≡ now s ++ drop (length (now s)) (now c))
   unfolding packed
   widened-narrowed p e p′ =
       let h = number-taken (widenAnswer (now s) (length (now b))) 0 (ap (λ x. x % 256) (sym (p .0)) ∙ taken) in
       let o = wide-and-back (now s) bytes (now b) (now c) h room in
-      let f = e ∙ ap (take (14 + at1 (now s) 5 * 13)) (p .1) in
-      (
+      let f = e ∙ ap (take (14 + at1 (now s) 5 * 13)) (p .1) in (
         p′ .0 ∙ ap (λ (l : List ℕ). narrowGiven l (length (now c))) f ∙ ap (λ a. packed (told a) 0) (o .0),
         p′ .1 ∙ ap (λ (l : List ℕ). narrowed l (now c)) f ∙ o .1,
       )
@@ -63,8 +62,7 @@ module _ (κs : Lfts 2) (s b z : RefT (List ℕ)) (r : ℕ) (λs : Lfts 2) (t c 
   narrowed-widened p e p′ =
       let h = number-taken (narrowAnswer (now s) (length (now b))) 0 (ap (λ x. x % 256) (sym (p .0)) ∙ taken) in
       let o = narrow-and-back (now s) bytes (now b) (now c) h room in
-      let f = e ∙ ap (take (10 + at1 (now s) 5 * 9)) (p .1) in
-      (
+      let f = e ∙ ap (take (10 + at1 (now s) 5 * 9)) (p .1) in (
         p′ .0 ∙ ap (λ (l : List ℕ). widenGiven l (length (now c))) f ∙ ap (λ a. packed (told a) 0) (o .0),
         p′ .1 ∙ ap (λ (l : List ℕ). widened l (now c)) f ∙ o .1,
       )
