@@ -215,7 +215,7 @@ static void event_refusals(void) {
     expect("kind 6", event(record, 6, 0), refusal(UQ_KIND, 0));
     expect("a record too short", uq_event(record, UQ_RECORD - 1, UQ_STEP, 0, 0), refusal(UQ_LENGTH, 0));
     expect("the record stays", same(record, before, UQ_RECORD), 1);
-    record[0] = 65;
+    record[6] = 65;
     expect("65 nodes", event(record, UQ_CRASH, 0), refusal(UQ_RANGE, 0));
 }
 
@@ -231,7 +231,7 @@ static void record_refusals(void) {
     expect("no room for an image", uq_save(record, UQ_RECORD, buffer, IMAGE - 1), refusal(UQ_ROOM, 0));
     expect("no room for six", uq_places(record, UQ_RECORD, buffer, UQ_PLACES - 1), refusal(UQ_ROOM, 0));
     expect("no record to save", uq_save(record, 0, buffer, IMAGE), refusal(UQ_LENGTH, 0));
-    record[1] = 0;
+    record[7] = 0;
     expect("a record of no threads", uq_save(record, UQ_RECORD, buffer, 0), refusal(UQ_RANGE, 0));
     expect("its places", uq_places(record, UQ_RECORD, buffer, 0), refusal(UQ_RANGE, 0));
     for (int i = 0; i < IMAGE; i++) expect("a byte after a refusal", buffer[i], 0);
