@@ -36,7 +36,7 @@ static u64 damaged(u8 *image)
     image[6] = (u8)below(3);
     for (u64 node = 0; node < image[5]; node++) {
         u8 *line = image + linked_at(image, node);
-        line[0] = (u8)(chance(15) ? below(256) : chance(80));
+        line[0] = (u8)(chance(15) ? below(256) : (u32)chance(80));
         line[1] = (u8)(1 + below(image[5] + 3u));
         line[wide] = (u8)(chance(5) ? below(256) : 0); /* the index's highest byte */
         line[1 + wide] = (u8)random_bits();
