@@ -16,6 +16,9 @@ from drawing.page import page
 
 LARGE = 2000              # so many endings are put together as images; of more the printed page alone is compared
 
+INDEX = {1: "I", 2: "Q"}  # an index by the image's version
+
+
 def schedules(stream):
     at = 0
     while at < len(stream):
@@ -50,19 +53,20 @@ def kept_in(rows):
     return [lines[line] for line in sorted(lines)]
 
 
-def image_of(contents):
-    """One content a line, as an image: Head's index, then linked, index and item of each node."""
-    out = b"UQI" + struct.pack("<HBI", 1, len(contents) - 1, int(contents[0][1]))
-    return out + b"".join(struct.pack("<BII", *(int(x) for x in content)) for content in contents[1:])
+def image_of(version, contents):
+    """One content a line, as an image of a version: Head's index, then linked, index and item of each node."""
+    index = INDEX[version]
+    out = b"UQI" + struct.pack("<HB" + index, version, len(contents) - 1, int(contents[0][1]))
+    return out + b"".join(struct.pack("<B" + index + "I", *(int(x) for x in content)) for content in contents[1:])
 
 
-def images_in(rows):
-    """The images that the rows say: each ending's letters name a content of each line that has a choice."""
+def images_in(version, rows):
+    """The images that the rows say, in the version of the schedule's: each ending's letters name a content of each line that has a choice."""
     lines = kept_in(rows)
     for row in rows:
         if row[0] == "ending":
             letters = iter("" if row[2] == "-" else row[2])
-            yield image_of([line["abcdefghijklmnop".index(next(letters))] if len(line) > 1 else line[0] for line in lines])
+            yield image_of(version, [line["abcdefghijklmnop".index(next(letters))] if len(line) > 1 else line[0] for line in lines])
 
 
 def sum_of(images):
@@ -78,8 +82,10 @@ def contents_over(images):
     """For each line its contents over all endings, in the order in which they first appear: in each line the oldest comes first."""
     lines = []
     for image in images:
-        heads = [("-", str(struct.unpack_from("<I", image, 6)[0]), "-")]
-        nodes = [tuple(str(x) for x in struct.unpack_from("<BII", image, at)) for at in range(10, len(image), 9)]
+        index = INDEX[image[3]]
+        heads = [("-", str(struct.unpack_from("<" + index, image, 6)[0]), "-")]
+        first, size = 6 + struct.calcsize("<" + index), struct.calcsize("<B" + index + "I")
+        nodes = [tuple(str(x) for x in struct.unpack_from("<B" + index + "I", image, at)) for at in range(first, len(image), size)]
         lines = lines or [[] for _ in heads + nodes]
         for line, content in zip(lines, heads + nodes):
             if content not in line:
@@ -118,12 +124,12 @@ def wrong_in_drawing(html):
         yield "the drawing is not well-formed: %s" % error
 
 
-def wrong_beside(rows, second):
+def wrong_beside(version, rows, second):
     """What is not as the second program has it."""
     count, images, total = second
     if images and kept_in(rows) != contents_over(images):
         yield "the contents of its lines are not those of the second program's endings"
-    if count <= LARGE and sum_of(images_in(rows)) != total:
+    if count <= LARGE and sum_of(images_in(version, rows)) != total:
         yield "its endings, put together from the contents of its lines, are not the second program's"
 
 
@@ -134,7 +140,7 @@ def wrong_with(schedule, explain, endings, second):
     if lines_of_page(rows) != (page_lines if second is None else page_lines[1:]):
         yield "its rows are not the printed page"
     if second is not None:
-        yield from wrong_beside(rows, second)
+        yield from wrong_beside(schedule[11], rows, second)
     yield from wrong_in_drawing(page(text, "a generated schedule"))
     planted = text.replace("\nkept\t", "\nkept\t0\t0\t-\t77\t-\nkept\t", 1)
     if planted != text and "disagree" not in page(planted, "planted"):
