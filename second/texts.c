@@ -55,11 +55,16 @@ static void add_some_number(u32 limit, u32 strange)
         add_long_number();
 }
 
-/* An index: near the largest of the version that was said, on either side of 32 bits in version 2, or anywhere below; else as any number. */
+/* An index: near the largest of the version that was said, on either side of 32 bits in version 2, or anywhere below; else as any number. Now and then one
+   that is just too large for the version. */
 static void add_index(u32 limit, u32 strange)
 {
     u64 largest = largest_index(version_said);
-    if (chance(strange) || chance(40))
+    if (chance(1 + strange / 4) && version_said == WIDE)
+        add_long_number();
+    else if (chance(1 + strange / 4))
+        add_digits(chance(70) ? 4294967296u : random_bits());
+    else if (chance(strange) || chance(40))
         add_some_number(limit, strange);
     else if (chance(40))
         add_digits(largest - below(4));
@@ -122,19 +127,21 @@ static void add_line(u32 nodes, u32 strange, u32 from)
     end_line();
 }
 
-/* Mostly 2 or 1; sometimes a version that there is not, or a number of more than 64 bits. */
-static void add_version(void)
+/* Mostly 2 or 1; else a version that there is not, or a number of more than 64 bits. */
+static void add_version(u32 strange)
 {
     u32 version = chance(70) ? WIDE : NARROW;
     add_word("version");
     add_blanks();
-    if (chance(92)) {
+    if (!chance(strange)) {
         version_said = version;
         add_digits(version);
-    } else if (chance(50)) {
+    } else if (chance(40)) {
         add_digits(chance(50) ? 3 : 0);
-    } else {
+    } else if (chance(50)) {
         add_some_number(5, 70);
+    } else {
+        add_long_number();
     }
     end_line();
 }
@@ -142,10 +149,14 @@ static void add_version(void)
 /* Lines in front of `nodes`, where none may stand. */
 static void add_too_early(void)
 {
-    if (chance(40))
-        add_version();
-    else
+    if (chance(40)) {
+        add_version(40);
+    } else if (chance(50)) {
+        add_pattern(chance(50) ? "head ^" : "node % % ^ %", 3, 60);
+        end_line();
+    } else {
         add_line(3, 40, 0);
+    }
     version_said = NARROW;
 }
 
@@ -154,7 +165,7 @@ static void add_version_in_time(u32 nodes, u32 strange)
 {
     for (u32 n = chance(60) ? 0 : below(6); n > 0; n--)
         add_line(nodes, strange, INDICES);
-    add_version();
+    add_version(6);
 }
 
 u64 generate_text(u64 seed, u64 number, u8 *to)
@@ -166,7 +177,7 @@ u64 generate_text(u64 seed, u64 number, u8 *to)
     u32 again = chance(85) ? 0 : 10; /* for `version` a second time, or behind an index */
     while (chance(15))
         end_line();
-    if (chance(3))
+    if (chance(4))
         add_too_early();
     if (!chance(2)) {
         add_word("nodes");
@@ -184,7 +195,7 @@ u64 generate_text(u64 seed, u64 number, u8 *to)
             add_damage();
             end_line();
         } else if (chance(again)) {
-            add_version();
+            add_version(30);
         } else {
             add_line(nodes, strange, 0);
         }
