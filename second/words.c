@@ -16,8 +16,12 @@ typedef struct Cut_line {
 
 /* What has been said so far. */
 typedef struct Telling {
-    int named; /* `nodes` has stood */
-    u32 n, t, head;
+    int named;     /* `nodes` has stood */
+    int versioned; /* `version` has stood */
+    int indexed;   /* a `head` or `node` has stood */
+    u32 n, t;
+    u32 version; /* NARROW or WIDE, by the same numbers */
+    u64 head;
     Content nodes[MOST_NODES];
     Event events[MOST_EVENTS];
     u32 event_count;
@@ -82,7 +86,7 @@ static u32 take_number(Piece word, u64 most, u64 *value)
     return big ? NUMBER_TOO_BIG : GOOD;
 }
 
-/* ---- patterns: `%` stands for a number, other words for themselves */
+/* ---- patterns: `%` stands for a number, `^` for an index, other words for themselves */
 
 typedef struct Pattern {
     const char *words[MOST_WORDS];
@@ -91,25 +95,37 @@ typedef struct Pattern {
     u32 what; /* a kind of event, or one of those below */
 } Pattern;
 
-enum { ANY_KIND = 100, NODES, THREADS, HEAD, NODE };
+enum { ANY_KIND = 100, NODES, THREADS, VERSION, HEAD, NODE };
 
 #define BYTE 255u
 #define WORD 4294967295u
-#define WIDE 18446744073709551615u
+#define BITS_64 18446744073709551615u
 
 static const Pattern patterns[] = {
-    {{"nodes", "%"}, {0, WIDE}, 2, NODES},
+    {{"nodes", "%"}, {0, BITS_64}, 2, NODES},
     {{"threads", "%"}, {0, BYTE}, 2, THREADS},
-    {{"head", "%"}, {0, WORD}, 2, HEAD},
-    {{"node", "%", "%", "%", "%"}, {0, WIDE, BYTE, WORD, WORD}, 5, NODE},
+    {{"version", "%"}, {0, BITS_64}, 2, VERSION},
+    {{"head", "^"}, {0}, 2, HEAD},
+    {{"node", "%", "%", "^", "%"}, {0, BITS_64, BYTE, 0, WORD}, 5, NODE},
     {{"%", "enqueue", "%"}, {BYTE, 0, WORD}, 3, BEGIN_ENQUEUE},
     {{"%", "dequeue"}, {BYTE}, 2, BEGIN_DEQUEUE},
     {{"%", "step"}, {BYTE}, 2, STEP},
-    {{"%", "step", "%"}, {BYTE, 0, WIDE}, 3, STEP},
+    {{"%", "step", "%"}, {BYTE, 0, BITS_64}, 3, STEP},
     {{"write-back", "%"}, {0, BYTE}, 2, WRITE_BACK},
     {{"crash"}, {0}, 1, CRASH},
     {{"event", "%", "%", "%"}, {0, BYTE, BYTE, WORD}, 4, ANY_KIND},
 };
+
+static int is_place(const char *word)
+{
+    return word[0] == '%' || word[0] == '^';
+}
+
+/* "H and INDEX are held against the version that was said, and against version 1 where none was." */
+static u64 most_at(const Pattern *p, u32 i)
+{
+    return p->words[i][0] == '^' ? largest_index(telling.version) : p->most[i];
+}
 
 /* Whether all words of the pattern that are no numbers stand there; then its numbers, and the worst that is wrong with one. */
 static int fits_pattern(const Pattern *p, const Cut_line *line, u64 *numbers, u32 *fault)
@@ -117,14 +133,14 @@ static int fits_pattern(const Pattern *p, const Cut_line *line, u64 *numbers, u3
     if (line->count != p->count)
         return 0;
     for (u32 i = 0; i < p->count; i++)
-        if (p->words[i][0] != '%' && !is_name(line->words[i], p->words[i]))
+        if (!is_place(p->words[i]) && !is_name(line->words[i], p->words[i]))
             return 0;
     u32 taken = 0;
     *fault = GOOD;
     for (u32 i = 0; i < p->count; i++) {
-        if (p->words[i][0] != '%')
+        if (!is_place(p->words[i]))
             continue;
-        u32 f = take_number(line->words[i], p->most[i], &numbers[taken++]);
+        u32 f = take_number(line->words[i], most_at(p, i), &numbers[taken++]);
         if (f == NOT_UNDERSTOOD || *fault == GOOD)
             *fault = f == GOOD ? *fault : f;
     }
@@ -154,11 +170,29 @@ static u32 say_nodes(u64 n)
     return GOOD;
 }
 
+/* "only once, and in front of every `head` and `node`" */
+static u32 say_version(u64 version)
+{
+    if (telling.versioned || telling.indexed || (version != NARROW && version != WIDE))
+        return NOT_UNDERSTOOD;
+    telling.versioned = 1;
+    telling.version = (u32)version;
+    return GOOD;
+}
+
+static u32 say_head(u64 index)
+{
+    telling.indexed = 1;
+    telling.head = index;
+    return GOOD;
+}
+
 static u32 say_node(const u64 *numbers)
 {
     if (numbers[0] >= telling.n)
         return NUMBER_TOO_BIG;
-    Content c = {(u32)numbers[1], (u32)numbers[2], (u32)numbers[3], 0};
+    Content c = {(u32)numbers[1], numbers[2], (u32)numbers[3], 0};
+    telling.indexed = 1;
     telling.nodes[numbers[0]] = c;
     return GOOD;
 }
@@ -171,7 +205,8 @@ static u32 say(const Pattern *p, const u64 *numbers)
         return NOT_UNDERSTOOD;
     switch (p->what) {
     case THREADS: telling.t = (u32)numbers[0]; return GOOD;
-    case HEAD: telling.head = (u32)numbers[0]; return GOOD;
+    case VERSION: return say_version(numbers[0]);
+    case HEAD: return say_head(numbers[0]);
     case NODE: return say_node(numbers);
     case BEGIN_ENQUEUE: return say_events(BEGIN_ENQUEUE, numbers[0], numbers[1], 1);
     case STEP: return say_events(STEP, numbers[0], 0, p->count == 3 ? numbers[1] : 1);
@@ -198,9 +233,11 @@ static u32 listen(const u8 *text, u64 length, u64 *at_line)
 {
     const u8 *end = text + length;
     Content blank = {0, 0, 0, 0};
-    telling.named = 0;
+    telling.named = telling.versioned = telling.indexed = 0;
     telling.t = 1;
-    telling.n = telling.head = telling.event_count = 0;
+    telling.version = NARROW;
+    telling.n = telling.event_count = 0;
+    telling.head = 0;
     for (u32 i = 0; i < MOST_NODES; i++)
         telling.nodes[i] = blank;
     for (*at_line = 0;; ++*at_line) {
@@ -217,32 +254,39 @@ static u32 listen(const u8 *text, u64 length, u64 *at_line)
     }
 }
 
+static void put_mark(u8 *to, u8 letter, u32 version)
+{
+    to[0] = 'U';
+    to[1] = 'Q';
+    to[2] = letter;
+    put2(to + 3, version);
+}
+
 /* The bytes of what was said. */
 static u64 told_bytes(u8 *to)
 {
     u8 *at = to;
-    static const u8 first[5] = {'U', 'Q', 'S', 1, 0}, second[5] = {'U', 'Q', 'I', 1, 0};
-    for (u32 i = 0; i < 5; i++)
-        at[i] = first[i];
+    u32 form = telling.version;
+    put_mark(at, 'S', 1);
     at[5] = (u8)telling.t;
     put2(at + 6, telling.event_count);
     at += SCHEDULE_HEAD;
-    for (u32 i = 0; i < 5; i++)
-        at[i] = second[i];
+    put_mark(at, 'I', form);
     at[5] = (u8)telling.n;
-    put4(at + 6, telling.head);
-    at += image_head(NARROW);
-    for (u32 i = 0; i < telling.n; i++, at += image_node(NARROW)) {
+    put_index(form, at + 6, telling.head);
+    at += image_head(form);
+    for (u32 i = 0; i < telling.n; i++, at += image_node(form)) {
         at[0] = (u8)telling.nodes[i].linked;
-        put4(at + 1, telling.nodes[i].index);
-        put4(at + 5, telling.nodes[i].item);
+        put_index(form, at + 1, telling.nodes[i].index);
+        put4(at + 1 + index_bytes(form), telling.nodes[i].item);
     }
     for (u32 i = 0; i < telling.event_count; i++, at += EVENT_BYTES)
         event_to_bytes(&telling.events[i], at);
     return (u64)(at - to);
 }
 
-static u8 made[SCHEDULE_HEAD + 10 + 9 * MOST_NODES + EVENT_BYTES * MOST_EVENTS];
+/* 396,547 bytes: the image of version 2 is the longer one. */
+static u8 made[SCHEDULE_HEAD + 14 + 13 * MOST_NODES + EVENT_BYTES * MOST_EVENTS];
 
 /* A line: what is wrong, its line, and the bytes in hex. */
 static void print_unwords(const u8 *bytes, u64 length)
@@ -294,12 +338,22 @@ static void put_event_line(const Schedule *s, u32 i, u32 times)
     put_text("\n");
 }
 
-/* Entry k: one of the first three lines, a node, or an event. */
+/* "entry 2 is the head's with the version's before it where it has one" */
+static void put_first_lines(const Schedule *s, u32 k)
+{
+    if (k == 2 && s->image.form != NARROW) {
+        put_blank_number("version ", s->image.form);
+        put_text("\n");
+    }
+    put_blank_number(k == 0 ? "nodes " : k == 1 ? "threads " : "head ", k == 0 ? s->image.n : k == 1 ? s->t : s->image.head_index);
+    put_text("\n");
+}
+
+/* Entry k: one of the first three, a node, or an event. */
 static void put_entry(const Schedule *s, u32 k)
 {
     if (k < 3) {
-        put_blank_number(k == 0 ? "nodes " : k == 1 ? "threads " : "head ", k == 0 ? s->image.n : k == 1 ? s->t : s->image.head_index);
-        put_text("\n");
+        put_first_lines(s, k);
     } else if (k < 3 + s->image.n) {
         Content c = s->image.nodes[k - 3];
         if (c.linked == 0 && c.index == 0 && c.item == 0)
@@ -327,12 +381,15 @@ static u32 entry_count(const Schedule *s)
     return 3 + s->image.n + s->event_count;
 }
 
-/* docs/WORDS.md: "The image is of version 1". Any other version is a wrong one here, so 2. */
+/* The words know versions 1 and 2 alone: the forms that other requests bring are wrong ones here, so 2, also where they are on. */
 static Verdict read_spoken(const u8 *bytes, u64 length, Schedule *s)
 {
-    only_form = NARROW;
+    int desks = on(DESKS_TOO), queues = on(QUEUES_TOO);
+    set(DESKS_TOO, 0);
+    set(QUEUES_TOO, 0);
     Verdict v = read_schedule(bytes, length, s);
-    only_form = 0;
+    set(DESKS_TOO, (u32)desks);
+    set(QUEUES_TOO, (u32)queues);
     return v;
 }
 
