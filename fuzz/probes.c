@@ -4,7 +4,7 @@
 
 u64 probe_numbers_seen[NUMBERS], probes_differing;
 
-enum { PROBE_HEAD = 8, EVENTS_MOST = 400, PROBE_EVENT = 12, OWN_EVENT = 6, RECORD = 1970 };
+enum { PROBE_HEAD = 8, EVENTS_MOST = 400, PROBE_EVENT = 12, OWN_EVENT = 6, RECORD = UQ_RECORD };
 
 static u8 file[PROBE_HEAD + 1000 + PROBE_EVENT * EVENTS_MOST];
 

@@ -310,6 +310,7 @@ Verdict record_from_bytes(const u8 *bytes, u64 length, Machine *m)
     Walk walk = {0, bytes, RECORD_MARK};
     if (length != record_bytes())
         return verdict(WRONG_LENGTH, 0);
+    *m = (Machine){0}; /* what the bytes do not have */
     walk_machine(&walk, m);
     if (bytes[0] != 'U' || bytes[1] != 'Q' || bytes[2] != 'M' || get2(bytes + 3) != RECORD_VERSION)
         return verdict(WRONG_MARK, 0);
