@@ -1,4 +1,9 @@
 // The stop: which desks stand where, what each line may hold, and the endings.
+use compare::text::put;
+use compare::text::put_all;
+use image::Content;
+use image::Image;
+use machine::Machine;
 use telling::lines::begun;
 use telling::lines::cached_of;
 use telling::lines::content_at;
@@ -16,11 +21,6 @@ use telling::text::letter;
 use telling::text::line_name;
 use telling::text::said;
 use telling::text::step_name;
-use compare::text::put;
-use compare::text::put_all;
-use image::Content;
-use image::Image;
-use machine::Machine;
 
 fn next_step(out: &mut [u8; 65536], at: usize, columns: bool, m: Machine, k: u8) -> usize {
     let th = thread_of(m, k);
