@@ -127,6 +127,17 @@ static void mend(void) {
     result = uq_mend(schedule + 8, schedule[11] == 2 ? 14 + 13 * (size_t)schedule[13] : 10 + 9 * (size_t)schedule[13], mended, sizeof mended, list, sizeof list);
 }
 
+/* The schedule as a probe file in which nothing was answered: the replay runs up to the first answer. */
+static void replay(void) {
+    static uint8_t file[UQ_MAX_PROBE];
+    size_t events = 18 + 9 * (size_t)schedule[13], to = 0;
+    for (size_t i = 0; i < length && to < sizeof file; i++) {
+        file[to++] = i == 2 ? 'R' : schedule[i];
+        if (i >= events && (i - events) % 6 == 5) to += 6;
+    }
+    result = uq_replay(file, to, buffer, sizeof buffer);
+}
+
 static void (*call)(void);
 static uint8_t *entry;
 
@@ -188,5 +199,6 @@ int main(void) {
     measure("uq_places", places);
     measure("uq_judge", judge);
     measure("uq_mend", mend);
+    measure("uq_replay", replay);
     return bad;
 }

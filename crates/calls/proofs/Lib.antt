@@ -1,3 +1,4 @@
 pub mod Apart
 pub mod Laws
 pub mod LineLaws
+pub mod ReplayLaws

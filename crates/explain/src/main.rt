@@ -2,7 +2,6 @@
 // hold at the stop, and with an ending's number as the argument which content each line has there and what recovery makes of it. With the
 // argument `columns` the same facts, and every ending, as rows (docs/COLUMNS.md). Every value comes from a public call; the words are not proved.
 mod asked;
-mod stops;
 
 use answer::Told;
 use answer::told_of;
@@ -101,7 +100,7 @@ fn events_told(
             };
         }
         let after = r.machine;
-        let next = telling::turns::happened(
+        let next = deeds::turns::happened(
             out,
             place,
             columns,

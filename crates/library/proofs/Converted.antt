@@ -13,7 +13,7 @@ use Rattle.image.proofs.ByteLaws.{Bytes}
 use Rattle.converting.specs.Converted.{widenAnswer, widened, narrowAnswer, narrowed}
 use Rattle.converting.proofs.Laws.{refused-same}
 use Rattle.converting.proofs.Versions.{wide-and-back, narrow-and-back}
-use Rattle.library.specs.Conversions.{widenGiven, narrowGiven}
+use Rattle.calls.specs.Conversions.{widenGiven, narrowGiven}
 use Rattle.calls.specs.Packed.{packed}
 use Rattle.library.proofs.Refused.{Refused, not-taken}
 use Rattle.library.proofs.Whole.{number-taken}

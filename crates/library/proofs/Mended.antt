@@ -9,7 +9,7 @@ use denote.Ref.{RefT, now}
 use lib.ListN.{length}
 use Rattle.answer.specs.Answers.{told, accepted}
 use Rattle.mending.specs.Bytes.{mendChanged, mendAnswer, mendCount, mendWritten, listWritten}
-use Rattle.library.specs.Mend.{mendGiven}
+use Rattle.calls.specs.Mend.{mendGiven}
 use Rattle.calls.proofs.Apart as apart
 use Rattle.library.proofs.Refused.{Refused, not-taken}
 use Rattle.library.proofs.mend.uq_mend.Reads as mend

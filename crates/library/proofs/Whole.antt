@@ -21,7 +21,7 @@ use Rattle.filling.proofs.Answers as answers
 use Rattle.filling.proofs.Numbers as numbers
 use Rattle.filling.proofs.Wide as wide
 use Rattle.calls.specs.Packed.{packed, linesOf}
-use Rattle.library.specs.Texts.{linesGiven, refusalGiven}
+use Rattle.calls.specs.Texts.{linesGiven, refusalGiven}
 use Rattle.judging.specs.Judged.{numberOf, judgedIn}
 use Rattle.judging.proofs.Small.{judged-small}
 use Rattle.judging.proofs.Turns.{number-le}

@@ -2,8 +2,7 @@
 ghost use mathlib.Core.Path.{_≡_};
 ghost use lib.ListN.{length};
 ghost use Rattle.converting.specs.Converted.{widened, narrowed};
-ghost use Rattle.library.specs.Conversions.{widenGiven, narrowGiven};
-use calls::packing::packed_of;
+ghost use Rattle.calls.specs.Conversions.{widenGiven, narrowGiven};
 
 // An image of version 1 as one of version 2, into the buffer's first 14 + 13N bytes.
 #[no_mangle]
@@ -11,8 +10,7 @@ pub extern "C" fn uq_widen(image: &[u8], buffer: &mut [u8]) -> u64
     ensures answers { λ r. ⌜ r ≡ widenGiven (now (image .entry)) (length (now (buffer .entry))) ⌝ }
     ensures bytes { λ r. ⌜ now (buffer .exit) ≡ widened (now (image .entry)) (now (buffer .entry)) ⌝ }
 {
-    let wide = converting::widen(image, buffer);
-    packed_of(wide, 0)
+    imagecalls::widen(image, buffer)
 }
 
 // An image of version 2 as one of version 1, where head and every index fit, into the buffer's first 10 + 9N bytes.
@@ -21,6 +19,5 @@ pub extern "C" fn uq_narrow(image: &[u8], buffer: &mut [u8]) -> u64
     ensures answers { λ r. ⌜ r ≡ narrowGiven (now (image .entry)) (length (now (buffer .entry))) ⌝ }
     ensures bytes { λ r. ⌜ now (buffer .exit) ≡ narrowed (now (image .entry)) (now (buffer .entry)) ⌝ }
 {
-    let slim = converting::narrow(image, buffer);
-    packed_of(slim, 0)
+    imagecalls::narrow(image, buffer)
 }

@@ -9,5 +9,5 @@ pub extern "C" fn uq_judge(history: &[u8], order: &mut [u8]) -> u64
     ensures answers { λ r. ⌜ r ≡ judgeGiven (now (history .entry)) (length (now (order .entry))) ⌝ }
     ensures written { λ r. ⌜ now (order .exit) ≡ judgeWritten (now (history .entry)) (now (order .entry)) ⌝ }
 {
-    calls::histories::judge(history, order)
+    historycalls::judge(history, order)
 }

@@ -9,5 +9,5 @@ pub extern "C" fn uq_line(schedule: &[u8], line: u32, buffer: &mut [u8]) -> u64
     ensures answers { λ r. ⌜ r ≡ lineGiven (now (schedule .entry)) line (length (now (buffer .entry))) ⌝ }
     ensures written { λ r. ⌜ now (buffer .exit) ≡ lineWritten (now (schedule .entry)) line (now (buffer .entry)) ⌝ }
 {
-    calls::line::line(schedule, line, buffer)
+    linecalls::line(schedule, line, buffer)
 }

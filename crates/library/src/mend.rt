@@ -2,8 +2,7 @@
 ghost use mathlib.Core.Path.{_≡_};
 ghost use lib.ListN.{length};
 ghost use Rattle.mending.specs.Bytes.{mendWritten, listWritten};
-ghost use Rattle.library.specs.Mend.{mendGiven};
-use calls::packing::packed_of;
+ghost use Rattle.calls.specs.Mend.{mendGiven};
 
 // The image, mended, into the buffer's front; node and reason of each changed node, in node order, into the list's. The value is how many were changed.
 #[no_mangle]
@@ -12,8 +11,5 @@ pub extern "C" fn uq_mend(image: &[u8], buffer: &mut [u8], list: &mut [u8]) -> u
     ensures written { λ r. ⌜ now (buffer .exit) ≡ mendWritten (now (image .entry)) (now (buffer .entry)) (now (list .entry)) ⌝ }
     ensures listed { λ r. ⌜ now (list .exit) ≡ listWritten (now (image .entry)) (now (buffer .entry)) (now (list .entry)) ⌝ }
 {
-    let m = mending::mend_image(image, buffer, list);
-    let a = m.answer;
-    let count = m.count;
-    packed_of(a, count as u64)
+    imagecalls::mend(image, buffer, list)
 }

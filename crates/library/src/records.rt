@@ -9,7 +9,7 @@ pub extern "C" fn uq_start(image: &[u8], threads: u8, bytes: &mut [u8]) -> u64
     ensures answers { λ r. ⌜ r ≡ started (now (image .entry)) threads (length (now (bytes .entry))) ⌝ }
     ensures written { λ r. ⌜ now (bytes .exit) ≡ startWritten (now (image .entry)) threads (now (bytes .entry)) ⌝ }
 {
-    calls::records::start(image, threads, bytes)
+    recordcalls::start(image, threads, bytes)
 }
 
 // One event on a record's bytes, in place. The value is what an operation answered with it.
@@ -18,7 +18,7 @@ pub extern "C" fn uq_event(bytes: &mut [u8], kind: u8, number: u8, item: u32) ->
     ensures answers { λ r. ⌜ r ≡ happened (now (bytes .entry)) (eventGiven kind number item) ⌝ }
     ensures written { λ r. ⌜ now (bytes .exit) ≡ eventWritten (now (bytes .entry)) (eventGiven kind number item) ⌝ }
 {
-    calls::records::event(bytes, kind, number, item)
+    recordcalls::event(bytes, kind, number, item)
 }
 
 // The persisted image of a record into the buffer's first 10 + 9N bytes, in version 2 14 + 13N.
@@ -27,7 +27,7 @@ pub extern "C" fn uq_save(bytes: &[u8], buffer: &mut [u8]) -> u64
     ensures answers { λ r. ⌜ r ≡ savedBytes (now (bytes .entry)) (length (now (buffer .entry))) ⌝ }
     ensures written { λ r. ⌜ now (buffer .exit) ≡ saveWritten (now (bytes .entry)) (now (buffer .entry)) ⌝ }
 {
-    calls::records::save(bytes, buffer)
+    recordcalls::save(bytes, buffer)
 }
 
 // How many nodes of a record are in each of the six places, into the buffer's first six bytes.
@@ -36,5 +36,5 @@ pub extern "C" fn uq_places(bytes: &[u8], buffer: &mut [u8]) -> u64
     ensures answers { λ r. ⌜ r ≡ placesCounted (now (bytes .entry)) (length (now (buffer .entry))) ⌝ }
     ensures written { λ r. ⌜ now (buffer .exit) ≡ placesWritten (now (bytes .entry)) (now (buffer .entry)) ⌝ }
 {
-    calls::records::places(bytes, buffer)
+    recordcalls::places(bytes, buffer)
 }

@@ -1,7 +1,5 @@
-// A run told in words or as rows: lines and their contents, starts, events and what they did, refusals.
-pub mod deeds;
+// A run told in words or as rows: lines and their contents, starts, refusals. Events are told by crate deeds, the stop by crate stops.
 pub mod lines;
 pub mod refusals;
 pub mod starts;
 pub mod text;
-pub mod turns;

@@ -1,0 +1,199 @@
+// What a step did, in words: from the records before and after it.
+use compare::text::put_all;
+use machine::Machine;
+use machine::Thread;
+use telling::lines::cached_of;
+use telling::lines::thread_of;
+use telling::text::said;
+use telling::text::said_both;
+use telling::text::step_name;
+
+fn index_of(m: Machine, i: u8) -> u64 {
+    let k = i as usize;
+    if k < 64 {
+        let v = m.nodes[k];
+        return v.index;
+    }
+    0
+}
+
+// A node's number, or none.
+fn node_or_none(out: &mut [u8; 65536], at: usize, i: u8) -> usize {
+    if i == 255 {
+        return put_all(out, at, b"none");
+    }
+    said(out, at, b"node ", i as u64, b"")
+}
+
+fn next_of(m: Machine, i: u8) -> u8 {
+    let k = i as usize;
+    if k < 64 {
+        let v = m.nodes[k];
+        return v.next;
+    }
+    255
+}
+
+// A6 and D2.
+fn next_read(out: &mut [u8; 65536], at: usize, m: Machine, of: u8, step: u8) -> usize {
+    let first = said(out, at, b"next of node ", of as u64, b" read: ");
+    let second = node_or_none(out, first, next_of(m, of));
+    let third = put_all(out, second, b", on to ");
+    step_name(out, third, step)
+}
+
+fn a7(out: &mut [u8; 65536], at: usize, b: Thread, th: Thread, after: Machine) -> usize {
+    if th.step == 0 {
+        return said(
+            out,
+            at,
+            b"the index of node ",
+            b.tail as u64,
+            b" is the largest: the node is free again",
+        );
+    }
+    said_both(
+        out,
+        at,
+        b"index of node ",
+        b.node as u64,
+        b" set to ",
+        index_of(after, b.node),
+    )
+}
+
+fn a8(out: &mut [u8; 65536], at: usize, b: Thread, th: Thread) -> usize {
+    if th.step == Machine::A9 {
+        return said_both(
+            out,
+            at,
+            b"node ",
+            b.node as u64,
+            b" becomes the next of node ",
+            b.tail as u64,
+        );
+    }
+    said(
+        out,
+        at,
+        b"next of node ",
+        b.tail as u64,
+        b" is no longer none, on to A12",
+    )
+}
+
+// A11 and A12: Tail becomes `to` if it is still `from`.
+fn tail_moves(out: &mut [u8; 65536], at: usize, m: Machine, after: Machine, from: u8) -> usize {
+    if m.tail == from {
+        return said(out, at, b"Tail becomes node ", after.tail as u64, b"");
+    }
+    said(
+        out,
+        at,
+        b"Tail is no longer node ",
+        from as u64,
+        b" and stays",
+    )
+}
+
+fn enqueue_deed(
+    out: &mut [u8; 65536],
+    at: usize,
+    b: Thread,
+    th: Thread,
+    m: Machine,
+    after: Machine,
+) -> usize {
+    let node = b.node as u64;
+    let step = b.step;
+    match step {
+        Machine::A1 => {
+            if th.step == 0 {
+                return put_all(out, at, b"no node is free");
+            }
+            said(out, at, b"takes node ", th.node as u64, b"")
+        }
+        Machine::A2 => said_both(out, at, b"item of node ", node, b" set to ", b.item as u64),
+        Machine::A3 => said(out, at, b"next of node ", node, b" set to none"),
+        Machine::A4 => said(out, at, b"linked of node ", node, b" set to 0"),
+        Machine::A5 => said(out, at, b"Tail read: node ", th.tail as u64, b""),
+        Machine::A6 => next_read(out, at, m, b.tail, th.step),
+        Machine::A7 => a7(out, at, b, th, after),
+        Machine::A8 => a8(out, at, b, th),
+        Machine::A9 => said(out, at, b"linked of node ", node, b" set to 1"),
+        Machine::A10 => said(out, at, b"the line of node ", node, b" is persisted"),
+        _ => tail_moves(out, at, m, after, b.tail),
+    }
+}
+
+fn d4(out: &mut [u8; 65536], at: usize, b: Thread, th: Thread, after: Machine) -> usize {
+    if th.step == Machine::D5 {
+        let head = cached_of(after, 0);
+        return said_both(
+            out,
+            at,
+            b"Head becomes node ",
+            b.next as u64,
+            b" with index ",
+            head.index,
+        );
+    }
+    put_all(out, at, b"Head is no longer the pair read, back to D1")
+}
+
+fn d7(out: &mut [u8; 65536], at: usize, b: Thread) -> usize {
+    let first = said(out, at, b"node ", b.head as u64, b" is held");
+    if b.held == 255 {
+        return first;
+    }
+    said(
+        out,
+        first,
+        b", node ",
+        b.held as u64,
+        b", held before, is retired",
+    )
+}
+
+fn dequeue_deed(
+    out: &mut [u8; 65536],
+    at: usize,
+    b: Thread,
+    th: Thread,
+    m: Machine,
+    after: Machine,
+) -> usize {
+    let step = b.step;
+    match step {
+        Machine::D1 => said_both(
+            out,
+            at,
+            b"Head read: node ",
+            th.head as u64,
+            b", index ",
+            th.index,
+        ),
+        Machine::D2 => next_read(out, at, m, b.head, th.step),
+        Machine::D4 => d4(out, at, b, th, after),
+        Machine::D5 => said_both(
+            out,
+            at,
+            b"item of node ",
+            b.next as u64,
+            b" read: ",
+            th.item as u64,
+        ),
+        Machine::D7 => d7(out, at, b),
+        _ => put_all(out, at, b"the line of Head is persisted"),
+    }
+}
+
+// What the step of thread k did.
+pub fn deed(out: &mut [u8; 65536], at: usize, k: u8, m: Machine, after: Machine) -> usize {
+    let b = thread_of(m, k);
+    let th = thread_of(after, k);
+    if b.step <= Machine::A12 {
+        return enqueue_deed(out, at, b, th, m, after);
+    }
+    dequeue_deed(out, at, b, th, m, after)
+}

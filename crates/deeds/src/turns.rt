@@ -1,0 +1,246 @@
+// Events: what each did to desks and lines.
+use crate::steps::deed;
+use answer::Told;
+use compare::text::put;
+use compare::text::put_all;
+use machine::Event;
+use machine::Machine;
+use telling::lines::begun;
+use telling::lines::cached_of;
+use telling::lines::joined;
+use telling::lines::same;
+use telling::lines::thread_of;
+use telling::starts::content_row;
+use telling::starts::line_total;
+use telling::starts::started;
+use telling::text::content_words;
+use telling::text::end;
+use telling::text::field;
+use telling::text::line_name;
+use telling::text::said;
+use telling::text::step_name;
+
+// A row begins: its name, the event's number.
+fn row(out: &mut [u8; 65536], at: usize, name: &[u8], i: u16) -> usize {
+    let first = put_all(out, at, name);
+    field(out, first, i as u64)
+}
+
+fn begin(out: &mut [u8; 65536], at: usize, columns: bool, i: u16, e: Event) -> usize {
+    if columns {
+        let first = row(out, at, b"begin", i);
+        let second = field(out, first, e.number as u64);
+        if e.kind == 1 {
+            let third = put_all(out, second, b"\tenqueue");
+            let last = field(out, third, e.item as u64);
+            return end(out, last);
+        }
+        return put_all(out, second, b"\tdequeue\t-\n");
+    }
+    let first = said(out, at, b"", i as u64, b"  desk ");
+    if e.kind == 1 {
+        let second = said(out, first, b"", e.number as u64, b" begins an enqueue of ");
+        return said(out, second, b"", e.item as u64, b"\n");
+    }
+    said(out, first, b"", e.number as u64, b" begins a dequeue\n")
+}
+
+// The line changed: in rows with its place, in words behind the step.
+fn changed(
+    out: &mut [u8; 65536],
+    at: usize,
+    columns: bool,
+    book: &mut [u64; 8385],
+    i: u16,
+    line: u8,
+    m: Machine,
+    after: Machine,
+) -> usize {
+    let c = cached_of(after, line);
+    if same(c, cached_of(m, line)) {
+        return at;
+    }
+    let j = joined(book, line, c);
+    if columns {
+        return content_row(out, at, (i as usize) + 1, line, j, c);
+    }
+    let first = put_all(out, at, b"; ");
+    let second = line_name(out, first, line);
+    let third = put_all(out, second, b" is now ");
+    content_words(out, third, line, c)
+}
+
+fn changes(
+    out: &mut [u8; 65536],
+    at: usize,
+    columns: bool,
+    book: &mut [u64; 8385],
+    i: u16,
+    m: Machine,
+    after: Machine,
+    n: u8,
+) -> usize {
+    let mut place = at;
+    let mut line: u8 = 0;
+    while line < n {
+        let next = changed(out, place, columns, book, i, line, m, after);
+        place = next;
+        line += 1;
+    }
+    place
+}
+
+// A10, D3, D6 and a write-back: the line's list begins anew.
+fn persisted(
+    out: &mut [u8; 65536],
+    at: usize,
+    columns: bool,
+    book: &mut [u64; 8385],
+    i: u16,
+    line: u8,
+    after: Machine,
+    step: u8,
+) -> usize {
+    begun(book, line, cached_of(after, line));
+    if !columns {
+        return at;
+    }
+    let first = row(out, at, b"persist", i);
+    let second = field(out, first, line as u64);
+    if step == 0 {
+        return put_all(out, second, b"\twrite-back\n");
+    }
+    let third = put(out, second, b'\t');
+    let last = step_name(out, third, step);
+    end(out, last)
+}
+
+// The line that a step persists, 255 where it persists none.
+fn persists(step: u8, node: u8) -> u8 {
+    if node < 64 {
+        if step == Machine::A10 {
+            return node + 1;
+        }
+    }
+    if step == Machine::D3 || step == Machine::D6 {
+        return 0;
+    }
+    255
+}
+
+fn reply_words(out: &mut [u8; 65536], at: usize, reply: u8) -> usize {
+    match reply {
+        1 => put_all(out, at, b"Done"),
+        2 => put_all(out, at, b"Full"),
+        3 => put_all(out, at, b"Worn out"),
+        _ => put_all(out, at, b"Empty"),
+    }
+}
+
+fn answered(out: &mut [u8; 65536], at: usize, columns: bool, i: u16, k: u8, t: Told) -> usize {
+    if t.reply == 0 {
+        return at;
+    }
+    if columns {
+        let first = row(out, at, b"answer", i);
+        let second = field(out, first, k as u64);
+        if t.reply == 4 {
+            let third = put_all(out, second, b"\titem");
+            let last = field(out, third, t.item as u64);
+            return end(out, last);
+        }
+        let third = put(out, second, b'\t');
+        let last = reply_words(out, third, t.reply);
+        return put_all(out, last, b"\t-\n");
+    }
+    if t.reply == 4 {
+        return said(out, at, b"; answers ", t.item as u64, b"");
+    }
+    let first = put_all(out, at, b"; answers ");
+    reply_words(out, first, t.reply)
+}
+
+fn step_row(out: &mut [u8; 65536], at: usize, columns: bool, i: u16, k: u8, step: u8) -> usize {
+    if columns {
+        let first = row(out, at, b"step", i);
+        let second = field(out, first, k as u64);
+        let third = put(out, second, b'\t');
+        let last = step_name(out, third, step);
+        return end(out, last);
+    }
+    let first = said(out, at, b"", i as u64, b"  desk ");
+    let second = said(out, first, b"", k as u64, b"  ");
+    let third = step_name(out, second, step);
+    put_all(out, third, b"  ")
+}
+
+fn stepped(
+    out: &mut [u8; 65536],
+    at: usize,
+    columns: bool,
+    book: &mut [u64; 8385],
+    i: u16,
+    k: u8,
+    m: Machine,
+    after: Machine,
+    t: Told,
+) -> usize {
+    let th = thread_of(m, k);
+    let mut place = step_row(out, at, columns, i, k, th.step);
+    if !columns {
+        let next = deed(out, place, k, m, after);
+        place = next;
+    }
+    let first = changes(out, place, columns, book, i, m, after, line_total(after));
+    let mut second = first;
+    let line = persists(th.step, th.node);
+    if line < 255 {
+        let next = persisted(out, first, columns, book, i, line, after, th.step);
+        second = next;
+    }
+    let last = answered(out, second, columns, i, k, t);
+    if columns {
+        return last;
+    }
+    end(out, last)
+}
+
+fn written_back(
+    out: &mut [u8; 65536],
+    at: usize,
+    columns: bool,
+    book: &mut [u64; 8385],
+    i: u16,
+    line: u8,
+    after: Machine,
+) -> usize {
+    let place = persisted(out, at, columns, book, i, line, after, 0);
+    if columns {
+        return place;
+    }
+    let first = said(out, place, b"", i as u64, b"  the line of ");
+    let second = line_name(out, first, line);
+    put_all(out, second, b" is written back\n")
+}
+
+// Event i, which led from m to `after` and answered t.
+pub fn happened(
+    out: &mut [u8; 65536],
+    at: usize,
+    columns: bool,
+    book: &mut [u64; 8385],
+    i: u16,
+    e: Event,
+    m: Machine,
+    after: Machine,
+    t: Told,
+) -> usize {
+    let kind = e.kind;
+    match kind {
+        1 => begin(out, at, columns, i, e),
+        2 => begin(out, at, columns, i, e),
+        3 => stepped(out, at, columns, book, i, e.number, m, after, t),
+        4 => written_back(out, at, columns, book, i, e.number, after),
+        _ => started(out, at, columns, book, (i as usize) + 1, after),
+    }
+}

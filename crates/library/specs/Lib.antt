@@ -1,4 +1,0 @@
-pub mod Conversions
-pub mod Texts
-pub mod Mend
-pub mod Probes

@@ -1,0 +1,42 @@
+use Prim.Native.Nat.{_-_, _≤_}
+use native.Mathlib.Omega.{arith}
+use borrow.Author.Needs.{needs}
+use Rattle.stops.proofs.lines_called.Statement.{statement}
+use Rattle.stops.proofs.lines_called.Tie as tie
+
+abbrev Inv-loop : tie.InvT-loop
+Inv-loop s book₀ n line₀ book line = line ≤ n
+
+abbrev μ-loop : tie.MeasureT-loop
+μ-loop s book₀ n line₀ book line = n - line
+
+loop-holds : tie.Need-loop-holds Inv-loop μ-loop
+loop-holds c = omega arith
+
+line-called-requires : tie.Need-line-called-requires Inv-loop μ-loop
+line-called-requires c κs = search needs
+
+add-line : tie.Need-add-line Inv-loop μ-loop
+add-line c = omega arith
+
+loop-less : tie.Need-loop-less Inv-loop μ-loop
+loop-less c = omega arith
+
+loop-again : tie.Need-loop-again Inv-loop μ-loop
+loop-again c = omega arith
+
+returns : tie.Need-returns Inv-loop μ-loop
+returns c = search needs
+
+pub lines-called-spec : {M : Type 1} → statement M
+lines-called-spec =
+    tie.close
+    (tie.spec
+    Inv-loop
+    μ-loop
+    loop-holds
+    line-called-requires
+    add-line
+    loop-less
+    loop-again
+    returns)
