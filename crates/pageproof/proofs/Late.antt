@@ -1,4 +1,4 @@
--- `Leaves` says no more and no less than: some list with write-backs added after the last start leaves the image.
+-- `Leaves` says no more and no less than: some list with write-backs added after the last start is accepted and leaves the image.
 use Prim.Native.Nat.{ℕ}
 use mathlib.Core.Path.{_≡_}
 use mathlib.Core.Bool.{true}
@@ -13,7 +13,7 @@ use Rattle.lawful.specs.Added.{Adds, ends, keeps, adds}
 use Rattle.lawful.specs.Demand3.{Bytes, Leaves}
 use Rattle.pageproof.specs.Longer as longer
 use Rattle.pageproof.specs.Longer.{Longer, LongerLate, LeftLate}
-use Rattle.pageproof.proofs.Longer.{late-taken, late-answers}
+use Rattle.pageproof.proofs.Longer.{late-answers}
 
 -- the answers left out
 silent : {n : ℕ} {l l′ : List Event} {a a′ : List Answer} → Adds n l a l′ a′ → Longer n l l′
@@ -27,7 +27,7 @@ leaves-late s y a g = (to, from)
     to : Leaves s g → LeftLate s g
     to r =
         let o = r .added in
-        (r .events, record { before = o .before; since = o .since; since′ = o .since′; start = o .start; free = o .free; adds = silent (o .adds); is = o .is; is′ = o .is′ }, r .left)
+        (r .events, record { before = o .before; since = o .since; since′ = o .since′; start = o .start; free = o .free; adds = silent (o .adds); is = o .is; is′ = o .is′ }, r .taken, r .left)
 
     from : LeftLate s g → Leaves s g
-    from z = record { events = z .0; taken = late-taken s y a (z .0) (z .1); added = late-answers s y a (z .0) (z .1); left = z .2 }
+    from z = record { events = z .0; taken = z .2; added = late-answers s y a (z .0) (z .1) (z .2); left = z .3 }

@@ -1,4 +1,4 @@
--- Every run with write-backs added after the last start is accepted, its recorded events answer as they did, and what it leaves stands on the page.
+-- Of every run with write-backs added after the last start that is accepted the recorded events answer as they did, and what it leaves stands on the page.
 use Prim.Native.Nat.{ℕ, suc, _+_, _<_}
 use mathlib.Core.Path.{_≡_, refl, sym, ap, subst, _∙_}
 use mathlib.Core.Bool.{true}
@@ -30,67 +30,35 @@ use Rattle.pageproof.proofs.Events.{Takes, no-crash, Good, onto}
 use Rattle.pageproof.proofs.Runs.{Accepts, run-first, run-cons, run-rest, run-taken, run-silent, run-front, run-append, good-run, run-size, andAfter}
 use Rattle.pageproof.proofs.Holds.{page-ran, page-holds}
 
--- what is said of a run with write-backs added
-pub record Same (n : ℕ) (l : List Event) (x : List Answer) (l′ : List Event) (q : ℕ) (b′ : Bench) : Type 0 where
-  pub taken : Accepts q b′ l′
-  pub added : Adds (lineCount n) l x l′ (run q b′ l′ .replies)
-
--- a recorded event in front
-module _ (n p q : ℕ) (b b′ : Bench) (e : Event) (l l′ : List Event) (t : Takes p (b .machine) e) (ne : events.Crash e → ⊥) (a : Alike (b .machine) (b′ .machine)) where
-  t′ : Takes q (b′ .machine) e
-  t′ = events.alike-takes p q (b .machine) (b′ .machine) a e ne t
-
-  is : run p b (e ∷ l) ≡ andBefore (eventAt p (b .machine) e .answer) (run (suc p) (onto b e) l)
-  is = run-cons p b e l t
-
-  is′ : run q b′ (e ∷ l′) ≡ andBefore (eventAt q (b′ .machine) e .answer) (run (suc q) (onto b′ e) l′)
-  is′ = run-cons q b′ e l′ t′
-
-  kept : Same n l (run (suc p) (onto b e) l .replies) l′ (suc q) (onto b′ e) → Same n (e ∷ l) (run p b (e ∷ l) .replies) (e ∷ l′) q b′
-  kept s = record {
-    taken = ap (λ (r : Ran). accepted (r .answer)) is′ ∙ s .taken;
-    added = rw (ap (λ (r : Ran). r .replies) is, ap (λ (r : Ran). r .replies) is′, events.alike-reply p q (b .machine) (b′ .machine) a e ne t) (keeps (s .added));
-  }
-
--- a write-back in front
-module _ (n q : ℕ) (b′ : Bench) (i : ℕ) (lt : i < lineCount n) (l : List Event) (x : List Answer) (l′ : List Event) (t : Takes q (b′ .machine) (writeBack i)) where
-  back-is : run q b′ (writeBack i ∷ l′) ≡ andBefore (eventAt q (b′ .machine) (writeBack i) .answer) (run (suc q) (onto b′ (writeBack i)) l′)
-  back-is = run-cons q b′ (writeBack i) l′ t
-
-  back : Same n l x l′ (suc q) (onto b′ (writeBack i)) → Same n l x (writeBack i ∷ l′) q b′
-  back s = record {
-    taken = ap (λ (r : Ran). accepted (r .answer)) back-is ∙ s .taken;
-    added = subst (λ (r : Ran). Adds (lineCount n) l x (writeBack i ∷ l′) (r .replies)) (sym back-is) (adds i lt (s .added));
-  }
-
-pub same-run : (n : ℕ) {l l′ : List Event} → Longer (lineCount n) l l′ → (p q : ℕ) (b b′ : Bench) → NoCrash l → Good b → Good b′ → b .machine .n ≡ n
-    → Alike (b .machine) (b′ .machine) → Accepts p b l → Same n l (run p b l .replies) l′ q b′
-same-run n longer.ends p q b b′ nc g g′ size a h = record {
-  taken = run-taken q b′;
-  added = rw (run-silent p b, run-silent q b′) ends;
-}
-same-run n (longer.keeps {e = e} {l = l} {l′ = l′} r) p q b b′ nc g g′ size a h =
+-- the recorded events answer as they did
+pub same-run : (n : ℕ) {l l′ : List Event} → Longer n l l′ → (p q : ℕ) (b b′ : Bench) → NoCrash l → Good b → Good b′
+    → Alike (b .machine) (b′ .machine) → Accepts p b l → Accepts q b′ l′ → Adds n l (run p b l .replies) l′ (run q b′ l′ .replies)
+same-run n longer.ends p q b b′ nc g g′ a h h′ = rw (run-silent p b, run-silent q b′) ends
+same-run n (longer.keeps {e = e} {l = l} {l′ = l′} r) p q b b′ nc g g′ a h h′ =
     let t = run-first p b e l h in
-    let z = events.alike-takes p q (b .machine) (b′ .machine) a e (nc .0) t in
-    kept n p q b b′ e l l′ t (nc .0) a
-    (same-run n r (suc p) (suc q) (onto b e) (onto b′ e) (nc .1) (events.onto-good p b g e (nc .0) t) (events.onto-good q b′ g′ e (nc .0) z)
-    (events.onto-size p b g e (nc .0) t ∙ size)
-    (rw (events.onto-machine p b g e (nc .0) t, events.onto-machine q b′ g′ e (nc .0) z) (events.alike-next (b .machine) (b′ .machine) a e (nc .0)))
-    (run-rest p b e l h))
-same-run n (longer.adds i lt {l = l} {l′ = l′} r) p q b b′ nc g g′ size a h =
-    let z = events.back-taken q (b′ .machine) i (subst (λ x. i < lineCount x) (sym (alike-size (b .machine) (b′ .machine) a ∙ size)) lt) in
-    back n q b′ i lt l (run p b l .replies) l′ z
-    (same-run n r p (suc q) b (onto b′ (writeBack i)) nc g (events.onto-good q b′ g′ (writeBack i) (no-crash i) z) size
-    (rw (events.onto-machine q b′ g′ (writeBack i) (no-crash i) z) (alike-back (b .machine) (b′ .machine) a (lineAt (b′ .machine .n) i))) h)
+    let t′ = run-first q b′ e l′ h′ in
+    rw (ap (λ (r : Ran). r .replies) (run-cons p b e l t), ap (λ (r : Ran). r .replies) (run-cons q b′ e l′ t′), events.alike-reply p q (b .machine) (b′ .machine) a e (nc .0) t t′)
+    (keeps (same-run n r (suc p) (suc q) (onto b e) (onto b′ e) (nc .1) (events.onto-good p b g e (nc .0) t) (events.onto-good q b′ g′ e (nc .0) t′)
+    (rw (events.onto-machine p b g e (nc .0) t, events.onto-machine q b′ g′ e (nc .0) t′) (events.alike-next (b .machine) (b′ .machine) a e (nc .0)))
+    (run-rest p b e l h) (run-rest q b′ e l′ h′)))
+same-run n (longer.adds i lt {l = l} {l′ = l′} r) p q b b′ nc g g′ a h h′ =
+    let t′ = run-first q b′ (writeBack i) l′ h′ in
+    rw (ap (λ (r : Ran). r .replies) (run-cons q b′ (writeBack i) l′ t′))
+    (adds i lt (same-run n r p (suc q) b (onto b′ (writeBack i)) nc g (events.onto-good q b′ g′ (writeBack i) (no-crash i) t′)
+    (rw (events.onto-machine q b′ g′ (writeBack i) (no-crash i) t′) (alike-back (b .machine) (b′ .machine) a (lineAt (b′ .machine .n) i)))
+    h (run-rest q b′ (writeBack i) l′ h′)))
 
 -- ---- a whole run from a start
 
 good-begins : (m : Machine) → Even m → Good (begins m)
 good-begins m e = record { timed = moments.timed-begins m; even = e }
 
-module _ (n : ℕ) (m : Machine) (ev : Even m) (size : m .n ≡ n) (l : List Event) (h : Accepts 0 (begins m) l) (l′ : List Event) (o : LongerLate (lineCount n) l l′) where
+module _ (n : ℕ) (m : Machine) (ev : Even m) (l : List Event) (h : Accepts 0 (begins m) l) (l′ : List Event) (h′ : Accepts 0 (begins m) l′) (o : LongerLate n l l′) where
   h₁ : Accepts 0 (begins m) (o .before ++ o .since)
   h₁ = subst (Accepts 0 (begins m)) (o .is) h
+
+  h₁′ : Accepts 0 (begins m) (o .before ++ o .since′)
+  h₁′ = subst (Accepts 0 (begins m)) (o .is′) h′
 
   front-taken : Accepts 0 (begins m) (o .before)
   front-taken = run-front (o .before) (o .since) 0 (begins m) h₁
@@ -104,15 +72,7 @@ module _ (n : ℕ) (m : Machine) (ev : Even m) (size : m .n ≡ n) (l : List Eve
   good₁ : Good b₁
   good₁ = good-run (o .before) 0 (begins m) (good-begins m ev) front-taken
 
-  s : Same n (o .since) (run (0 + length (o .before)) b₁ (o .since) .replies) (o .since′) (0 + length (o .before)) b₁
-  s = same-run n (o .adds) (0 + length (o .before)) (0 + length (o .before)) b₁ b₁ (o .free) good₁ good₁
-      (run-size (o .before) 0 (begins m) (good-begins m ev) front-taken ∙ size) (alike-self (b₁ .machine))
-      (ap (λ (r : Ran). accepted (r .answer)) (sym (split (o .since))) ∙ h₁)
-
-  pub longer-taken : Accepts 0 (begins m) l′
-  longer-taken = subst (Accepts 0 (begins m)) (sym (o .is′)) (ap (λ (r : Ran). accepted (r .answer)) (split (o .since′)) ∙ s .taken)
-
-  pub longer-answers : AddsLate (lineCount n) l (run 0 (begins m) l .replies) l′ (run 0 (begins m) l′ .replies)
+  pub longer-answers : AddsLate n l (run 0 (begins m) l .replies) l′ (run 0 (begins m) l′ .replies)
   longer-answers = record {
     before = o .before;
     told = run 0 (begins m) (o .before) .replies;
@@ -122,7 +82,8 @@ module _ (n : ℕ) (m : Machine) (ev : Even m) (size : m .n ≡ n) (l : List Eve
     heard′ = run (0 + length (o .before)) b₁ (o .since′) .replies;
     start = o .start;
     free = o .free;
-    adds = s .added;
+    adds = same-run n (o .adds) (0 + length (o .before)) (0 + length (o .before)) b₁ b₁ (o .free) good₁ good₁ (alike-self (b₁ .machine))
+        (ap (λ (r : Ran). accepted (r .answer)) (sym (split (o .since))) ∙ h₁) (ap (λ (r : Ran). accepted (r .answer)) (sym (split (o .since′))) ∙ h₁′);
     is = o .is;
     is′ = o .is′;
     answers = ap (λ (x : List Event). run 0 (begins m) x .replies) (o .is) ∙ ap (λ (r : Ran). r .replies) (split (o .since));
@@ -134,19 +95,11 @@ module _ (n : ℕ) (m : Machine) (ev : Even m) (size : m .n ≡ n) (l : List Eve
 abbrev first : List ℕ → Machine
 first s = startOf (scheduleIn s .image) (scheduleIn s .t)
 
-first-size : (s : List ℕ) → first s .n ≡ nodesIn s
-unfolding scheduleIn imageIn startWith
-first-size s = refl
-
-module _ (s : List ℕ) (bytes : Bytes s) (a : accepted (pageAnswer s) ≡ true) (l′ : List Event) (o : LongerLate (lineCount (nodesIn s)) (eventsIn s) l′) where
-  pub late-taken : accepted (runOf s l′ .answer) ≡ true
-  unfolding ran
-  late-taken = longer-taken (nodesIn s) (first s) (even-start (scheduleIn s .image) (scheduleIn s .t)) (first-size s) (eventsIn s) (page-ran s a) l′ o
-
+module _ (s : List ℕ) (bytes : Bytes s) (a : accepted (pageAnswer s) ≡ true) (l′ : List Event) (o : LongerLate (lineCount (nodesIn s)) (eventsIn s) l′) (h′ : accepted (runOf s l′ .answer) ≡ true) where
   pub late-answers : AddsLate (lineCount (nodesIn s)) (eventsIn s) (ran s .replies) l′ (runOf s l′ .replies)
   unfolding ran
-  late-answers = longer-answers (nodesIn s) (first s) (even-start (scheduleIn s .image) (scheduleIn s .t)) (first-size s) (eventsIn s) (page-ran s a) l′ o
+  late-answers = longer-answers (lineCount (nodesIn s)) (first s) (even-start (scheduleIn s .image) (scheduleIn s .t)) (eventsIn s) (page-ran s a) l′ h′ o
 
   -- what it leaves is on the page
   pub late-on-page : (k : ℕ) × (k < endingCount s) × (endingIn s k ≡ imageLeft (runOf s l′ .bench .machine))
-  late-on-page = page-holds s bytes a .0 (imageLeft (runOf s l′ .bench .machine)) .1 (record { events = l′; taken = late-taken; added = late-answers; left = refl })
+  late-on-page = page-holds s bytes a .0 (imageLeft (runOf s l′ .bench .machine)) .1 (record { events = l′; taken = h′; added = late-answers; left = refl })

@@ -1,7 +1,9 @@
 -- A list of events with write-backs added, whatever is answered.
 use Prim.Native.Nat.{ℕ, _<_}
 use mathlib.Core.Path.{_≡_}
+use mathlib.Core.Bool.{true}
 use mathlib.Core.List.{List, [], _∷_, _++_}
+use Rattle.answer.specs.Answers.{accepted}
 use Rattle.image.specs.declared.Image.{Image}
 use Rattle.machine.specs.Line.{lineCount}
 use Rattle.machine.specs.declared.Event.{Event}
@@ -27,6 +29,7 @@ pub record LongerLate (n : ℕ) (l l′ : List Event) : Type 0 where
   pub is : l ≡ before ++ since
   pub is′ : l′ ≡ before ++ since′
 
--- some list with write-backs added after the last start leaves the image
+-- some list with write-backs added after the last start is accepted and leaves the image
 abbrev pub LeftLate : List ℕ → Image → Type 0
-LeftLate s g = (l : List Event) × LongerLate (lineCount (nodesIn s)) (eventsIn s) l × (imageLeft (runOf s l .bench .machine) ≡ g)
+LeftLate s g =
+    (l : List Event) × LongerLate (lineCount (nodesIn s)) (eventsIn s) l × (accepted (runOf s l .answer) ≡ true) × (imageLeft (runOf s l .bench .machine) ≡ g)
