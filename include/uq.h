@@ -78,6 +78,7 @@ enum {
     UQ_NO_ENDING = 16, /* no ending of that number */
     UQ_ROOM = 17,      /* lent buffer too short */
     UQ_RANGE = 18,     /* a machine record is outside its ranges */
+    UQ_CLEAN = 19,     /* write-back of a line whose cached and persisted contents are equal */
     UQ_NARROW = 20     /* an index does not fit the image's version */
 };
 
@@ -148,7 +149,7 @@ uint64_t uq_start(const uint8_t *image, size_t length, uint8_t threads, uint8_t 
 
 /* One event on a record of exactly 1,971 bytes. The value where it is taken: uq_reply says what an operation answered, uq_item which item.
    The record is changed in place: this is the call for a rig that keeps its own record, one event at a time, and it needs no other memory.
-   A refusal has number 1, 18, 9, 10, 13, 11, 12, and of a crash 7 or 8, with place 0 (of 7: the node); the record stays. */
+   A refusal has number 1, 18, 9, 10, 13, 11, 12, 19, and of a crash 7 or 8, with place 0 (of 7: the node); the record stays. */
 uint64_t uq_event(uint8_t *record, size_t length, uint8_t kind, uint8_t number, uint32_t item);
 
 /* What a crash would leave of a record: its persisted copies. Value 0 where it is taken.

@@ -14,17 +14,7 @@ pub fn is_clean(m: Machine, l: Line) -> bool
     match l {
         Line::OfHead(k) => {
             let h = k as usize;
-            let cached = Content {
-                linked: 0,
-                index: m.heads[h],
-                item: 0,
-            };
-            let persisted = Content {
-                linked: 0,
-                index: m.kept_heads[h],
-                item: 0,
-            };
-            is_same(cached, persisted)
+            m.heads[h] == m.kept_heads[h]
         }
         Line::OfNode(x) => {
             let i = x as usize;

@@ -1,7 +1,7 @@
 -- "Pages of schedules still taken stay the same" (request 102): the run and the page without 19, and what that says of them.
 use Prim.Native.Nat.{ℕ, suc}
 use mathlib.Core.Path.{_≡_}
-use mathlib.Core.Bool.{Bool, true, false}
+use mathlib.Core.Bool.{true, false}
 use mathlib.Core.List.{List, [], _∷_, _++_}
 use mathlib.Core.Logic.{_≢_}
 use Rattle.answer.specs.Answers.{told, check, accepted}
