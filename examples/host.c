@@ -256,6 +256,7 @@ static void event_refusals(void) {
     expect("thread 1 of one", uq_event(record, UQ_RECORD, UQ_STEP, 1, 0), refusal(UQ_NUMBER, 0));
     expect("a step with an item", event(record, UQ_STEP, 1), refusal(UQ_NOT_ZERO, 0));
     expect("kind 6", event(record, 6, 0), refusal(UQ_KIND, 0));
+    expect("a write-back of Head's line, which is clean", event(record, UQ_WRITE_BACK, 0), refusal(UQ_CLEAN, 0));
     expect("a record too short", uq_event(record, UQ_RECORD - 1, UQ_STEP, 0, 0), refusal(UQ_LENGTH, 0));
     expect("the record stays", same(record, before, UQ_RECORD), 1);
     record[6] = 65;

@@ -93,9 +93,15 @@ static void dequeues(void) {
     }
 }
 
+/* Of two changed lines, since one of a clean line is refused: Head's, which a dequeue has moved, and that of the first of four free nodes, which an enqueue has stored to. */
 static void write_backs(void) {
     again();
-    for (int i = 0; i <= schedule[13]; i++) event(UQ_WRITE_BACK, (uint8_t)i, 0);
+    event(UQ_DEQUEUE, 0, 0);
+    for (int i = 0; i < 3; i++) event(UQ_STEP, 0, 0);
+    event(UQ_WRITE_BACK, 0, 0);
+    event(UQ_ENQUEUE, 1, 1);
+    for (int i = 0; i < 2; i++) event(UQ_STEP, 1, 0);
+    event(UQ_WRITE_BACK, (uint8_t)(schedule[13] - 3), 0);
 }
 
 static void crash(void) {

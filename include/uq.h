@@ -78,6 +78,7 @@ enum {
     UQ_NO_ENDING = 16, /* no ending of that number */
     UQ_ROOM = 17,      /* lent buffer too short */
     UQ_RANGE = 18,     /* a machine record is outside its ranges */
+    UQ_CLEAN = 19,     /* write-back of a line whose cached and persisted contents are equal */
     UQ_NARROW = 20     /* an index does not fit the image's version */
 };
 
@@ -117,23 +118,23 @@ uint64_t uq_check_schedule(const uint8_t *schedule, size_t length);
 
 /* How many endings the schedule has: the value, 1 to 65,536.
    Nothing is written.
-   A refusal has number 1 to 15 and its place. */
+   A refusal has number 1 to 15 or 19 and its place. */
 uint64_t uq_count_endings(const uint8_t *schedule, size_t length);
 
 /* Ending k of the schedule. Value 0 where it is taken.
    Its image, in the version of the schedule's, is written into the first 10 + 9N or 14 + 13N bytes of `buffer`; the bytes after them stay.
-   A refusal has number 1 to 17 and its place, and writes nothing. */
+   A refusal has number 1 to 17 or 19 and its place, and writes nothing. */
 uint64_t uq_ending(const uint8_t *schedule, size_t length, uint64_t k, uint8_t *buffer, size_t room);
 
 /* What a crash may leave in one line: line 0 is Head's, line i + 1 that of node i. The value is how many contents it has, 1 to 16.
    They are written one after the other, the oldest first, into the front of `buffer`, with indices of 64 bits in every version: of line 0 the
    head index (8 bytes), of a node's line linked (1), index (8), item (4); the bytes after them stay. UQ_MAX_CONTENTS bytes are room for every line.
-   A refusal has number 1 to 15 and its place, 10 with place 0 where there is no such line, 17 where they do not all fit, and writes nothing. */
+   A refusal has number 1 to 15 or 19 and its place, 10 with place 0 where there is no such line, 17 where they do not all fit, and writes nothing. */
 uint64_t uq_line(const uint8_t *schedule, size_t length, uint32_t line, uint8_t *buffer, size_t room);
 
 /* Lines of the schedule's printed page: line 0 is its first line, line k + 1 that of ending k, each with its line end.
    As many whole lines as fit, from line k on, are written into the front of `buffer`, uq_lines of them, uq_bytes in all; the rest stays.
-   A refusal has number 1 to 15 and its place, 16 where there is no line k, 17 where line k alone does not fit, and writes nothing. */
+   A refusal has number 1 to 15 or 19 and its place, 16 where there is no line k, 17 where line k alone does not fit, and writes nothing. */
 uint64_t uq_page_lines(const uint8_t *schedule, size_t length, uint64_t k, uint8_t *buffer, size_t room);
 
 /* The line that the program prints for a refusal, `refused NUMBER at PLACE` with its line end; it has at most 33 bytes.
@@ -148,7 +149,7 @@ uint64_t uq_start(const uint8_t *image, size_t length, uint8_t threads, uint8_t 
 
 /* One event on a record of exactly 1,971 bytes. The value where it is taken: uq_reply says what an operation answered, uq_item which item.
    The record is changed in place: this is the call for a rig that keeps its own record, one event at a time, and it needs no other memory.
-   A refusal has number 1, 18, 9, 10, 13, 11, 12, and of a crash 7 or 8, with place 0 (of 7: the node); the record stays. */
+   A refusal has number 1, 18, 9, 10, 13, 11, 12, 19, and of a crash 7 or 8, with place 0 (of 7: the node); the record stays. */
 uint64_t uq_event(uint8_t *record, size_t length, uint8_t kind, uint8_t number, uint32_t item);
 
 /* What a crash would leave of a record: its persisted copies. Value 0 where it is taken.
@@ -173,7 +174,7 @@ uint64_t uq_judge(const uint8_t *history, size_t length, uint8_t *order, size_t 
    (4, zero unless the answer is UQ_ITEM) and a zero byte. The value where it is taken: 0 where all agree, else one more than the number of the first
    event whose observed answer differs from the machine's.
    Then the first 10 bytes of `buffer` get: observed answer, its item (4), the machine's answer, its item (4); the bytes after them stay. Nothing is written where all agree.
-   A refusal has number 1 to 13 and its place, or 17 where `room` is below 10, and writes nothing. */
+   A refusal has number 1 to 13 or 19 and its place, or 17 where `room` is below 10, and writes nothing. */
 uint64_t uq_replay(const uint8_t *file, size_t length, uint8_t *buffer, size_t room);
 
 /* The number: 0 where the call was taken. */

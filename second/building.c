@@ -182,6 +182,16 @@ static void build_worn_on(u32 n, u32 enqueues)
     }
 }
 
+/* The same enqueue of 1 over and over on two nodes: it wears out, and stores what is there already. */
+static void build_worn_same(u32 enqueues)
+{
+    open_schedule(2, 1, largest_index(form));
+    for (u32 i = 0; i < enqueues; i++) {
+        add(BEGIN_ENQUEUE, 0, 1);
+        steps(0, 7);
+    }
+}
+
 /* Four nodes; the one at `node` is queued with index 1 and item 4. An enqueue of 9 takes a node and stores its item. */
 static void build_queue_at(u32 node)
 {
@@ -231,6 +241,7 @@ void build(const Sequence *s)
     case PAST_32: build_past_32(); break;
     case CUT_IMAGE: build_cut_image(s->a, s->b); break;
     case WORN_ON: build_worn_on(s->a, s->b); break;
+    case WORN_SAME: build_worn_same(s->a); break;
     case QUEUE_AT: build_queue_at(s->a); break;
     case CAME_BACK: build_came_back(); break;
     case AT_FLUSH: build_at_flush(s->a); break;

@@ -256,6 +256,16 @@ static u64 generate_wild(u8 *bytes)
     return run_plan(&plan, &s, bytes);
 }
 
+/* Request 102: write-backs as a probe doubles them, of clean lines too, made as if 19 were not given. */
+static u64 generate_clean(u64 number, u8 *bytes)
+{
+    u32 was = (u32)on(CLEAN);
+    set(CLEAN, 0);
+    u64 length = number % 4 == 0 ? generate_worn(bytes) : number % 4 == 1 ? generate_any(bytes, 120) : generate_small(bytes, 45);
+    set(CLEAN, was);
+    return length;
+}
+
 u64 generate_valid(u8 *bytes, int small)
 {
     return small ? generate_small(bytes, 14) : generate_any(bytes, 120);
@@ -288,6 +298,8 @@ u64 generate_input(u64 seed, u64 number, const char *shape, u8 *bytes)
         return generate_worn(bytes);
     if (same_text(shape, "wild"))
         return generate_wild(bytes);
+    if (same_text(shape, "clean"))
+        return generate_clean(number, bytes);
     if (same_text(shape, "damaged"))
         return generate_damaged(number, bytes);
     if (same_text(shape, "refused"))

@@ -132,6 +132,10 @@ int is_clean(const Machine *m, u32 line)
     Content cached = cached_content(m, line), persisted = persisted_content(m, line);
     if (wrong_machine == CLEAN_WITHOUT_ITEM)
         cached.item = persisted.item;
+    if (wrong_machine == CLEAN_ITSELF)
+        persisted = cached;
+    if (wrong_machine == HEADS_NEVER_CLEAN && line < head_lines(m->form, m->t))
+        return 0;
     return same_content(cached, persisted);
 }
 

@@ -316,7 +316,7 @@ u64 generate_probe(u64 number, u8 *bytes)
 {
     static u8 schedule[4 * MAX_SCHEDULE];
     u32 kind = below(10);
-    u64 length = kind < 7 ? generate_valid(schedule, chance(60)) : kind < 9 ? generate_refused(random_bits() % 13, schedule)
+    u64 length = kind < 7 ? generate_valid(schedule, chance(60)) : kind < 9 ? generate_refused(random_bits() % 14, schedule)
                                                                            : generate_damaged(number, schedule);
     length = recorded_run(schedule, length, bytes);
     u64 before_events = SCHEDULE_HEAD + length_in(bytes + SCHEDULE_HEAD);

@@ -89,7 +89,10 @@ static const Sequence sequences[] = {
     {"last-line-desks", ONE_EVENT, WRITE_BACK, 2, 0, "UQS 1 threads 1 nodes 2 events 1 endings 1\n0 0 -\n", 0, 0, 2, 1 << DESKS_TOO, 1 << CLEAN},
     {"last-line-desks", ONE_EVENT, WRITE_BACK, 2, 0, "refused 19 at 0\n", 0, 0, 2, 1 << DESKS_TOO | 1 << CLEAN, 0},
     {"p1-desks-off", ONE_THREAD, 1, 0, 0, "refused 2 at 0\n", 0, 0, 2, 0, 1 << DESKS_TOO},
-    /* request 102 */
+    /* request 102; 4,096 events of which each has something to do, where clean write-backs were */
+    {"events-4096-worn", WORN_SAME, 512, 0, 0, "UQS 1 threads 1 nodes 2 events 4096 endings 4\n0 4294967295 -\n1 4294967295 -\n2 4294967295 -\n3 4294967295 -\n", 7, WORN_OUT, 0, 0, 0},
+    {"events-4096-worn-wide", WORN_SAME, 512, 0, 0, "UQS 1 threads 1 nodes 2 events 4096 endings 4\n0 18446744073709551615 -\n", 7, WORN_OUT, 1, 0, 0},
+    {"events-4104-worn", WORN_SAME, 513, 0, 0, "refused 5 at 0\n", 0, 0, 0, 0, 0},
     {"last-line", ONE_EVENT, WRITE_BACK, 2, 0, "refused 19 at 0\n", 0, 0, 0, 1 << CLEAN, 0},
     {"clean-head", ONE_EVENT, WRITE_BACK, 0, 0, "refused 19 at 0\n", 0, 0, 0, 1 << CLEAN, 0},
     {"clean-not-zero", ONE_EVENT, WRITE_BACK, 0, 1, "refused 13 at 0\n", 0, 0, 0, 0, 0},

@@ -4,3 +4,4 @@ pub mod Wide
 pub mod Instances
 pub mod Asked
 pub mod Same
+pub mod Clean

@@ -5,6 +5,7 @@ ghost use Rattle.machine.specs.Event.{enqueues, dequeues, steps, writesBack, cr
 ghost use Rattle.machine.specs.Line.{persisted};
 ghost use Rattle.machine.specs.Range.{inRange};
 ghost use Rattle.events.specs.Arms.{eventBy};
+use crate::clean::is_clean;
 use answer::Answer;
 use hands::persisting::persist_line;
 use image::Image;
@@ -141,6 +142,13 @@ fn write_back(p: u32, m: Machine, e: Event) -> Acted
         };
     }
     let line = line_at(m.n, e.number);
+    if is_clean(m, line) {
+        return Acted {
+            answer: Answer::Clean(p),
+            machine: m,
+            touch: Touch::Nothing,
+        };
+    }
     let machine = persist_line(m, line);
     Acted {
         answer: Answer::Taken,

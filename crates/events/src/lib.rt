@@ -1,6 +1,7 @@
 // The machine one event at a time: calls on a machine record that is handed in. Each tests 18 before all else.
 // Public calls: on_event, apply, save, count_places. act is for the crates above.
 mod arms;
+mod clean;
 
 pub use arms::act;
 ghost use mathlib.Core.Path.{_≡_};

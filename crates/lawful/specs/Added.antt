@@ -1,4 +1,5 @@
--- Write-backs added to a schedule's events, anywhere after its last start.
+-- Write-backs added to a schedule's events, anywhere after its last start. That each is of a changed line, and makes no recorded one clean, is said by the run that
+-- has to be accepted (`Leaves`, in Demand3): 19 refuses every write-back of a clean line.
 use Prim.Native.Nat.{ℕ, suc, _≤_, _<_}
 use mathlib.Core.Path.{_≡_}
 use mathlib.Core.List.{List, [], _∷_, _++_}

@@ -39,7 +39,9 @@ imageLeft m = record {
   nodes = front (contentAt (persisted m .nodes)) (m .n) noContents;
 }
 
--- the image is left by some run with write-backs added after the last start: accepted, its recorded events answering as they did
+-- the image is left by some run with write-backs added after the last start: accepted, its recorded events answering as they did.
+-- "demand 3 adds write-backs of changed lines only, none that makes a recorded one clean" (request 102): in an accepted run 19 refuses no write-back, so each one,
+-- added or recorded, is of a line that is not clean when its turn comes
 pub record Leaves (s : List ℕ) (g : Image) : Type 0 where
   pub events : List Event
   pub taken : accepted (runOf s events .answer) ≡ true

@@ -7,11 +7,12 @@ use lib.Dec.{eqb, leb}
 use Rattle.lists.specs.Find.{pick, both}
 use Rattle.answer.specs.Answers.{check, accepted}
 use Rattle.answer.specs.declared.Answer.{Answer}
-use Rattle.answer.specs.declared.Answer.the-variants.{Taken, Kind, Number, Busy, Idle, NotZero, Record}
+use Rattle.answer.specs.declared.Answer.the-variants.{Taken, Kind, Number, Busy, Idle, NotZero, Record, Clean}
+use Rattle.image.specs.Layout.{sameContent}
 use Rattle.image.specs.Refusals.{startable}
 use Rattle.machine.specs.Record.{thread, putThread}
 use Rattle.machine.specs.Stage.{Stage, noStep, A1, A2, A3, A4, A5, A6, A7, A8, A9, A10, A11, A12, D1, D2, D3, D4, D5, D6, D7, number, stage, busy}
-use Rattle.machine.specs.Line.{lineCount, lineAt, persist, persisted}
+use Rattle.machine.specs.Line.{Line, lineCount, lineAt, cachedAt, persistedAt, persist, persisted}
 use Rattle.machine.specs.Start.{startOf}
 use Rattle.machine.specs.Retire.{out, quiet, persisting}
 use Rattle.machine.specs.Enqueue.{stepA1, stepA2, stepA3, stepA4, stepA5, stepA6, stepA7, stepA8, stepA9, stepA10, stepA11, stepA12}
@@ -35,7 +36,7 @@ deeds = unknown ∷ enqueues ∷ dequeues ∷ steps ∷ writesBack ∷ crashes �
 abbrev pub deedOf : ℕ → Deed
 deedOf k = getD deeds k unknown
 
--- ---- what is refused: 9, 10, 13, then 11 or 12; of a crash 7, then 8, after 13
+-- ---- what is refused: 9, 10, 13, then 11 or 12, or 19 (request 102); of a crash 7, then 8, after 13
 
 abbrev pub threadTooLarge : Machine → Event → Bool
 threadTooLarge m e = leb (m .t) (e .number)
@@ -46,13 +47,18 @@ lineTooLarge m e = leb (lineCount (m .n)) (e .number)
 abbrev pub itemNotZero : Event → Bool
 itemNotZero e = not (eqb (e .item) 0)
 
+-- "a line whose cached and persisted contents are equal": by content, whether or not it was stored to since it was last persisted
+abbrev pub clean : Machine → Line → Bool
+clean m l = sameContent (cachedAt m l) (persistedAt m l)
+
 -- in kind 5 the number is neither a thread nor a line: one that is not zero is 13, however large
 abbrev pub eventAnswer : ℕ → Machine → Event → Deed → Answer
 eventAnswer p m e unknown = Kind p
 eventAnswer p m e enqueues = check (threadTooLarge m e) (Number p) (check (busy m (e .number)) (Busy p) Taken)
 eventAnswer p m e dequeues = check (threadTooLarge m e) (Number p) (check (itemNotZero e) (NotZero p) (check (busy m (e .number)) (Busy p) Taken))
 eventAnswer p m e steps = check (threadTooLarge m e) (Number p) (check (itemNotZero e) (NotZero p) (check (not (busy m (e .number))) (Idle p) Taken))
-eventAnswer p m e writesBack = check (lineTooLarge m e) (Number p) (check (itemNotZero e) (NotZero p) Taken)
+eventAnswer p m e writesBack =
+    check (lineTooLarge m e) (Number p) (check (itemNotZero e) (NotZero p) (check (clean m (lineAt (m .n) (e .number))) (Clean p) Taken))
 eventAnswer p m e crashes = check (pick (eqb (e .number) 0) (itemNotZero e) true) (NotZero p) (startable (persisted m) Taken)
 
 -- ---- what is done

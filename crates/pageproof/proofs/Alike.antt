@@ -1,22 +1,24 @@
--- Machines that differ in nothing but the persisted copies: no step looks at those, so each goes on alike.
+-- Machines that differ in nothing but the persisted copies: no step looks at those, so each goes on alike. A write-back does, for 19.
 use Prim.Native.Nat.{ℕ, zero, suc}
-use mathlib.Core.Path.{_≡_, refl, sym, ap, subst, _∙_}
+use mathlib.Core.Path.{_≡_, refl, sym, ap, ap₂, subst, _∙_}
 use mathlib.Core.Bool.{Bool, true, false}
 use mathlib.Core.List.{List}
 use lib.ListN.{set}
 use lib.Dec.{eqb, leb}
 use Rattle.lists.specs.Find.{pick, both}
 use Rattle.answer.specs.declared.Answer.{Answer}
-use Rattle.answer.specs.declared.Answer.the-variants.{Done}
+use Rattle.answer.specs.Answers.{check}
+use Rattle.answer.specs.declared.Answer.the-variants.{Taken, Done, Number, NotZero, Clean}
 use Rattle.image.specs.declared.Content.{Content}
+use Rattle.image.specs.Layout.{sameContent}
 use Rattle.image.specs.Form.{topOf}
 use Rattle.machine.specs.Record.{none, node, headAt, thread, contentOf, putTail, putThread, idleThread}
 use Rattle.machine.specs.Stage.{Stage, noStep, A1, A2, A3, A4, A5, A6, A7, A8, A9, A10, A11, A12, D1, D2, D3, D4, D5, D6, D7, stage}
-use Rattle.machine.specs.Line.{lineAt, persist, cachedAt}
+use Rattle.machine.specs.Line.{lineAt, persist, cachedAt, persistedAt}
 use Rattle.machine.specs.declared.Line.{Line}
 use Rattle.machine.specs.declared.Line.the-variants.{OfHead as ofHead, OfNode as ofNode}
 use Rattle.machine.specs.Retire.{going, answering, left, freed, releasedAt, released, retired, retiredHeld, nextFree, others}
-use Rattle.machine.specs.Event.{Deed, unknown, enqueues, dequeues, steps, writesBack, crashes, eventAnswer, stepped, done}
+use Rattle.machine.specs.Event.{Deed, unknown, enqueues, dequeues, steps, writesBack, crashes, lineTooLarge, itemNotZero, clean, eventAnswer, stepped, done}
 use Rattle.machine.specs.declared.Machine.{Machine}
 use Rattle.machine.specs.declared.Event.{Event}
 use Rattle.machine.specs.declared.Acted.{Acted}
@@ -147,16 +149,21 @@ keep-done m h c e crashes ne = absurd (ne refl)
 pub alike-done : (m m′ : Machine) → Alike m m′ → (e : Event) (d : Deed) → (d ≡ crashes → ⊥) → AlikeOut (done m e d) (done m′ e d)
 alike-done m m′ a e d ne = subst (λ (x : Machine). AlikeOut (done m e d) (done x e d)) (sym (a .is)) (keep-done m (a .heads) (a .copies) e d ne)
 
-keep-answer : (p : ℕ) (m : Machine) (h : List ℕ) (c : List Content) (e : Event) (d : Deed) → (d ≡ crashes → ⊥) → eventAnswer p (keeping m h c) e d ≡ eventAnswer p m e d
-keep-answer p m h c e unknown ne = refl
-keep-answer p m h c e enqueues ne = refl
-keep-answer p m h c e dequeues ne = refl
-keep-answer p m h c e steps ne = refl
-keep-answer p m h c e writesBack ne = refl
-keep-answer p m h c e crashes ne = absurd (ne refl)
+-- a write-back alone looks at a persisted copy (19): it is answered the same where its line is clean in both machines or in neither
+keep-answer : (p : ℕ) (m : Machine) (h : List ℕ) (c : List Content) (e : Event) (d : Deed) → (d ≡ crashes → ⊥)
+    → (d ≡ writesBack → clean (keeping m h c) (lineAt (m .n) (e .number)) ≡ clean m (lineAt (m .n) (e .number))) → eventAnswer p (keeping m h c) e d ≡ eventAnswer p m e d
+keep-answer p m h c e unknown ne s = refl
+keep-answer p m h c e enqueues ne s = refl
+keep-answer p m h c e dequeues ne s = refl
+keep-answer p m h c e steps ne s = refl
+keep-answer p m h c e writesBack ne s = ap (λ (b : Bool). check (lineTooLarge m e) (Number p) (check (itemNotZero e) (NotZero p) (check b (Clean p) Taken))) (s refl)
+keep-answer p m h c e crashes ne s = absurd (ne refl)
 
-pub alike-answer : (p : ℕ) (m m′ : Machine) → Alike m m′ → (e : Event) (d : Deed) → (d ≡ crashes → ⊥) → eventAnswer p m′ e d ≡ eventAnswer p m e d
-alike-answer p m m′ a e d ne = ap (λ (x : Machine). eventAnswer p x e d) (a .is) ∙ keep-answer p m (a .heads) (a .copies) e d ne
+pub alike-answer : (p : ℕ) (m m′ : Machine) → Alike m m′ → (e : Event) (d : Deed) → (d ≡ crashes → ⊥)
+    → (d ≡ writesBack → clean m′ (lineAt (m .n) (e .number)) ≡ clean m (lineAt (m .n) (e .number))) → eventAnswer p m′ e d ≡ eventAnswer p m e d
+alike-answer p m m′ a e d ne s =
+    ap (λ (x : Machine). eventAnswer p x e d) (a .is)
+    ∙ keep-answer p m (a .heads) (a .copies) e d ne (λ w. ap (λ (x : Machine). clean x (lineAt (m .n) (e .number))) (sym (a .is)) ∙ s w)
 
 -- ---- what is alike
 
@@ -166,6 +173,10 @@ keep-cached m h c (ofNode i) = refl
 
 pub alike-cached : (m m′ : Machine) → Alike m m′ → (l : Line) → cachedAt m′ l ≡ cachedAt m l
 alike-cached m m′ a l = ap (λ (x : Machine). cachedAt x l) (a .is) ∙ keep-cached m (a .heads) (a .copies) l
+
+-- clean in both or in neither, where what is persisted is the same
+pub alike-clean : (m m′ : Machine) → Alike m m′ → (l : Line) → persistedAt m′ l ≡ persistedAt m l → clean m′ l ≡ clean m l
+alike-clean m m′ a l e = ap₂ sameContent (alike-cached m m′ a l) e
 
 pub alike-size : (m m′ : Machine) → Alike m m′ → m′ .n ≡ m .n
 alike-size m m′ a = ap (λ (x : Machine). x .n) (a .is)

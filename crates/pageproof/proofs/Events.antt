@@ -5,17 +5,18 @@ use mathlib.Core.Bool.{Bool, true, false, not}
 use mathlib.Core.List.{[], _∷_}
 use native.Mathlib.Omega.{arith}
 use lib.Dec.{eqb, leb, leb→le}
+use borrow.Author.Tests.{leb-false}
 use Rattle.lists.specs.Find.{pick}
 use Rattle.lists.proofs.BoolLaws.{no-way}
 use Rattle.answer.specs.Answers.{check, accepted}
 use Rattle.answer.specs.declared.Answer.{Answer}
-use Rattle.answer.specs.declared.Answer.the-variants.{Taken, Number, Busy, Idle, NotZero}
+use Rattle.answer.specs.declared.Answer.the-variants.{Taken, Number, Busy, Idle, NotZero, Clean}
 use Rattle.image.specs.Refusals.{startable}
 use Rattle.machine.specs.Stage.{busy}
-use Rattle.machine.specs.Line.{lineCount, sameLine, cachedAt, persistedAt, persisted}
+use Rattle.machine.specs.Line.{lineCount, lineAt, sameLine, cachedAt, persistedAt, persisted}
 use Rattle.machine.specs.declared.Line.{Line}
 use Rattle.machine.specs.Retire.{quiet}
-use Rattle.machine.specs.Event.{Deed, unknown, enqueues, dequeues, steps, writesBack, crashes, deedOf, threadTooLarge, lineTooLarge, itemNotZero, eventAnswer, done, eventAt}
+use Rattle.machine.specs.Event.{Deed, unknown, enqueues, dequeues, steps, writesBack, crashes, deedOf, threadTooLarge, lineTooLarge, itemNotZero, clean, eventAnswer, done, eventAt}
 use Rattle.machine.specs.declared.Machine.{Machine}
 use Rattle.machine.specs.declared.Event.{Event}
 use Rattle.machine.specs.declared.Acted.{Acted}
@@ -42,7 +43,7 @@ next m e = done m e (deedOf (e .kind)) .machine
 abbrev pub Crash : Event → Type 0
 Crash e = deedOf (e .kind) ≡ crashes
 
--- ---- what is taken is taken at every place, and by every machine that is alike
+-- ---- what is taken is taken at every place, and by every machine that is alike, of a write-back if its line is as clean there
 
 tests : (p : ℕ) (m : Machine) (e : Event) → Takes p m e → accepted (eventAnswer p m e (deedOf (e .kind))) ≡ true
 unfolding eventAt
@@ -83,8 +84,10 @@ replaced p q m e steps h =
     (again (itemNotZero e) (NotZero p) (NotZero q) (check (not (busy m (e .number))) (Idle p) Taken) (check (not (busy m (e .number))) (Idle q) Taken) refl
     (again (not (busy m (e .number))) (Idle p) (Idle q) Taken Taken refl (λ z. z))) h
 replaced p q m e writesBack h =
-    again (lineTooLarge m e) (Number p) (Number q) (check (itemNotZero e) (NotZero p) Taken) (check (itemNotZero e) (NotZero q) Taken) refl
-    (again (itemNotZero e) (NotZero p) (NotZero q) Taken Taken refl (λ z. z)) h
+    let c = clean m (lineAt (m .n) (e .number)) in
+    again (lineTooLarge m e) (Number p) (Number q) (check (itemNotZero e) (NotZero p) (check c (Clean p) Taken)) (check (itemNotZero e) (NotZero q) (check c (Clean q) Taken)) refl
+    (again (itemNotZero e) (NotZero p) (NotZero q) (check c (Clean p) Taken) (check c (Clean q) Taken) refl
+    (again c (Clean p) (Clean q) Taken Taken refl (λ z. z))) h
 replaced p q m e crashes h =
     again (pick (eqb (e .number) 0) (itemNotZero e) true) (NotZero p) (NotZero q) (startable (persisted m) Taken) (startable (persisted m) Taken) refl (λ z. z) h
 
@@ -92,17 +95,18 @@ pub taken-is : (p : ℕ) (m : Machine) (e : Event) → Takes p m e → eventAt p
 taken-is p m e h = passes p m e (tests p m e h)
 
 module _ (p q : ℕ) (m m′ : Machine) (a : Alike m m′) (e : Event) (ne : Crash e → ⊥) (h : Takes p m e) where
-  -- the other machine takes it and answers the same
-  alike-is : eventAt q m′ e ≡ done m′ e (deedOf (e .kind))
-  alike-is = passes q m′ e (ap accepted (alike-answer q m m′ a e (deedOf (e .kind)) ne) ∙ replaced p q m e (deedOf (e .kind)) (tests p m e h))
-
-  pub alike-reply : eventAt q m′ e .answer ≡ eventAt p m e .answer
-  alike-reply =
-      ap (λ (o : Acted). o .answer) alike-is ∙ alike-done m m′ a e (deedOf (e .kind)) ne .answer
+  -- where both take it they answer the same
+  pub alike-reply : Takes q m′ e → eventAt q m′ e .answer ≡ eventAt p m e .answer
+  alike-reply h′ =
+      ap (λ (o : Acted). o .answer) (taken-is q m′ e h′) ∙ alike-done m m′ a e (deedOf (e .kind)) ne .answer
       ∙ ap (λ (o : Acted). o .answer) (sym (taken-is p m e h))
 
-  pub alike-takes : Takes q m′ e
-  alike-takes = ap accepted alike-reply ∙ h
+  -- the other machine takes it, unless it is a write-back of a line that is clean there alone
+  pub alike-takes : (deedOf (e .kind) ≡ writesBack → clean m′ (lineAt (m .n) (e .number)) ≡ clean m (lineAt (m .n) (e .number))) → Takes q m′ e
+  alike-takes s =
+      ap (λ (o : Acted). accepted (o .answer))
+      (passes q m′ e (ap accepted (alike-answer q m m′ a e (deedOf (e .kind)) ne s) ∙ replaced p q m e (deedOf (e .kind)) (tests p m e h)))
+      ∙ ap accepted (alike-done m m′ a e (deedOf (e .kind)) ne .answer ∙ ap (λ (o : Acted). o .answer) (sym (taken-is p m e h))) ∙ h
 
 pub alike-next : (m m′ : Machine) → Alike m m′ → (e : Event) → (Crash e → ⊥) → Alike (next m e) (next m′ e)
 alike-next m m′ a e ne = alike-done m m′ a e (deedOf (e .kind)) ne .machine
@@ -119,12 +123,30 @@ beyond n i h = by (leb n i) refl
     by true e = absurd (omega (arith, leb→le n i (rw e tt)))
     by false e = refl
 
-pub back-taken : (q : ℕ) (m : Machine) (i : ℕ) → i < lineCount (m .n) → Takes q m (writeBack i)
-back-taken q m i h = ap (λ (o : Acted). accepted (o .answer)) (passes q m (writeBack i) (fits (lineTooLarge m (writeBack i)) (beyond (lineCount (m .n)) i h)))
+pub back-taken : (q : ℕ) (m : Machine) (i : ℕ) → i < lineCount (m .n) → clean m (lineAt (m .n) i) ≡ false → Takes q m (writeBack i)
+back-taken q m i h c =
+    ap (λ (o : Acted). accepted (o .answer))
+    (passes q m (writeBack i) (fits (lineTooLarge m (writeBack i)) (clean m (lineAt (m .n) i)) (beyond (lineCount (m .n)) i h) c))
   where
-    fits : (b : Bool) → b ≡ false → accepted (check b (Number q) (check (itemNotZero (writeBack i)) (NotZero q) Taken)) ≡ true
-    fits true e = no-way e
-    fits false e = refl
+    fits : (b z : Bool) → b ≡ false → z ≡ false → accepted (check b (Number q) (check (itemNotZero (writeBack i)) (NotZero q) (check z (Clean q) Taken))) ≡ true
+    fits true z e f = no-way e
+    fits false true e f = no-way f
+    fits false false e f = refl
+
+-- "write-backs of changed lines only": a write-back that is taken, added or recorded, is of a line that there is and that is not clean
+pub back-changed : (p : ℕ) (m : Machine) (e : Event) → Takes p m e → deedOf (e .kind) ≡ writesBack
+    → (e .number < lineCount (m .n)) × (clean m (lineAt (m .n) (e .number)) ≡ false)
+back-changed p m e h w =
+    by (lineTooLarge m e) (itemNotZero e) (clean m (lineAt (m .n) (e .number))) refl refl
+    (subst (λ (d : Deed). accepted (eventAnswer p m e d) ≡ true) w (tests p m e h))
+  where
+    by : (x y z : Bool) → lineTooLarge m e ≡ x → clean m (lineAt (m .n) (e .number)) ≡ z
+        → accepted (check x (Number p) (check y (NotZero p) (check z (Clean p) Taken))) ≡ true
+        → (e .number < lineCount (m .n)) × (clean m (lineAt (m .n) (e .number)) ≡ false)
+    by true y z f g a = no-way (sym a)
+    by false true z f g a = no-way (sym a)
+    by false false true f g a = no-way (sym a)
+    by false false false f g a = (leb-false (lineCount (m .n)) (e .number) f, g)
 
 -- ---- which line an event persists
 
@@ -146,6 +168,10 @@ miss-is : (w : Touch) (l : Line) → persistsLine w l ≡ false → Persists w l
 miss-is nothing l z p = p
 miss-is (aStore x) l z p = p
 miss-is (aPersist x) l z p = no-way (sym (rw p (same-line x)) ∙ z)
+
+-- a write-back persists its own line
+pub back-hits : (m : Machine) (e : Event) → deedOf (e .kind) ≡ writesBack → hits m e (lineAt (m .n) (e .number)) ≡ true
+back-hits m e w = ap (λ (d : Deed). persistsLine (done m e d .touch) (lineAt (m .n) (e .number))) w ∙ same-line (lineAt (m .n) (e .number))
 
 pub alike-hits : (m m′ : Machine) → Alike m m′ → (e : Event) → (Crash e → ⊥) → (l : Line) → hits m′ e l ≡ hits m e l
 alike-hits m m′ a e ne l = ap (λ (w : Touch). persistsLine w l) (alike-done m m′ a e (deedOf (e .kind)) ne .touch)

@@ -1,6 +1,6 @@
 -- Demand 3, its first half: a page that is not refused holds each image that a crash can leave, once, and no other.
--- It is proved on the record's own run and not through the abstract machine: between two starts no event looks at a persisted copy, so this
--- half asks nothing of the queue, and events, answers and images need no translation.
+-- It is proved on the record's own run and not through the abstract machine: between two starts no event looks at a persisted copy, but for 19 of a write-back, so
+-- this half asks nothing of the queue, and events, answers and images need no translation.
 use Prim.Native.Nat.{ℕ, _<_}
 use mathlib.Core.Path.{_≡_, refl, sym, ap, _∙_}
 use mathlib.Core.Bool.{Bool, true, false}

@@ -12,3 +12,4 @@ pub mod Holds
 pub mod Longer
 pub mod Late
 pub mod Sizes
+pub mod Without

@@ -1,4 +1,4 @@
--- Every run with write-backs added after the last start is accepted, its recorded events answer as they did, and what it leaves stands on the page.
+-- Every run with write-backs added after the last start, of changed lines alone, is accepted, its recorded events answer as they did, and what it leaves stands on the page.
 use Prim.Native.Nat.{ℕ, suc, _+_, _<_}
 use mathlib.Core.Path.{_≡_, refl, sym, ap, subst, _∙_}
 use mathlib.Core.Bool.{true}
@@ -10,24 +10,25 @@ use Rattle.answer.specs.declared.Answer.{Answer}
 use Rattle.image.specs.Layout.{imageIn}
 use Rattle.image.specs.declared.Image.{Image}
 use Rattle.machine.specs.Line.{lineCount, lineAt}
-use Rattle.machine.specs.Event.{eventAt}
+use Rattle.machine.specs.Event.{writesBack, deedOf, clean, eventAt}
 use Rattle.machine.specs.Start.{startOf, startWith}
 use Rattle.machine.specs.declared.Machine.{Machine}
 use Rattle.machine.specs.declared.Event.{Event}
+use Rattle.machine.specs.declared.Acted.{Acted}
 use Rattle.schedule.specs.Layout.{scheduleIn, eventsIn, nodesIn}
-use Rattle.schedule.specs.Run.{Bench, Ran, run, ran, opened, begins, andBefore}
+use Rattle.schedule.specs.Run.{Bench, Ran, run, ran, opened, begins, andBefore, turned, forward}
 use Rattle.page.specs.Refusals.{pageAnswer, endingCount, endingIn}
 use Rattle.lawful.specs.Added.{writeBack, NoCrash, Adds, ends, keeps, adds, AddsLate}
 use Rattle.lawful.specs.Demand3.{Bytes, runOf, imageLeft, Leaves}
 use Rattle.moments.proofs.Moments as moments
 use Rattle.pageproof.specs.Longer as longer
-use Rattle.pageproof.specs.Longer.{Longer, LongerLate}
+use Rattle.pageproof.specs.Longer.{Longer, LongerLate, Changed}
 use Rattle.moments.specs.Frame.{Even}
 use Rattle.pageproof.proofs.Alike.{Alike, alike-self, alike-back, alike-size}
 use Rattle.pageproof.proofs.Even.{even-start}
 use Rattle.pageproof.proofs.Events as events
 use Rattle.pageproof.proofs.Events.{Takes, no-crash, Good, onto}
-use Rattle.pageproof.proofs.Runs.{Accepts, run-first, run-cons, run-rest, run-taken, run-silent, run-front, run-append, good-run, run-size, andAfter}
+use Rattle.pageproof.proofs.Runs.{Accepts, run-first, run-cons, run-rest, run-bench, run-nothing, run-taken, run-silent, run-front, run-append, good-run, run-size, andAfter}
 use Rattle.pageproof.proofs.Holds.{page-ran, page-holds}
 
 -- what is said of a run with write-backs added
@@ -35,10 +36,40 @@ pub record Same (n : ℕ) (l : List Event) (x : List Answer) (l′ : List Event)
   pub taken : Accepts q b′ l′
   pub added : Adds (lineCount n) l x l′ (run q b′ l′ .replies)
 
--- a recorded event in front
-module _ (n p q : ℕ) (b b′ : Bench) (e : Event) (l l′ : List Event) (t : Takes p (b .machine) e) (ne : events.Crash e → ⊥) (a : Alike (b .machine) (b′ .machine)) where
-  t′ : Takes q (b′ .machine) e
-  t′ = events.alike-takes p q (b .machine) (b′ .machine) a e ne t
+-- ---- changed lines alone: what an accepted run writes back
+
+onward : (p : ℕ) (b : Bench) (e : Event) → Takes p (b .machine) e → forward p b e ≡ onto b e
+onward p b e t = ap (λ (o : Acted). turned b o (deedOf (e .kind))) (events.taken-is p (b .machine) e t)
+
+pub changed-of : (l : List Event) (p : ℕ) (b : Bench) → Accepts p b l → Changed p b l
+changed-of [] p b h = tt
+changed-of (e ∷ l) p b h =
+    let t = run-first p b e l h in
+    (λ w. events.back-changed p (b .machine) e t w .1, rw (onward p b e t) (changed-of l (suc p) (onto b e) (run-rest p b e l h)))
+
+changed-rest : (p : ℕ) (b : Bench) (e : Event) (l : List Event) → Takes p (b .machine) e → Changed p b (e ∷ l) → Changed (suc p) (onto b e) l
+changed-rest p b e l t c = subst (λ (x : Bench). Changed (suc p) x l) (onward p b e t) (c .1)
+
+changed-after : (l r : List Event) (p : ℕ) (b : Bench) → Accepts p b l → Changed p b (l ++ r) → Changed (p + length l) (run p b l .bench) r
+changed-after [] r p b h c =
+    subst (λ (x : Bench). Changed (p + 0) x r) (sym (run-nothing p b)) (subst (λ (x : ℕ). Changed x b r) (let z : p ≡ p + 0 = omega arith in z) c)
+changed-after (e ∷ l) r p b h c =
+    let t = run-first p b e l h in
+    subst (λ (x : Bench). Changed (p + suc (length l)) x r) (sym (run-bench p b e l t))
+    (subst (λ (x : ℕ). Changed x (run (suc p) (onto b e) l .bench) r) (let z : suc p + length l ≡ p + suc (length l) = omega arith in z)
+    (changed-after l r (suc p) (onto b e) (run-rest p b e l h) (changed-rest p b e (l ++ r) t c)))
+
+-- ---- a recorded event in front
+
+module _ (n p q : ℕ) (b b′ : Bench) (e : Event) (l l′ : List Event) (t : Takes p (b .machine) e) (ne : events.Crash e → ⊥) (a : Alike (b .machine) (b′ .machine)) (c : Changed q b′ (e ∷ l′)) where
+  -- a line that it writes back is clean in neither machine
+  as-clean : deedOf (e .kind) ≡ writesBack → clean (b′ .machine) (lineAt (b .machine .n) (e .number)) ≡ clean (b .machine) (lineAt (b .machine .n) (e .number))
+  as-clean w =
+      ap (λ x. clean (b′ .machine) (lineAt x (e .number))) (sym (alike-size (b .machine) (b′ .machine) a)) ∙ c .0 w
+      ∙ sym (events.back-changed p (b .machine) e t w .1)
+
+  pub t′ : Takes q (b′ .machine) e
+  t′ = events.alike-takes p q (b .machine) (b′ .machine) a e ne t as-clean
 
   is : run p b (e ∷ l) ≡ andBefore (eventAt p (b .machine) e .answer) (run (suc p) (onto b e) l)
   is = run-cons p b e l t
@@ -49,7 +80,7 @@ module _ (n p q : ℕ) (b b′ : Bench) (e : Event) (l l′ : List Event) (t : T
   kept : Same n l (run (suc p) (onto b e) l .replies) l′ (suc q) (onto b′ e) → Same n (e ∷ l) (run p b (e ∷ l) .replies) (e ∷ l′) q b′
   kept s = record {
     taken = ap (λ (r : Ran). accepted (r .answer)) is′ ∙ s .taken;
-    added = rw (ap (λ (r : Ran). r .replies) is, ap (λ (r : Ran). r .replies) is′, events.alike-reply p q (b .machine) (b′ .machine) a e ne t) (keeps (s .added));
+    added = rw (ap (λ (r : Ran). r .replies) is, ap (λ (r : Ran). r .replies) is′, events.alike-reply p q (b .machine) (b′ .machine) a e ne t t′) (keeps (s .added));
   }
 
 -- a write-back in front
@@ -64,31 +95,32 @@ module _ (n q : ℕ) (b′ : Bench) (i : ℕ) (lt : i < lineCount n) (l : List E
   }
 
 pub same-run : (n : ℕ) {l l′ : List Event} → Longer (lineCount n) l l′ → (p q : ℕ) (b b′ : Bench) → NoCrash l → Good b → Good b′ → b .machine .n ≡ n
-    → Alike (b .machine) (b′ .machine) → Accepts p b l → Same n l (run p b l .replies) l′ q b′
-same-run n longer.ends p q b b′ nc g g′ size a h = record {
+    → Alike (b .machine) (b′ .machine) → Accepts p b l → Changed q b′ l′ → Same n l (run p b l .replies) l′ q b′
+same-run n longer.ends p q b b′ nc g g′ size a h c = record {
   taken = run-taken q b′;
   added = rw (run-silent p b, run-silent q b′) ends;
 }
-same-run n (longer.keeps {e = e} {l = l} {l′ = l′} r) p q b b′ nc g g′ size a h =
+same-run n (longer.keeps {e = e} {l = l} {l′ = l′} r) p q b b′ nc g g′ size a h c =
     let t = run-first p b e l h in
-    let z = events.alike-takes p q (b .machine) (b′ .machine) a e (nc .0) t in
-    kept n p q b b′ e l l′ t (nc .0) a
+    let z = t′ n p q b b′ e l l′ t (nc .0) a c in
+    kept n p q b b′ e l l′ t (nc .0) a c
     (same-run n r (suc p) (suc q) (onto b e) (onto b′ e) (nc .1) (events.onto-good p b g e (nc .0) t) (events.onto-good q b′ g′ e (nc .0) z)
     (events.onto-size p b g e (nc .0) t ∙ size)
     (rw (events.onto-machine p b g e (nc .0) t, events.onto-machine q b′ g′ e (nc .0) z) (events.alike-next (b .machine) (b′ .machine) a e (nc .0)))
-    (run-rest p b e l h))
-same-run n (longer.adds i lt {l = l} {l′ = l′} r) p q b b′ nc g g′ size a h =
-    let z = events.back-taken q (b′ .machine) i (subst (λ x. i < lineCount x) (sym (alike-size (b .machine) (b′ .machine) a ∙ size)) lt) in
+    (run-rest p b e l h) (changed-rest q b′ e l′ z c))
+same-run n (longer.adds i lt {l = l} {l′ = l′} r) p q b b′ nc g g′ size a h c =
+    let z = events.back-taken q (b′ .machine) i (subst (λ x. i < lineCount x) (sym (alike-size (b .machine) (b′ .machine) a ∙ size)) lt) (c .0 refl) in
     back n q b′ i lt l (run p b l .replies) l′ z
     (same-run n r p (suc q) b (onto b′ (writeBack i)) nc g (events.onto-good q b′ g′ (writeBack i) (no-crash i) z) size
-    (rw (events.onto-machine q b′ g′ (writeBack i) (no-crash i) z) (alike-back (b .machine) (b′ .machine) a (lineAt (b′ .machine .n) i))) h)
+    (rw (events.onto-machine q b′ g′ (writeBack i) (no-crash i) z) (alike-back (b .machine) (b′ .machine) a (lineAt (b′ .machine .n) i))) h
+    (changed-rest q b′ (writeBack i) l′ z c))
 
 -- ---- a whole run from a start
 
 good-begins : (m : Machine) → Even m → Good (begins m)
 good-begins m e = record { timed = moments.timed-begins m; even = e }
 
-module _ (n : ℕ) (m : Machine) (ev : Even m) (size : m .n ≡ n) (l : List Event) (h : Accepts 0 (begins m) l) (l′ : List Event) (o : LongerLate (lineCount n) l l′) where
+module _ (n : ℕ) (m : Machine) (ev : Even m) (size : m .n ≡ n) (l : List Event) (h : Accepts 0 (begins m) l) (l′ : List Event) (o : LongerLate (lineCount n) l l′) (c : Changed 0 (begins m) l′) where
   h₁ : Accepts 0 (begins m) (o .before ++ o .since)
   h₁ = subst (Accepts 0 (begins m)) (o .is) h
 
@@ -108,6 +140,7 @@ module _ (n : ℕ) (m : Machine) (ev : Even m) (size : m .n ≡ n) (l : List Eve
   s = same-run n (o .adds) (0 + length (o .before)) (0 + length (o .before)) b₁ b₁ (o .free) good₁ good₁
       (run-size (o .before) 0 (begins m) (good-begins m ev) front-taken ∙ size) (alike-self (b₁ .machine))
       (ap (λ (r : Ran). accepted (r .answer)) (sym (split (o .since))) ∙ h₁)
+      (changed-after (o .before) (o .since′) 0 (begins m) front-taken (subst (Changed 0 (begins m)) (o .is′) c))
 
   pub longer-taken : Accepts 0 (begins m) l′
   longer-taken = subst (Accepts 0 (begins m)) (sym (o .is′)) (ap (λ (r : Ran). accepted (r .answer)) (split (o .since′)) ∙ s .taken)
@@ -138,14 +171,15 @@ first-size : (s : List ℕ) → first s .n ≡ nodesIn s
 unfolding scheduleIn imageIn startWith
 first-size s = refl
 
-module _ (s : List ℕ) (bytes : Bytes s) (a : accepted (pageAnswer s) ≡ true) (l′ : List Event) (o : LongerLate (lineCount (nodesIn s)) (eventsIn s) l′) where
+module _ (s : List ℕ) (bytes : Bytes s) (a : accepted (pageAnswer s) ≡ true) (l′ : List Event) (o : LongerLate (lineCount (nodesIn s)) (eventsIn s) l′)
+    (c : Changed 0 (opened (scheduleIn s)) l′) where
   pub late-taken : accepted (runOf s l′ .answer) ≡ true
   unfolding ran
-  late-taken = longer-taken (nodesIn s) (first s) (even-start (scheduleIn s .image) (scheduleIn s .t)) (first-size s) (eventsIn s) (page-ran s a) l′ o
+  late-taken = longer-taken (nodesIn s) (first s) (even-start (scheduleIn s .image) (scheduleIn s .t)) (first-size s) (eventsIn s) (page-ran s a) l′ o c
 
   pub late-answers : AddsLate (lineCount (nodesIn s)) (eventsIn s) (ran s .replies) l′ (runOf s l′ .replies)
   unfolding ran
-  late-answers = longer-answers (nodesIn s) (first s) (even-start (scheduleIn s .image) (scheduleIn s .t)) (first-size s) (eventsIn s) (page-ran s a) l′ o
+  late-answers = longer-answers (nodesIn s) (first s) (even-start (scheduleIn s .image) (scheduleIn s .t)) (first-size s) (eventsIn s) (page-ran s a) l′ o c
 
   -- what it leaves is on the page
   pub late-on-page : (k : ℕ) × (k < endingCount s) × (endingIn s k ≡ imageLeft (runOf s l′ .bench .machine))

@@ -31,8 +31,8 @@ use Rattle.pageproof.proofs.Events.{Good}
 use Rattle.pageproof.proofs.Runs.{Accepts, Last, last-of, good-run, run-size, run-front, run-append, begins-at, andAfter}
 use Rattle.pageproof.proofs.Form.{run-form}
 use Rattle.pageproof.proofs.Fewer.{Inside, kept-inside, fewer}
-use Rattle.pageproof.proofs.Left.{leftAt, chosen}
-use Rattle.pageproof.proofs.Sow.{sow, Sown, sown}
+use Rattle.pageproof.proofs.Left.{leftAt, Ripe, chosen}
+use Rattle.pageproof.proofs.Sow.{sow, Sown, sown-self}
 
 -- the persisted copies as an image, where line j's is the content c has there
 image-is : (m : Machine) (n : ℕ) (c : List Content) → m .n ≡ n → ((j : ℕ) → j < lineCount n → persistedAt m (lineAt n j) ≡ contentAt c j) → imageLeft m ≡ inForm (m .form) (imageOf n c)
@@ -105,7 +105,7 @@ module _ (n : ℕ) (m : Machine) (ev : Even m) (size : m .n ≡ n) (l : List Eve
       };
       left = image-is (run 0 (begins m) (s .before ++ since′) .bench .machine) n (getD (choices (tableOf final)) k [])
           (run-size (s .before ++ since′) 0 (begins m) (good-begins m ev) (ap (λ (r : Ran). accepted (r .answer)) (split since′) ∙ o .taken) ∙ size)
-          (λ j r. ap (λ (r : Ran). persistedAt (r .bench .machine) (lineAt n j)) (split since′) ∙ o .left j r ∙ due j .1 r)
+          (λ j r. ap (λ (r : Ran). persistedAt (r .bench .machine) (lineAt n j)) (split since′) ∙ o .left j r ∙ due j .1 r .0)
           ∙ ap (λ f. inForm f (imageOf n (getD (choices (tableOf final)) k []))) (run-form (s .before ++ since′) 0 (begins m) (ap (λ (r : Ran). accepted (r .answer)) (split since′) ∙ o .taken));
     }
       where
@@ -132,14 +132,15 @@ module _ (n : ℕ) (m : Machine) (ev : Even m) (size : m .n ≡ n) (l : List Eve
         there : final ≡ run (0 + length (s .before)) (begins m₀) (s .since) .bench
         there = ap (λ (x : List Event). run 0 (begins m) x .bench) (s .is) ∙ ap (λ (r : Ran). r .bench) (split (s .since))
 
-        due : (j : ℕ) → (r : ℕ) × (j < lineCount n → leftAt (lineAt n j) r m₀ (s .since) (persistedAt m₀ (lineAt n j)) ≡ wanted j)
+        due : (j : ℕ) → (r : ℕ) × (j < lineCount n → (leftAt (lineAt n j) r m₀ (s .since) (persistedAt m₀ (lineAt n j)) ≡ wanted j) × Ripe (lineAt n j) r m₀ (s .since))
         due j = by (decLt j (lineCount n))
           where
-            by : Dec (j < lineCount n) → (r : ℕ) × (j < lineCount n → leftAt (lineAt n j) r m₀ (s .since) (persistedAt m₀ (lineAt n j)) ≡ wanted j)
+            by : Dec (j < lineCount n)
+                → (r : ℕ) × (j < lineCount n → (leftAt (lineAt n j) r m₀ (s .since) (persistedAt m₀ (lineAt n j)) ≡ wanted j) × Ripe (lineAt n j) r m₀ (s .since))
             by (yes r) =
                 let c = chosen (lineAt n j) (wanted j) (s .since) (0 + length (s .before)) m₀ good₀ (s .free) rest-taken
                 (subst (λ (b : Bench). Among (wanted j) (contentsOf b (lineAt n j))) there (among j r)) in
-                (c .0, λ z. c .1)
+                (c .0, λ z. (c .1, c .2))
             by (no r) = (0, λ z. absurd (r z))
 
         since′ : List Event
@@ -147,7 +148,7 @@ module _ (n : ℕ) (m : Machine) (ev : Even m) (size : m .n ≡ n) (l : List Eve
 
         o : Sown n (s .since) (run (0 + length (s .before)) (begins m₀) (s .since) .replies) since′ (0 + length (s .before)) (begins m₀)
             (λ j c. leftAt (lineAt n j) (due j .0) m₀ (s .since) c)
-        o = sown n (λ j. due j .0) (s .since) (0 + length (s .before)) (begins m₀) good₀ (s .free) size₀ rest-taken (0 + length (s .before)) (begins m₀) good₀ (alike-self m₀)
+        o = sown-self n (λ j. due j .0) (s .since) (0 + length (s .before)) (begins m₀) good₀ (s .free) size₀ rest-taken (λ j r. due j .1 r .1)
 
     pub leaves : Left (inForm (final .machine .form) (ending (final .machine .n) (tableOf final) k))
     unfolding ending

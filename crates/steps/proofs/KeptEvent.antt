@@ -10,7 +10,7 @@ use Rattle.lists.proofs.BoolLaws.{both-of}
 use Rattle.lists.proofs.FindLaws.{least-found}
 use Rattle.answer.specs.Answers.{check, accepted}
 use Rattle.answer.specs.declared.Answer.{Answer}
-use Rattle.answer.specs.declared.Answer.the-variants.{Taken, Busy, Idle, Number, NotZero, Record}
+use Rattle.answer.specs.declared.Answer.the-variants.{Taken, Busy, Idle, Number, NotZero, Record, Clean}
 use Rattle.image.specs.Layout.{contentAt}
 use Rattle.image.specs.Recovered.{firstUnclear}
 use Rattle.image.specs.Refusals.{startable, sound, fitting, whole}
@@ -21,7 +21,7 @@ use Rattle.machine.specs.Line.{lineCount, lineAt, persisted}
 use Rattle.machine.specs.Start.{startOf, startAnswer}
 use Rattle.machine.proofs.AnswerLaws.{answer-whole}
 use Rattle.machine.specs.Retire.{out, quiet}
-use Rattle.machine.specs.Event.{Deed, unknown, enqueues, dequeues, steps, writesBack, crashes, deedOf, threadTooLarge, lineTooLarge, itemNotZero, eventAnswer, done, eventAt, handed, eventOn}
+use Rattle.machine.specs.Event.{Deed, unknown, enqueues, dequeues, steps, writesBack, crashes, deedOf, threadTooLarge, lineTooLarge, itemNotZero, clean, eventAnswer, done, eventAt, handed, eventOn}
 use Rattle.machine.specs.Range.{inRange}
 use Rattle.machine.specs.declared.Machine.{Machine}
 use Rattle.machine.specs.declared.Event.{Event}
@@ -95,7 +95,7 @@ kept-done p m e steps h a =
     let l = leb-false (m .t) (e .number) (passed-number (threadTooLarge m e) p (check (itemNotZero e) (NotZero p) (check (not (busy m (e .number))) (Idle p) Taken)) a) in
     kept-step m (e .number) h l
 kept-done p m e writesBack h a =
-    let l = leb-false (lineCount (m .n)) (e .number) (passed-number (lineTooLarge m e) p (check (itemNotZero e) (NotZero p) Taken) a) in
+    let l = leb-false (lineCount (m .n)) (e .number) (passed-number (lineTooLarge m e) p (check (itemNotZero e) (NotZero p) (check (clean m (lineAt (m .n) (e .number))) (Clean p) Taken)) a) in
     kept-persist m (lineAt (m .n) (e .number)) (range-numbers m h) (line-in (m .n) (e .number) l)
 kept-done p m e crashes h a = kept-crash m h (passed-zero (pick (eqb (e .number) 0) (itemNotZero e) true) p (startable (persisted m) Taken) a)
 

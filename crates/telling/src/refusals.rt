@@ -7,6 +7,14 @@ use answer::Told;
 use compare::text::put_all;
 use machine::Event;
 
+// Whether a number refuses an event: its place is one.
+fn is_event(number: u8) -> bool {
+    if number == 19 {
+        return true;
+    }
+    9 <= number && number <= 13
+}
+
 fn kind_words(out: &mut [u8; 65536], at: usize, kind: u8) -> usize {
     match kind {
         1 => put_all(out, at, b"begin an enqueue"),
@@ -56,7 +64,7 @@ fn bytes_words(out: &mut [u8; 65536], at: usize, t: Told) -> usize {
     }
 }
 
-// Refusals of event e: 9 to 13.
+// Refusals of event e: 9 to 13, and 19.
 fn event_words(out: &mut [u8; 65536], at: usize, t: Told, e: Event) -> usize {
     if t.number == 9 {
         return said(
@@ -81,6 +89,11 @@ fn event_words(out: &mut [u8; 65536], at: usize, t: Told, e: Event) -> usize {
         10 => put_all(out, asked, b", but there is none of that number"),
         11 => put_all(out, asked, b", but it still has an operation"),
         12 => put_all(out, asked, b", but it has no operation"),
+        19 => put_all(
+            out,
+            asked,
+            b", but it is clean: its cached and persisted contents are equal",
+        ),
         _ => put_all(out, asked, b", but a field that should be zero is not"),
     }
 }
@@ -89,7 +102,7 @@ fn refusal_words(out: &mut [u8; 65536], at: usize, t: Told, e: Event) -> usize {
     if t.number <= 8 {
         return bytes_words(out, at, t);
     }
-    if t.number <= 13 {
+    if is_event(t.number) {
         return event_words(out, at, t, e);
     }
     let number = t.number;
@@ -106,7 +119,7 @@ fn refusal_words(out: &mut [u8; 65536], at: usize, t: Told, e: Event) -> usize {
 }
 
 fn event_fields(out: &mut [u8; 65536], at: usize, t: Told, e: Event) -> usize {
-    if 9 <= t.number && t.number <= 13 {
+    if is_event(t.number) {
         let first = field(out, at, e.kind as u64);
         let second = field(out, first, e.number as u64);
         return field(out, second, e.item as u64);

@@ -6,10 +6,10 @@ use Prim.Native.Nat.{ℕ, _<_}
 use native.Mathlib.Omega.{arith}
 use Rattle.answer.specs.Answers.{told, check}
 use Rattle.answer.specs.declared.Answer.{Answer}
-use Rattle.answer.specs.declared.Answer.the-variants.{Taken, Kind, Number, Busy, Idle, NotZero}
+use Rattle.answer.specs.declared.Answer.the-variants.{Taken, Kind, Number, Busy, Idle, NotZero, Clean}
 use Rattle.image.specs.Refusals.{startable}
-use Rattle.machine.specs.Line.{persisted}
-use Rattle.machine.specs.Event.{Deed, unknown, enqueues, dequeues, steps, writesBack, crashes, eventAnswer, threadTooLarge, lineTooLarge, itemNotZero}
+use Rattle.machine.specs.Line.{lineAt, persisted}
+use Rattle.machine.specs.Event.{Deed, unknown, enqueues, dequeues, steps, writesBack, crashes, eventAnswer, threadTooLarge, lineTooLarge, itemNotZero, clean}
 use Rattle.machine.specs.Stage as stage
 use Rattle.lists.specs.Find.{pick}
 use lib.Dec.{eqb}
@@ -45,6 +45,9 @@ busy-late q = record { late = λ x a b e. omega arith }
 idle-late : (q : ℕ) → Late (Idle q)
 idle-late q = record { late = λ x a b e. omega arith }
 
+clean-late : (q : ℕ) → Late (Clean q)
+clean-late q = record { late = λ x a b e. omega arith }
+
 pub taken-late : Late Taken
 taken-late = record { late = λ x a b e. omega arith }
 
@@ -64,5 +67,6 @@ module _ (b : run.Bench) (B : Bench) (r : BenchT b B) where
       (one-check (itemNotZero e) _ _ (zero-late q) (one-check (stage.busy m (e .number)) _ _ (busy-late q) taken-late))
   refused-late q e steps = one-check (threadTooLarge m e) _ _ (number-late q)
       (one-check (itemNotZero e) _ _ (zero-late q) (one-check (not (stage.busy m (e .number))) _ _ (idle-late q) taken-late))
-  refused-late q e writesBack = one-check (lineTooLarge m e) _ _ (number-late q) (one-check (itemNotZero e) _ _ (zero-late q) taken-late)
+  refused-late q e writesBack = one-check (lineTooLarge m e) _ _ (number-late q)
+      (one-check (itemNotZero e) _ _ (zero-late q) (one-check (clean m (lineAt (m .n) (e .number))) _ _ (clean-late q) taken-late))
   refused-late q e crashes = one-check (pick (eqb (e .number) 0) (itemNotZero e) true) _ _ (zero-late q) (subst Late (sym (crash-starts Taken)) taken-late)
