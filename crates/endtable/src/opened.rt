@@ -39,7 +39,8 @@ pub fn cached_at(m: Machine, l: usize) -> Content
     if l == 0 {
         return head_content(m.heads[0]);
     }
-    let v = m.nodes[l - 1];
+    let nodes = m.nodes;
+    let v = nodes[l - 1];
     content_of(v)
 }
 

@@ -42,7 +42,9 @@ fn enqueue(p: u32, m: Machine, e: Event) -> Acted
         };
     }
     let k = e.number as usize;
-    if m.threads[k].step != 0 {
+    let threads = m.threads;
+    let th = threads[k];
+    if th.step != 0 {
         return Acted {
             answer: Answer::Busy(p),
             machine: m,
@@ -77,7 +79,9 @@ fn dequeue(p: u32, m: Machine, e: Event) -> Acted
         };
     }
     let k = e.number as usize;
-    if m.threads[k].step != 0 {
+    let threads = m.threads;
+    let th = threads[k];
+    if th.step != 0 {
         return Acted {
             answer: Answer::Busy(p),
             machine: m,
@@ -112,7 +116,9 @@ fn step(p: u32, m: Machine, e: Event) -> Acted
         };
     }
     let k = e.number as usize;
-    if m.threads[k].step == 0 {
+    let threads = m.threads;
+    let th = threads[k];
+    if th.step == 0 {
         return Acted {
             answer: Answer::Idle(p),
             machine: m,

@@ -13,7 +13,8 @@ fn join(m: Machine, k: usize, u: usize, w: u8) -> u8
     if u == k {
         return w;
     }
-    let th = m.threads[u];
+    let threads = m.threads;
+    let th = threads[u];
     if th.step == 0 {
         return w;
     }

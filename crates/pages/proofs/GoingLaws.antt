@@ -42,7 +42,7 @@ use Rattle.pageproof.proofs.Even as evens
 use Rattle.pageproof.proofs.Runs as runs
 use Rattle.pages.specs.Rows.{atsOf, countsOf, openedRows, rowsTouched, rowsAfter}
 use Rattle.schedule.specs.Running.{Reached, benchTo, ranTo, openedRun, forwardRun}
-use Rattle.onward.proofs.Reached.{reached-opened, reached-next}
+use Rattle.onward.proofs.Reached.{reached-opened, reached-next, forward-is}
 use Rattle.schedule.specs.declared.Running.{Running}
 use Rattle.pages.specs.Going.{Going, RunIs}
 use Rattle.pages.specs.declared.rows.Row.{Row}
@@ -283,6 +283,51 @@ under-next s g rows u below r is t told h x q =
       subst (Reached s) (sym is) (reached-next s g (u .2) a),
     )
 
--- the events left are fewer
-pub less : (s : List ℕ) (g : Running) → g .place < g .count → (r : Running) → r ≡ forwardRun s g → r .count - r .place < g .count - g .place
-less s g below r is = subst (λ (z : Running). z .count - z .place < g .count - g .place) (sym is) (omega arith)
+-- ---- the loop's own values: the opened run g, how many events were taken, and the machine after them
+
+abbrev pub runAt : Running → ℕ → Machine → Running
+runAt g i m = record {
+  t = g .t;
+  n = g .n;
+  form = g .form;
+  count = g .count;
+  place = i;
+  answer = g .answer;
+  machine = m;
+  event = g .event;
+  touch = g .touch;
+}
+
+pub under-start : (s : List ℕ) → accepted (scheduleAnswer s) ≡ true → (g : Running) → g ≡ openedRun s → (rows : List Row) → rows ≡ openedRows (g .machine) → Under s (runAt g 0 (g .machine)) rows
+under-start s a g is rows =
+    subst (λ (z : Running). rows ≡ openedRows (z .machine) → Under s (runAt z 0 (z .machine)) rows) (sym is) (under-begun s a (openedRun s) refl rows)
+
+-- an event e on the machine m, with the outcome o: t says whether it was taken
+module _ (s : List ℕ) (g : Running) (i : ℕ) (m : Machine) (rows : List Row) (u : Under s (runAt g i m) rows) (below : i < g .count) where
+  -- the event's bytes lie within the schedule's
+  pub under-fits : (known (g .form) ≡ true) × ((g .n ≤ 64) × (eventPlace (g .form) (g .n) i + 6 ≤ length s))
+  under-fits =
+      rw (u .2 .form, u .2 .nodes)
+      (let l = codec.schedule-lies s (u .2 .schedule) in (l .0, (l .1 .0, codec.event-fits s i (u .2 .schedule) (omega (arith, u .2 .count)))))
+
+  pub under-count : i < 4096
+  under-count = omega (arith, u .2 .count, codec.schedule-taken s (u .2 .schedule) .count)
+
+  module _ (e : Event) (o : Acted) (is-e : e ≡ eventFrom s (eventPlace (g .form) (g .n) i)) (is-o : o ≡ eventAt i m e) (t : Bool) (told : t ≡ accepted (o .answer)) where
+    abbrev further : Running
+    further = record { t = g .t; n = g .n; form = g .form; count = g .count; place = i + 1; answer = o .answer; machine = o .machine; event = e; touch = o .touch }
+
+    is : further ≡ forwardRun s (runAt g i m)
+    is = forward-is s (runAt g i m) (u .2 .nodes) (u .2 .form) e o is-e is-o
+
+    pub further-under : not t ≡ false → (x : List Row) → x ≡ rowsAfter rows e o → Under s (runAt g (i + 1) (o .machine)) x
+    further-under h x q =
+        let z = under-next s (runAt g i m) rows u below further is t told h x q in
+        let r = z .2 in
+        (z .0, z .1, record { schedule = r .schedule; nodes = r .nodes; form = r .form; count = r .count; machine = r .machine; taken = r .taken; come = r .come })
+
+    pub further-small : not t ≡ false → o .machine .n ≤ 64
+    further-small = going-on-small s (runAt g i m) rows (u .1) (u .2 .count) below further is t told
+
+    pub further-stop : not t ≡ true → (x : Machine) → RunIs s (record { answer = o .answer; machine = x; rows = rows })
+    further-stop = going-stop s (runAt g i m) rows (u .1) (u .2 .count) below further is t told

@@ -11,7 +11,6 @@ use answer::Answer;
 use endtable::opened::cached_at;
 use endtable::touched::touched_row;
 use machine::Machine;
-use onward::forward;
 use onward::opened;
 use schedule::Schedule;
 
@@ -26,13 +25,17 @@ pub fn run_events(s: &[u8], d: Schedule) -> Run
     requires { ⌜ (accepted (scheduleAnswer (now s)) ≡ true) × (d ≡ scheduleIn (now s)) ⌝ }
     ensures { λ r. ⌜ RunIs (now (s .entry)) r ⌝ }
 {
-    let mut g = opened(s, d);
-    let begun = g.machine;
-    let mut rows = opened_rows(begun);
-    while g.place < g.count {
-        let next = forward(s, g);
-        let a = next.answer;
-        let m = next.machine;
+    let g = opened(s, d);
+    let mut m = g.machine;
+    let mut rows = opened_rows(m);
+    let mut i = 0;
+    while i < g.count {
+        let e = codec::event_at(s, g.form, g.n as usize, i);
+        let out = events::act(i as u32, m, e);
+        let next = out.machine;
+        m = next;
+        i += 1;
+        let a = out.answer;
         if !answer::is_taken(a) {
             return Run {
                 answer: a,
@@ -40,13 +43,11 @@ pub fn run_events(s: &[u8], d: Schedule) -> Run
                 rows,
             };
         }
-        g = next;
-        let e = next.event;
         if e.kind == 5 {
             rows = opened_rows(m);
             continue;
         }
-        let touch = next.touch;
+        let touch = out.touch;
         let w = touched_row(m.n, touch);
         let l = w.line;
         if 65 <= l {
@@ -55,10 +56,9 @@ pub fn run_events(s: &[u8], d: Schedule) -> Run
         let row = rows[l];
         rows[l] = row_joined(row, cached_at(m, l), w.persisted);
     }
-    let machine = g.machine;
     Run {
         answer: Answer::Taken,
-        machine,
+        machine: m,
         rows,
     }
 }

@@ -172,7 +172,8 @@ fn thread_fits(m: Machine, k: usize) -> bool
     requires { ⌜ (k < 8) × (m .n ≤ 64) ⌝ }
     ensures { λ r. ⌜ r ≡ threadFits m k ⌝ }
 {
-    let v = m.threads[k];
+    let threads = m.threads;
+    let v = threads[k];
     let u = used_by(v.step);
     if 19 < v.step {
         return false;
@@ -194,7 +195,9 @@ fn thread_fits(m: Machine, k: usize) -> bool
     }
     if v.step == 12 {
         let t = v.tail as usize;
-        return m.nodes[t].next != 255;
+        let nodes = m.nodes;
+        let w = nodes[t];
+        return w.next != 255;
     }
     true
 }

@@ -36,7 +36,8 @@ fn enqueue_step(m: Machine, k: usize) -> Acted
     requires { ⌜ Ready m k × (thread m k .step ≤ 12) ⌝ }
     ensures { λ r. ⌜ r ≡ stepped m k (stage m k) ⌝ }
 {
-    let th = m.threads[k];
+    let threads = m.threads;
+    let th = threads[k];
     let s = th.step;
     match s {
         Machine::A1 => enqueue::a1(m, k),
@@ -64,7 +65,8 @@ fn dequeue_step(m: Machine, k: usize) -> Acted
     requires { ⌜ Ready m k × (12 < thread m k .step) ⌝ }
     ensures { λ r. ⌜ r ≡ stepped m k (stage m k) ⌝ }
 {
-    let th = m.threads[k];
+    let threads = m.threads;
+    let th = threads[k];
     let s = th.step;
     match s {
         Machine::D1 => dequeue::d1(m, k),
@@ -87,7 +89,8 @@ pub fn one_step(m: Machine, k: usize) -> Acted
     requires { ⌜ Ready m k ⌝ }
     ensures { λ r. ⌜ r ≡ stepped m k (stage m k) ⌝ }
 {
-    let th = m.threads[k];
+    let threads = m.threads;
+    let th = threads[k];
     if th.step <= Machine::A12 {
         return enqueue_step(m, k);
     }

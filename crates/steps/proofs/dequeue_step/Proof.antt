@@ -10,23 +10,23 @@ use Rattle.steps.proofs.dequeue_step.Tie as tie
 mul-th : tie.Need-mul-th
 mul-th c = search needs
 
-element-copy-out-th : tie.Need-element-copy-out-th
-element-copy-out-th c = search needs
+array-copy-out-th : tie.Need-array-copy-out-th
+array-copy-out-th c = search needs
 
 d1-requires : tie.Need-d1-requires
 d1-requires c κs = search needs
 
 d2-requires : tie.Need-d2-requires
-d2-requires c κs = let r = c .before .before .pre .0 in (r .thread-in, r .head-in (rw (c .match .keys2)))
+d2-requires c κs = let r = c .before .before .before .pre .0 in (r .thread-in, r .head-in (rw (c .match .keys2)))
 
 d3-requires : tie.Need-d3-requires
 d3-requires c κs = search needs
 
 d4-requires : tie.Need-d4-requires
-d4-requires c κs = let r = c .before .before .pre .0 in (r .thread-in, r .next-in (rw (c .match .keys4)))
+d4-requires c κs = let r = c .before .before .before .pre .0 in (r .thread-in, r .next-in (rw (c .match .keys4)))
 
 d5-requires : tie.Need-d5-requires
-d5-requires c κs = let r = c .before .before .pre .0 in (r .thread-in, r .next-in (rw (c .match .keys5)))
+d5-requires c κs = let r = c .before .before .before .pre .0 in (r .thread-in, r .next-in (rw (c .match .keys5)))
 
 d6-requires : tie.Need-d6-requires
 d6-requires c κs = search needs
@@ -57,9 +57,9 @@ returns-7 c = rw (c .d7 .ensures, c .before .match .keys7)
 
 returns-8 : tie.Need-returns-8
 returns-8 c =
-    let a = c .before .before .args in
+    let a = c .before .before .before .args in
     let r = c .match .rest in
-    let s = thread (a .t1) (a .k) .step in
+    let s = thread (a .m) (a .k) .step in
     let h : 19 < s = laws.past 19 s (laws.past 18 s (laws.past 17 s (laws.past 16 s (laws.past 15 s (laws.past 14 s (laws.past 13 s (omega arith) (r .0 .0 .0 .0 .0 .0 .1)) (r .0 .0 .0 .0 .0 .1)) (r .0 .0 .0 .0 .1)) (r .0 .0 .0 .1)) (r .0 .0 .1)) (r .0 .1)) (r .1) in
     rw (no-step s h)
 
@@ -68,7 +68,7 @@ dequeue-step-spec =
     tie.close
     (tie.spec
     mul-th
-    element-copy-out-th
+    array-copy-out-th
     d1-requires
     d2-requires
     d3-requires

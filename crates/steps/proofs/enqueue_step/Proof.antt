@@ -9,44 +9,44 @@ use Rattle.steps.proofs.enqueue_step.Tie as tie
 mul-th : tie.Need-mul-th
 mul-th c = search needs
 
-element-copy-out-th : tie.Need-element-copy-out-th
-element-copy-out-th c = search needs
+array-copy-out-th : tie.Need-array-copy-out-th
+array-copy-out-th c = search needs
 
 a1-requires : tie.Need-a1-requires
 a1-requires c κs = search needs
 
 a2-requires : tie.Need-a2-requires
-a2-requires c κs = let r = c .before .before .pre .0 in (r .thread-in, r .own-in (rw (c .match .keys2)))
+a2-requires c κs = let r = c .before .before .before .pre .0 in (r .thread-in, r .own-in (rw (c .match .keys2)))
 
 a3-requires : tie.Need-a3-requires
-a3-requires c κs = let r = c .before .before .pre .0 in (r .thread-in, r .own-in (rw (c .match .keys3)))
+a3-requires c κs = let r = c .before .before .before .pre .0 in (r .thread-in, r .own-in (rw (c .match .keys3)))
 
 a4-requires : tie.Need-a4-requires
-a4-requires c κs = let r = c .before .before .pre .0 in (r .thread-in, r .own-in (rw (c .match .keys4)))
+a4-requires c κs = let r = c .before .before .before .pre .0 in (r .thread-in, r .own-in (rw (c .match .keys4)))
 
 a5-requires : tie.Need-a5-requires
 a5-requires c κs = search needs
 
 a6-requires : tie.Need-a6-requires
-a6-requires c κs = let r = c .before .before .pre .0 in (r .thread-in, r .t-in (rw (c .match .keys6)))
+a6-requires c κs = let r = c .before .before .before .pre .0 in (r .thread-in, r .t-in (rw (c .match .keys6)))
 
 a7-requires : tie.Need-a7-requires
-a7-requires c κs = let r = c .before .before .pre .0 in (r .thread-in, r .nodes-in, r .own-in (rw (c .match .keys7)), r .t-in (rw (c .match .keys7)))
+a7-requires c κs = let r = c .before .before .before .pre .0 in (r .thread-in, r .nodes-in, r .own-in (rw (c .match .keys7)), r .t-in (rw (c .match .keys7)))
 
 a8-requires : tie.Need-a8-requires
-a8-requires c κs = let r = c .before .before .pre .0 in (r .thread-in, r .t-in (rw (c .match .keys8)))
+a8-requires c κs = let r = c .before .before .before .pre .0 in (r .thread-in, r .t-in (rw (c .match .keys8)))
 
 a9-requires : tie.Need-a9-requires
-a9-requires c κs = let r = c .before .before .pre .0 in (r .thread-in, r .own-in (rw (c .match .keys9)))
+a9-requires c κs = let r = c .before .before .before .pre .0 in (r .thread-in, r .own-in (rw (c .match .keys9)))
 
 a10-requires : tie.Need-a10-requires
-a10-requires c κs = let r = c .before .before .pre .0 in (r .thread-in, r .own-in (rw (c .match .keys10)))
+a10-requires c κs = let r = c .before .before .before .pre .0 in (r .thread-in, r .own-in (rw (c .match .keys10)))
 
 a11-requires : tie.Need-a11-requires
 a11-requires c κs = search needs
 
 a12-requires : tie.Need-a12-requires
-a12-requires c κs = let r = c .before .before .pre .0 in (r .thread-in, r .t-in (rw (c .match .keys12)))
+a12-requires c κs = let r = c .before .before .before .pre .0 in (r .thread-in, r .t-in (rw (c .match .keys12)))
 
 returns : tie.Need-returns
 returns c = rw (c .a1 .ensures, c .before .match .keys1)
@@ -89,8 +89,8 @@ returns-13 c = rw (c .match .keys13)
 
 returns-14 : tie.Need-returns-14
 returns-14 c =
-    let a = c .before .before .args in
-    let s = thread (a .t1) (a .k) .step in
+    let a = c .before .before .before .args in
+    let s = thread (a .m) (a .k) .step in
     let r = c .match .rest in
     let h : 13 ≤ s = past 12 s (past 11 s (past 10 s (past 9 s (past 8 s (past 7 s (past 6 s (past 5 s (past 4 s (past 3 s (past 2 s (past 1 s (past 0 s (omega arith) (r .1)) (r .0 .0 .0 .0 .0 .0 .0 .0 .0 .0 .0 .0 .1)) (r .0 .0 .0 .0 .0 .0 .0 .0 .0 .0 .0 .1)) (r .0 .0 .0 .0 .0 .0 .0 .0 .0 .0 .1)) (r .0 .0 .0 .0 .0 .0 .0 .0 .0 .1)) (r .0 .0 .0 .0 .0 .0 .0 .0 .1)) (r .0 .0 .0 .0 .0 .0 .0 .1)) (r .0 .0 .0 .0 .0 .0 .1)) (r .0 .0 .0 .0 .0 .1)) (r .0 .0 .0 .0 .1)) (r .0 .0 .0 .1)) (r .0 .0 .1)) (r .0 .1) in
     absurd (omega arith)
@@ -100,7 +100,7 @@ enqueue-step-spec =
     tie.close
     (tie.spec
     mul-th
-    element-copy-out-th
+    array-copy-out-th
     a1-requires
     a2-requires
     a3-requires

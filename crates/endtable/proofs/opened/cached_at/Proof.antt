@@ -19,16 +19,16 @@ sub-v c = search needs
 mul-v : tie.Need-mul-v
 mul-v c = search needs
 
-element-copy-out-v : tie.Need-element-copy-out-v
-element-copy-out-v c = search needs
+array-copy-out-v : tie.Need-array-copy-out-v
+array-copy-out-v c = search needs
 
 content-of-requires : tie.Need-content-of-requires
 content-of-requires c κs = search needs
 
 returns-2 : tie.Need-returns-2
 returns-2 c =
-    let a = c .before .before .before .args in
-    c .content-of .ensures ∙ laws.cached-node (a .t1) (a .l) (c .before .before .if1 .left)
+    let a = c .before .before .before .before .args in
+    c .content-of .ensures ∙ laws.cached-node (a .t1) (a .l) (c .before .before .before .if1 .left)
 
 pub cached-at-spec : {M : Type 1} → statement M
 cached-at-spec =
@@ -39,6 +39,6 @@ cached-at-spec =
     returns
     sub-v
     mul-v
-    element-copy-out-v
+    array-copy-out-v
     content-of-requires
     returns-2)
