@@ -7,13 +7,13 @@ ghost use Rattle.answer.specs.Answers.{accepted};
 ghost use Rattle.image.specs.Form.{known};
 ghost use Rattle.machine.specs.Line.{lineCount};
 ghost use Rattle.endtable.specs.Picks.{Ready};
-ghost use Rattle.pages.specs.Paged.{PageIs};
+ghost use Rattle.runs.specs.Paged.{PageIs};
 use crate::sums::START;
 use crate::sums::sum_front;
 use endtable::ending::ending_image;
 use endtable::ending::ending_picks;
 use image::Content;
-use pages::running::Run;
+use runs::running::Run;
 
 fn sum_table(
     t: [[Content; 16]; 65],
@@ -46,15 +46,15 @@ fn sum_run(s: &[u8], r: Run, count: u32) -> u64
     let m = r.machine;
     let n = m.n;
     let rows = r.rows;
-    let counts = pages::tables::counts_of(rows);
-    let t = pages::tables::table_of(rows);
+    let counts = runs::tables::counts_of(rows);
+    let t = runs::tables::table_of(rows);
     let mut lent = [0u8; 846];
     sum_table(t, counts, m.form, n, count, &mut lent)
 }
 
 // The sum of a schedule's first `count` endings; of no bytes where it is refused.
 pub(crate) fn sum_endings(s: &[u8], count: u32) -> u64 {
-    let r = pages::paging::page_of(s);
+    let r = runs::paging::page_of(s);
     let a = r.answer;
     if !answer::is_taken(a) {
         return START;

@@ -1,5 +1,5 @@
 use mathlib.Core.Path.{sym, _∙_}
-use Rattle.pages.proofs.GoingLaws as going
+use Rattle.runs.proofs.GoingLaws as going
 use borrow.Author.Needs.{needs}
 use Rattle.compare_pages.proofs.runs.sum_endings.Statement.{statement}
 use Rattle.compare_pages.proofs.runs.sum_endings.Tie as tie

@@ -1,5 +1,5 @@
 use native.Mathlib.Omega.{arith}
-use Rattle.pages.proofs.PageLaws as pages
+use Rattle.runs.proofs.PageLaws as pages
 use borrow.Author.Needs.{needs}
 use Rattle.compare_pages.proofs.runs.sum_run.Statement.{statement}
 use Rattle.compare_pages.proofs.runs.sum_run.Tie as tie

@@ -8,7 +8,7 @@ use Rattle.endtable.specs.Opened.{blankCounts}
 use Rattle.endtable.specs.Picks.{picksOf, Filled}
 use Rattle.endtable.proofs.Digits as digits
 use Rattle.image.proofs.FormLaws.{place-most}
-use Rattle.pages.proofs.PageLaws as pages
+use Rattle.runs.proofs.PageLaws as pages
 use borrow.Author.Needs.{needs}
 use Rattle.compare_pages.proofs.runs.sum_table.Statement.{statement}
 use Rattle.compare_pages.proofs.runs.sum_table.Tie as tie
