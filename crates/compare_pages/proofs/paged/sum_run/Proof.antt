@@ -1,8 +1,8 @@
 use native.Mathlib.Omega.{arith}
 use Rattle.runs.proofs.PageLaws as pages
 use borrow.Author.Needs.{needs}
-use Rattle.compare_pages.proofs.runs.sum_run.Statement.{statement}
-use Rattle.compare_pages.proofs.runs.sum_run.Tie as tie
+use Rattle.compare_pages.proofs.paged.sum_run.Statement.{statement}
+use Rattle.compare_pages.proofs.paged.sum_run.Tie as tie
 
 counts-of-requires : tie.Need-counts-of-requires
 counts-of-requires c κs = search needs

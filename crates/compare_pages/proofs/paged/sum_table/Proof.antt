@@ -10,8 +10,8 @@ use Rattle.endtable.proofs.Digits as digits
 use Rattle.image.proofs.FormLaws.{place-most}
 use Rattle.runs.proofs.PageLaws as pages
 use borrow.Author.Needs.{needs}
-use Rattle.compare_pages.proofs.runs.sum_table.Statement.{statement}
-use Rattle.compare_pages.proofs.runs.sum_table.Tie as tie
+use Rattle.compare_pages.proofs.paged.sum_table.Statement.{statement}
+use Rattle.compare_pages.proofs.paged.sum_table.Tie as tie
 
 abbrev Inv-loop : tie.InvT-loop
 Inv-loop t counts form n count lent₀ whole sum₀ k₀ lent sum k = (k ≤ count) × (length lent ≡ length lent₀)

@@ -1,8 +1,8 @@
 use mathlib.Core.Path.{sym, _∙_}
 use Rattle.runs.proofs.GoingLaws as going
 use borrow.Author.Needs.{needs}
-use Rattle.compare_pages.proofs.runs.sum_endings.Statement.{statement}
-use Rattle.compare_pages.proofs.runs.sum_endings.Tie as tie
+use Rattle.compare_pages.proofs.paged.sum_endings.Statement.{statement}
+use Rattle.compare_pages.proofs.paged.sum_endings.Tie as tie
 
 page-of-requires : tie.Need-page-of-requires
 page-of-requires c κs = search needs
