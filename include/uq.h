@@ -2,7 +2,7 @@
 
    Images, schedules and machine records are bytes, as document 01 and docs/DECISIONS.md lay them out. Every call is a function of
    the bytes it is handed and nothing else: it keeps no state, calls nothing but memcpy and memset, always returns, and is proved to give what
-   its definition in crates/library/specs says, for every input. Calls may run on several threads at once.
+   its definition in crates/calls/specs says, for every input. Calls may run on several threads at once.
 
    What a caller owes, since nothing here can test it: each pointer is not null (not even with a length of 0) and has that many
    bytes behind it, bytes that a call writes do not overlap those it reads, and no length is above 2^63 - 1. uq_count_endings,

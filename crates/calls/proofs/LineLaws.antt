@@ -27,7 +27,7 @@ use Rattle.page.specs.Refusals.{andThen, firstCrowded, tableIn, tableAnswer, pa
 use Rattle.pages.specs.Lines.{lineAnswer, lineIn, blankRow, firstOf, sixteen}
 use Rattle.codec.proofs.Accepted as codec
 use Rattle.codec.proofs.Laws.{length-body, body-next}
-use Rattle.pages.proofs.PageLaws as pages
+use Rattle.runs.proofs.PageLaws as pages
 use Rattle.calls.specs.Line.{indexBytes, partsOf, roomOf, lineBytes, lineAnswered, lineGiven, lineWritten}
 use Rattle.calls.proofs.Apart as apart
 use Rattle.calls.proofs.Laws as laws

@@ -20,7 +20,7 @@ use Rattle.machine.specs.declared.Places.{Places}
 use Rattle.schedule.specs.Layout.{scheduleAnswer}
 use Rattle.page.specs.Refusals.{andThen, pageAnswer, endingAnswer}
 use Rattle.record.specs.Layout.{readRecord, recordIn, recordAnswer, recordWritten}
-use Rattle.pages.specs.Paged.{countOf}
+use Rattle.runs.specs.Paged.{countOf}
 use Rattle.calls.specs.Packed.{packed, replyOf}
 
 abbrev pub imageChecked : List ℕ → ℕ

@@ -44,7 +44,7 @@ fn joined_words(a: u32, b: u32) -> u64
 }
 
 // The number of 64 bits at a place.
-fn long_at(s: &[u8], at: usize) -> u64
+pub fn long_at(s: &[u8], at: usize) -> u64
     requires { ⌜ at + 8 ≤ length (now s) ⌝ }
     ensures { λ r. ⌜ r ≡ atW 8 (now (s .entry)) at ⌝ }
 {

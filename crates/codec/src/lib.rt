@@ -10,6 +10,7 @@ pub mod sound;
 mod writing;
 
 pub use bytes::form_in;
+pub use bytes::long_at;
 pub use bytes::put_index;
 pub use bytes::put_word;
 pub use bytes::word_at;

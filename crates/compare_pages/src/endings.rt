@@ -1,7 +1,7 @@
 // What the public calls say of a schedule's endings.
 ghost use Prim.Native.Nat.{_≤_};
 ghost use lib.ListN.{length};
-use crate::runs::sum_endings;
+use crate::paged::sum_endings;
 use crate::sums::START;
 use crate::sums::put_sum_line;
 use crate::sums::sum_front;

@@ -6,7 +6,7 @@
 //   refused ..   ending COUNT
 //   refused ..   the last ending in a buffer that is one byte too short
 mod endings;
-mod runs;
+mod paged;
 mod sums;
 
 use compare::text::finish;

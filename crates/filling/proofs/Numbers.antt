@@ -27,10 +27,10 @@ use Rattle.codec.proofs.Accepted as codec
 use Rattle.pageproof.proofs.Even as evens
 use Rattle.pageproof.proofs.Runs as runs
 use Rattle.pageproof.proofs.Holds as holds
-use Rattle.pages.specs.Rows.{countsOf}
-use Rattle.pages.specs.Paged.{PageIs}
-use Rattle.pages.specs.declared.running.Run.{Run}
-use Rattle.pages.proofs.PageLaws as laws
+use Rattle.runs.specs.Rows.{countsOf}
+use Rattle.runs.specs.Paged.{PageIs}
+use Rattle.runs.specs.declared.running.Run.{Run}
+use Rattle.runs.proofs.PageLaws as laws
 
 -- its schedule is not refused
 pub schedule-first : (s : List ℕ) → accepted (pageAnswer s) ≡ true → accepted (scheduleAnswer s) ≡ true

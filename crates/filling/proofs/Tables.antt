@@ -14,10 +14,10 @@ use Rattle.page.specs.Refusals.{endingCount, endingIn}
 use Rattle.page.specs.Filled.{pageLine}
 use Rattle.endtable.specs.Picks.{picksOf, pickedImage, endingFrom}
 use Rattle.printing.specs.Lines.{lineFrom}
-use Rattle.pages.specs.Rows.{atsOf, countsOf}
-use Rattle.pages.specs.Paged.{PageIs}
-use Rattle.pages.specs.declared.running.Run.{Run}
-use Rattle.pages.proofs.PageLaws as laws
+use Rattle.runs.specs.Rows.{atsOf, countsOf}
+use Rattle.runs.specs.Paged.{PageIs}
+use Rattle.runs.specs.declared.running.Run.{Run}
+use Rattle.runs.proofs.PageLaws as laws
 use Rattle.printing.proofs.ItemLaws as lines
 use Rattle.filling.specs.Lines.{tableLine}
 use Rattle.filling.proofs.Lined.{Lined, lined-same}

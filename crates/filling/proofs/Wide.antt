@@ -41,7 +41,7 @@ use Rattle.pageproof.proofs.Among.{Among, choice-in}
 use Rattle.pageproof.proofs.Events.{onto}
 use Rattle.pageproof.proofs.Runs as runs
 use Rattle.pageproof.proofs.Holds as holds
-use Rattle.pages.proofs.PageLaws as laws
+use Rattle.runs.proofs.PageLaws as laws
 use Rattle.printing.specs.Bounds.{lineRoom}
 use Rattle.printing.proofs.Short as short
 use Rattle.filling.proofs.Numbers as numbers

@@ -6,10 +6,10 @@ ghost use Rattle.page.specs.Filled.{linesAnswer, linesTaken, linesBytes, linesW
 ghost use Rattle.filling.specs.Lines.{TakesOne, refusalAnswer, refusalBytes, refusalWritten};
 use crate::table::fill;
 use answer::Answer;
-use pages::paging::page_of;
-use pages::tables::counts_of;
-use pages::tables::table_of;
 use printing::fitting::fit_number_place;
+use runs::paging::page_of;
+use runs::tables::counts_of;
+use runs::tables::table_of;
 
 pub struct Lines {
     pub answer: Answer,

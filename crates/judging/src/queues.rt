@@ -4,7 +4,7 @@ ghost use Prim.Native.Nat.{_+_, _≤_, _<_};
 ghost use Rattle.judging.specs.History.{firstCount, lastCount};
 ghost use Rattle.judging.specs.Place.{Whole, itemOf, isThere, sameQueue};
 use crate::Place;
-use crate::reading::word_at;
+use codec::word_at;
 
 // The item at place p of all items.
 pub fn item_at(h: &[u8], x: Place, p: usize) -> u32

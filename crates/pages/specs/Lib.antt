@@ -1,4 +1,1 @@
-pub mod Rows
-pub mod Going
-pub mod Paged
 pub mod Lines

@@ -4,12 +4,12 @@ ghost use lib.ListN.{length};
 ghost use Rattle.answer.specs.Answers.{told};
 ghost use Rattle.image.specs.Layout.{inForm};
 ghost use Rattle.page.specs.Refusals.{pageAnswer, endingAnswer, endingWritten};
-ghost use Rattle.pages.specs.Paged.{countOf};
-use crate::paging::page_of;
-use crate::tables::counts_of;
-use crate::tables::table_of;
+ghost use Rattle.runs.specs.Paged.{countOf};
 use answer::Answer;
 use image::Image;
+use runs::paging::page_of;
+use runs::tables::counts_of;
+use runs::tables::table_of;
 
 pub struct Count {
     pub answer: Answer,

@@ -5,10 +5,10 @@ ghost use lib.ListN.{length};
 ghost use Rattle.answer.specs.Answers.{told};
 ghost use Rattle.answer.specs.declared.Answer.the-variants.{Taken as taken};
 ghost use Rattle.pages.specs.Lines.{lineAnswer, lineIn, blankRow, sixteen, firstOf};
-use crate::paging::page_of;
-use crate::rows::Row;
 use answer::Answer;
 use image::Content;
+use runs::paging::page_of;
+use runs::rows::Row;
 
 // How many contents a line has, and these, oldest first; those beyond are blank, and on a refusal all.
 pub struct LineContents {

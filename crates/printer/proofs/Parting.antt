@@ -16,9 +16,9 @@ use Rattle.page.specs.Refusals.{endingCount}
 use Rattle.page.specs.Filled.{linesOn, fitting, pageLine}
 use Rattle.printing.proofs.Fittings as fits
 use Rattle.printing.proofs.Written as written
-use Rattle.pages.specs.Rows.{atsOf, countsOf}
-use Rattle.pages.specs.Paged.{PageIs}
-use Rattle.pages.specs.declared.running.Run.{Run}
+use Rattle.runs.specs.Rows.{atsOf, countsOf}
+use Rattle.runs.specs.Paged.{PageIs}
+use Rattle.runs.specs.declared.running.Run.{Run}
 use Rattle.filling.specs.Lines.{tableLine}
 use Rattle.filling.proofs.Numbers as numbers
 use Rattle.filling.proofs.Tables as tables

@@ -10,13 +10,13 @@ ghost use Rattle.page.specs.Refusals.{pageAnswer};
 ghost use Rattle.page.specs.Printed.{printed, refusedLine};
 ghost use Rattle.page.specs.Filled.{linesOn};
 ghost use Rattle.endtable.specs.Picks.{Ready};
-ghost use Rattle.pages.specs.Paged.{PageIs};
+ghost use Rattle.runs.specs.Paged.{PageIs};
 ghost use Rattle.filling.specs.Lines.{tableLine};
 ghost use Rattle.printer.specs.Parts.{NextPart};
 use answer::Answer;
 use image::Content;
 use libc::STDOUT_FILENO;
-use pages::running::Run;
+use runs::running::Run;
 
 // Whether the schedule was refused, whether standard output took the whole text, and then its length.
 pub struct Printed {
@@ -81,11 +81,11 @@ fn print_run(s: &[u8], r: Run, b: &mut [u8], done: &mut usize) -> bool
     let m = r.machine;
     let n = m.n;
     let rows = r.rows;
-    let counts = pages::tables::counts_of(rows);
+    let counts = runs::tables::counts_of(rows);
     let count = endtable::ending::ending_count(counts, n as usize + 1);
     let o = codec::open_schedule(s);
     let d = o.schedule;
-    let t = pages::tables::table_of(rows);
+    let t = runs::tables::table_of(rows);
     print_lines(s, t, counts, n, d.t, d.count, count, b, done)
 }
 
@@ -96,7 +96,7 @@ pub fn print_page(s: &[u8], b: &mut [u8]) -> Printed
     ensures prints { λ r. ⌜ (r .whole ≡ true → r .bytes ≡ length (printed (now (s .entry)))) ⌝ }
 {
     let mut done = 0;
-    let r = pages::paging::page_of(s);
+    let r = runs::paging::page_of(s);
     let a = r.answer;
     if !answer::is_taken(a) {
         let whole = print_refused(s, a, &mut done);

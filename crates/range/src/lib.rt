@@ -38,16 +38,10 @@ pub struct Hands {
 fn sizes_fit(n: u8, t: u8) -> bool
     ensures { λ r. ⌜ r ≡ sizesIn n t ⌝ }
 {
-    if n < 2 {
+    if !machine::start::nodes_fit(n) {
         return false;
     }
-    if 64 < n {
-        return false;
-    }
-    if t < 1 {
-        return false;
-    }
-    t <= 8
+    machine::start::threads_fit(t)
 }
 
 // Head, Tail and the one last handed out are nodes.

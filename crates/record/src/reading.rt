@@ -1,13 +1,13 @@
 // A record read from bytes that are long enough.
 ghost use mathlib.Core.Path.{_≡_};
-ghost use Prim.Native.Nat.{_+_, _*_, _≤_};
-ghost use mathlib.Core.List.{[], _∷_};
+ghost use Prim.Native.Nat.{_+_, _≤_};
 ghost use lib.ListN.{length};
 ghost use Rattle.lists.specs.Tab.{front};
-ghost use Rattle.image.specs.Bytes.{numOf, at4};
 ghost use Rattle.image.specs.Layout.{noContents};
 ghost use Rattle.machine.specs.Record.{blankNodes, idleThreads};
-ghost use Rattle.record.specs.Layout.{recordSize, isRecord, at8, readNode, readKept, readThread, nodeIn, keptIn, threadIn, recordIn};
+ghost use Rattle.record.specs.Layout.{recordSize, isRecord, readNode, readKept, readThread, nodeIn, keptIn, threadIn, recordIn};
+use codec::long_at;
+use codec::word_at;
 use image::Content;
 use image::no_contents;
 use image::no_heads;
@@ -16,34 +16,6 @@ use machine::Node;
 use machine::Thread;
 use machine::blank::blank_nodes;
 use machine::blank::idle_threads;
-
-fn num(a: u8, b: u8, c: u8, d: u8) -> u32
-    ensures { λ r. ⌜ r ≡ numOf (a ∷ b ∷ c ∷ d ∷ []) ⌝ }
-{
-    (a as u32) + (b as u32) * 256 + (c as u32) * 65536 + (d as u32) * 16777216
-}
-
-fn word_at(s: &[u8], at: usize) -> u32
-    requires { ⌜ at + 4 ≤ length (now s) ⌝ }
-    ensures { λ r. ⌜ r ≡ at4 (now (s .entry)) at ⌝ }
-{
-    num(s[at], s[at + 1], s[at + 2], s[at + 3])
-}
-
-fn joined_words(a: u32, b: u32) -> u64
-    ensures { λ r. ⌜ r ≡ a + b * 4294967296 ⌝ }
-{
-    (a as u64) + (b as u64) * 4294967296
-}
-
-fn long_at(s: &[u8], at: usize) -> u64
-    requires { ⌜ at + 8 ≤ length (now s) ⌝ }
-    ensures { λ r. ⌜ r ≡ at8 (now (s .entry)) at ⌝ }
-{
-    let low = word_at(s, at);
-    let high = word_at(s, at + 4);
-    joined_words(low, high)
-}
 
 // Whether the bytes begin with a record's mark and version.
 pub fn is_record(s: &[u8]) -> bool

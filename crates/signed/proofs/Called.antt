@@ -17,7 +17,7 @@ use Rattle.image.specs.Layout.{imageBytes}
 use Rattle.page.specs.Refusals.{pageAnswer, endingCount, endingIn, endingWritten}
 use Rattle.lawful.specs.Demand3.{Bytes}
 use Rattle.printing.proofs.Short.{number-small}
-use Rattle.pages.specs.Paged.{countOf}
+use Rattle.runs.specs.Paged.{countOf}
 use Rattle.calls.specs.Calls.{endingsCounted, endingGiven}
 use Rattle.calls.specs.Packed.{packed}
 use Rattle.calls.proofs.Apart.{number-back, value-back, place-back}

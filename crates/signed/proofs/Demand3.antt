@@ -18,7 +18,7 @@ use Rattle.page.specs.Refusals.{pageAnswer, endingCount, endingIn, endingAnswer
 use Rattle.lawful.specs.Demand3.{Bytes, Demand3}
 use Rattle.pageproof.proofs.Holds.{page-holds}
 use Rattle.lawproof.proofs.Lawful3.{page-lawful}
-use Rattle.pages.specs.Paged.{countOf}
+use Rattle.runs.specs.Paged.{countOf}
 use Rattle.pages.specs.declared.calls.Count.{Count}
 use Rattle.signed.specs.Signed.{Counts, Writes, endingSize, Page, Signed, AllSigned}
 

@@ -10,7 +10,7 @@ use Rattle.answer.specs.Answers.{accepted}
 use Rattle.page.specs.Refusals.{pageAnswer}
 use Rattle.page.specs.Printed.{refusedLine, printed}
 use Rattle.codec.proofs.Long.{long-refused, long-same}
-use Rattle.pages.proofs.PageLaws.{page-bytes}
+use Rattle.runs.proofs.PageLaws.{page-bytes}
 
 module _ (s : List ℕ) (long : 25430 < length s) where
   pub page-refused : accepted (pageAnswer s) ≡ false

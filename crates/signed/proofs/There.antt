@@ -6,7 +6,7 @@ use contract.Lifetimes.{Lfts}
 use denote.Ref.{RefT}
 use lib.ListN.{length}
 use Rattle.page.specs.Refusals.{pageAnswer, endingAnswer, endingWritten}
-use Rattle.pages.specs.Paged.{countOf}
+use Rattle.runs.specs.Paged.{countOf}
 use Rattle.calls.specs.Calls.{endingsCounted, endingGiven}
 use Rattle.signed.specs.Signed.{Counts, Writes}
 use Rattle.signed.specs.Called.{CountsC, WritesC}

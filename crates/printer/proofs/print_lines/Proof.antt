@@ -3,7 +3,7 @@ use mathlib.Core.Path.{_≡_, refl, sym, ap, _∙_}
 use lib.ListN.{length}
 use Rattle.page.specs.Filled.{linesOn, fitting}
 use Rattle.printing.proofs.Fittings as fits
-use Rattle.pages.proofs.GoingLaws as going
+use Rattle.runs.proofs.GoingLaws as going
 use Rattle.filling.specs.Lines.{tableLine}
 use Rattle.printer.proofs.Parting as parts
 use native.Mathlib.Omega.{arith}

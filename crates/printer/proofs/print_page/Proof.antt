@@ -3,7 +3,7 @@ use mathlib.Core.Bool.{not}
 use Rattle.answer.specs.Answers.{accepted}
 use Rattle.page.specs.Printed.{refusedLine}
 use Rattle.printing.proofs.PageLaws as pages
-use Rattle.pages.proofs.GoingLaws as going
+use Rattle.runs.proofs.GoingLaws as going
 use borrow.Author.Needs.{needs}
 use Rattle.printer.proofs.print_page.Statement.{statement}
 use Rattle.printer.proofs.print_page.Tie as tie

@@ -1,6 +1,6 @@
 use Prim.Native.Nat.{_≤_}
 use mathlib.Core.Path.{_∙_}
-use Rattle.pages.proofs.PageLaws as pages
+use Rattle.runs.proofs.PageLaws as pages
 use Rattle.filling.proofs.Numbers as numbers
 use Rattle.printer.proofs.Parting as parts
 use native.Mathlib.Omega.{arith}

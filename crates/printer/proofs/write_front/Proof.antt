@@ -1,6 +1,6 @@
 use mathlib.Core.Path.{sym}
 use lib.Seq.{length-take-le}
-use Rattle.pages.proofs.GoingLaws as going
+use Rattle.runs.proofs.GoingLaws as going
 use mathlib.Core.Path.{refl}
 use borrow.Author.Needs.{needs}
 use Rattle.printer.proofs.write_front.Statement.{statement}

@@ -5,8 +5,8 @@ use Rattle.answer.specs.Answers.{accepted}
 use Rattle.answer.specs.declared.Answer.the-variants.{NoEnding, Room}
 use Rattle.page.specs.Refusals.{pageAnswer, endingCount}
 use Rattle.page.specs.Filled.{pageLine}
-use Rattle.pages.proofs.GoingLaws as going
-use Rattle.pages.proofs.PageLaws as pages
+use Rattle.runs.proofs.GoingLaws as going
+use Rattle.runs.proofs.PageLaws as pages
 use Rattle.filling.proofs.Numbers as numbers
 use Rattle.filling.proofs.Answers as answers
 use Rattle.filling.proofs.Tables as tables

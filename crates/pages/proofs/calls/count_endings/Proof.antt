@@ -3,8 +3,8 @@ use borrow.Author.Needs.{needs}
 use native.Mathlib.Omega.{arith}
 use mathlib.Core.Path.{_≡_, refl, sym, ap, _∙_}
 use Prim.Native.Nat.{_+_, _*_, _≤_, _<_}
-use Rattle.pages.proofs.GoingLaws as going
-use Rattle.pages.proofs.PageLaws as laws
+use Rattle.runs.proofs.GoingLaws as going
+use Rattle.runs.proofs.PageLaws as laws
 use Rattle.codec.proofs.Accepted as codec
 use borrow.Author.Needs.{needs}
 use Rattle.pages.proofs.calls.count_endings.Statement.{statement}
@@ -12,8 +12,8 @@ use Rattle.pages.proofs.calls.count_endings.Tie as tie
 use Rattle.pages.proofs.calls.count_endings.Reads as reads
 use Rattle.pages.proofs.calls.count_endings.Lts as lts
 use Rattle.endtable.proofs.ending.ending_count.Reads as ending-count-reads
-use Rattle.pages.proofs.paging.page_of.Reads as page-of-reads
-use Rattle.pages.proofs.tables.counts_of.Reads as counts-of-reads
+use Rattle.runs.proofs.paging.page_of.Reads as page-of-reads
+use Rattle.runs.proofs.tables.counts_of.Reads as counts-of-reads
 
 page-of-requires : tie.Need-page-of-requires
 page-of-requires c κs = search needs

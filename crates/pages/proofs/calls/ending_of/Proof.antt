@@ -8,8 +8,8 @@ use borrow.Author.Needs.{needs}
 use native.Mathlib.Omega.{arith}
 use mathlib.Core.Path.{_≡_, refl, sym, ap, _∙_}
 use Prim.Native.Nat.{_+_, _*_, _≤_, _<_}
-use Rattle.pages.proofs.GoingLaws as going
-use Rattle.pages.proofs.PageLaws as laws
+use Rattle.runs.proofs.GoingLaws as going
+use Rattle.runs.proofs.PageLaws as laws
 use Rattle.codec.proofs.Accepted as codec
 use borrow.Author.Needs.{needs}
 use Rattle.pages.proofs.calls.ending_of.Statement.{statement}
@@ -20,9 +20,9 @@ use Rattle.codec.proofs.put_image.Reads as put-image-reads
 use Rattle.endtable.proofs.ending.ending_count.Reads as ending-count-reads
 use Rattle.endtable.proofs.ending.ending_image.Reads as ending-image-reads
 use Rattle.endtable.proofs.ending.ending_picks.Reads as ending-picks-reads
-use Rattle.pages.proofs.paging.page_of.Reads as page-of-reads
-use Rattle.pages.proofs.tables.counts_of.Reads as counts-of-reads
-use Rattle.pages.proofs.tables.table_of.Reads as table-of-reads
+use Rattle.runs.proofs.paging.page_of.Reads as page-of-reads
+use Rattle.runs.proofs.tables.counts_of.Reads as counts-of-reads
+use Rattle.runs.proofs.tables.table_of.Reads as table-of-reads
 
 page-of-requires : tie.Need-page-of-requires
 page-of-requires c κs = search needs

@@ -6,8 +6,8 @@ use borrow.Author.Needs.{needs}
 use Rattle.answer.specs.Answers.{told, accepted}
 use Rattle.page.specs.Refusals.{pageAnswer}
 use Rattle.pages.specs.Lines.{lineAnswer}
-use Rattle.pages.proofs.GoingLaws as going
-use Rattle.pages.proofs.PageLaws as pages
+use Rattle.runs.proofs.GoingLaws as going
+use Rattle.runs.proofs.PageLaws as pages
 use Rattle.pages.proofs.LineLaws as laws
 use Rattle.pages.proofs.lines.line_contents.Statement.{statement}
 use Rattle.pages.proofs.lines.line_contents.Tie as tie

@@ -1,0 +1,67 @@
+// The rows that a run keeps: for each line up to sixteen contents and their count, 17 standing for more.
+ghost use mathlib.Core.Path.{_≡_};
+ghost use Prim.Native.Nat.{_≤_, _<_};
+ghost use Rattle.machine.specs.Line.{lineCount};
+ghost use Rattle.runs.specs.Rows.{rowsOf, openedRows, rowJoined, noRows};
+use endtable::opened::opened_counts;
+use endtable::opened::opened_table;
+use endtable::row::count_after;
+use endtable::row::row_after;
+use image::Content;
+use machine::Machine;
+
+pub struct Row {
+    pub count: u8,
+    pub at: [Content; 16],
+}
+
+// Behind a contract, so that no goal has the rows written out.
+pub fn no_rows() -> [Row; 65]
+    ensures { λ r. ⌜ r ≡ noRows ⌝ }
+{
+    let zero = Content {
+        linked: 0,
+        index: 0,
+        item: 0,
+    };
+    let row = Row {
+        count: 0,
+        at: [zero; 16],
+    };
+    [row; 65]
+}
+
+// The rows of a table and its counts.
+fn rows_of(t: [[Content; 16]; 65], counts: [u8; 65]) -> [Row; 65]
+    ensures { λ r. ⌜ r ≡ rowsOf t counts 65 ⌝ }
+{
+    let mut rows = no_rows();
+    let mut i = 0;
+    while i < 65 {
+        let at = t[i];
+        rows[i] = Row {
+            count: counts[i],
+            at,
+        };
+        i += 1;
+    }
+    rows
+}
+
+// After a start.
+pub fn opened_rows(m: Machine) -> [Row; 65]
+    requires { ⌜ m .n ≤ 64 ⌝ }
+    ensures { λ r. ⌜ r ≡ openedRows m ⌝ }
+{
+    rows_of(opened_table(m), opened_counts(m))
+}
+
+// A line that was stored to, or persisted, and now has the cached content c.
+pub fn row_joined(row: Row, c: Content, persisted: bool) -> Row
+    ensures { λ r. ⌜ r ≡ rowJoined row c persisted ⌝ }
+{
+    let old = row.at;
+    let count = count_after(old, row.count, c, persisted);
+    let at = row_after(old, row.count, c, persisted);
+    Row { count, at }
+}
