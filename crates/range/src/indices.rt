@@ -38,9 +38,10 @@ fn threads_narrow(m: Machine) -> bool
 {
     let t = m.t as usize;
     let top = top_of(m.form);
+    let threads = m.threads;
     let mut k = 0;
     while k < t {
-        let v = m.threads[k];
+        let v = threads[k];
         if top < v.index {
             return false;
         }

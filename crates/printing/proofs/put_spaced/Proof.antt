@@ -33,18 +33,15 @@ mul-x c = omega arith
 array-read-x : tie.Need-array-read-x Inv-loop μ-loop
 array-read-x c = omega arith
 
-add-put-decimal : tie.Need-add-put-decimal Inv-loop μ-loop
-add-put-decimal c =
+add-put-item : tie.Need-add-put-item Inv-loop μ-loop
+add-put-item c =
     let a = c .before .before .before .before .args in
     let p = c .before .before .loop in
     let n : length (a .t3) ≡ 64 = search needs in
     omega (arith, laws.spaced-within (a .t3) (p .i) (a .c) (omega arith) (omega arith))
 
-cast-put-decimal : tie.Need-cast-put-decimal Inv-loop μ-loop
-cast-put-decimal c = search needs
-
-put-decimal-requires : tie.Need-put-decimal-requires Inv-loop μ-loop
-put-decimal-requires c κs =
+put-item-requires : tie.Need-put-item-requires Inv-loop μ-loop
+put-item-requires c κs =
     let a = c .before .before .before .before .args in
     let p = c .before .before .loop in
     let n : length (a .t3) ≡ 64 = search needs in
@@ -60,7 +57,7 @@ loop-again : tie.Need-loop-again Inv-loop μ-loop
 loop-again c =
     let a = c .before .before .before .before .before .before .before .args in
     let p = c .before .before .before .before .before .loop in
-    let e = c .before .before .put-decimal .ensures in
+    let e = c .before .before .put-item .ensures in
     let n : length (a .t3) ≡ 64 = search needs in (
       omega arith,
       omega (arith, e .0, laws.length-next (a .t3) (p .i) (omega arith)),
@@ -90,9 +87,8 @@ put-spaced-spec =
     slice-write-b
     mul-x
     array-read-x
-    add-put-decimal
-    cast-put-decimal
-    put-decimal-requires
+    add-put-item
+    put-item-requires
     add-i
     loop-less
     loop-again
