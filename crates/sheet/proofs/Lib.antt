@@ -1,0 +1,3 @@
+pub mod MarkLaws
+pub mod OrderLaws
+pub mod TurnLaws
