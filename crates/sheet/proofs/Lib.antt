@@ -1,3 +1,4 @@
 pub mod MarkLaws
 pub mod OrderLaws
 pub mod TurnLaws
+pub mod PlaceLaws

@@ -1,4 +1,5 @@
 // The page's lines one from the other.
 pub mod marks;
 pub mod order;
+pub mod tell;
 pub mod turn;

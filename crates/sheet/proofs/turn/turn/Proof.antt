@@ -44,10 +44,10 @@ element-write-picks c = omega arith
 
 returns : tie.Need-returns Inv-loop μ-loop
 returns c =
-    let a = c .before .before .before .before .before .before .args in
-    let p = c .before .before .before .before .before .loop in (
+    let a = c .before .before .before .before .before .before .before .args in
+    let p = c .before .before .before .before .before .before .loop in (
       sym (laws.at-here (a .counts .now) (p .picks) (p .i) (omega arith) (omega arith)) ∙ p .inv .2,
-      ap (set (p .picks) (p .i - 1)) (c .before .next .ensures) ∙ sym (turns.turn-here (a .counts .now) (p .picks) (p .i) (omega arith) (omega arith)) ∙ p .inv .1,
+      ap (set (p .picks) (p .i - 1)) (c .next .ensures) ∙ sym (turns.turn-here (a .counts .now) (p .picks) (p .i) (omega arith) (omega arith)) ∙ p .inv .1,
     )
 
 element-write-picks-2 : tie.Need-element-write-picks-2 Inv-loop μ-loop
