@@ -2,3 +2,4 @@ pub mod MarkLaws
 pub mod OrderLaws
 pub mod TurnLaws
 pub mod PlaceLaws
+pub mod TellLaws

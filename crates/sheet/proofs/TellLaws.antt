@@ -1,0 +1,154 @@
+-- The end of a line, slot by slot.
+use Prim.Native.Nat.{ℕ, zero, suc, _+_, _-_, _*_, _/_, _%_, _≤_, _<_}
+use mathlib.Core.Path.{_≡_, refl, sym, ap, ap₂, subst, _∙_}
+use mathlib.Core.Bool.{Bool, true, false}
+use mathlib.Core.List.{List, [], _∷_, _++_, append-assoc, append-nil}
+use mathlib.Core.Logic.{_⊎_, inl, inr}
+use native.Mathlib.Omega.{arith}
+use native.Mathlib.Decide.{decLt}
+use native.Mathlib.Numerals.{add-one}
+use native.Mathlib.Nat.{eq-or-lt-of-le}
+use borrow.Author.Tests.{eq-eqb, ne-eqb, lt-ltb, le-ltb}
+use lib.Dec.{ltb}
+use Rattle.lists.specs.Find.{both}
+use lib.ListN.{length, getD, set, take, drop, length-append, length-set}
+use lib.Seq.{length-take-le, take-at, take-take, getD-set-same, getD-set-other}
+use Rattle.lists.specs.Tab.{joined, over}
+use Rattle.lists.specs.Text.{text, decimal}
+use Rattle.lists.proofs.TabLaws as tabs
+use Rattle.printing.proofs.Written as written
+use Rattle.sheet.specs.Told.{pieceIf, pieceOf, pieceAt, toldTo, toldEnd, closing, Told}
+
+-- ---- one slot
+
+pub piece-other : (d j head rank item : ℕ) → (d ≡ j → ⊥) → [] ≡ pieceOf d j head rank item
+unfolding pieceOf
+piece-other d j head rank item h = sym (ap (λ (b : Bool). pieceIf item (both b (ltb head rank))) (ne-eqb d j h))
+
+pub piece-low : (d j head rank item : ℕ) → d ≡ j → rank ≤ head → [] ≡ pieceOf d j head rank item
+unfolding pieceOf
+piece-low d j head rank item e h = sym (ap₂ (λ (b x : Bool). pieceIf item (both b x)) (eq-eqb d j e) (le-ltb head rank h))
+
+pub piece-some : (d j head rank item : ℕ) → d ≡ j → head < rank → 32 ∷ decimal item ≡ pieceOf d j head rank item
+unfolding pieceOf text
+piece-some d j head rank item e h = sym (ap₂ (λ (b x : Bool). pieceIf item (both b x)) (eq-eqb d j e) (lt-ltb head rank h))
+
+pub put-nothing : (l : List ℕ) (p : ℕ) (s : List ℕ) → [] ≡ s → ((p ≡ p + length s) × (p ≤ p + 11)) × (l ≡ over l p s)
+unfolding over
+put-nothing l p s e = ((omega (arith, ap length e), omega arith), ap (over l p) e)
+
+-- what is written over a buffer behind what stands in its front
+pub over-front : (l : List ℕ) (p : ℕ) (s : List ℕ) → p + length s ≤ length l → take (p + length s) (over l p s) ≡ take p l ++ s
+over-front l p s h =
+    ap (take (p + length s)) (tabs.over-is l p s h)
+    ∙ take-at (take p l ++ s) (drop (p + length s) l) (p + length s) (length-append (take p l) s ∙ ap (λ (n : ℕ). n + length s) (length-take-le p l (omega arith)))
+
+-- ---- one slot after the other
+
+module _ (ranks items slots ps : List ℕ) (head : ℕ) where
+  pub told-more : (c : ℕ) → toldTo ranks items slots ps head (c + 1) ≡ toldTo ranks items slots ps head c ++ pieceAt ranks items slots ps head c
+  unfolding toldTo joined
+  told-more c =
+      ap (λ (k : ℕ). (text " " ++ decimal head) ++ joined (pieceAt ranks items slots ps head) k) (add-one c)
+      ∙ sym (append-assoc (text " " ++ decimal head) (joined (pieceAt ranks items slots ps head) c) (pieceAt ranks items slots ps head c))
+
+  pub told-next : (c p q : ℕ) (end ends end′ : List ℕ) (s : List ℕ) → Told ranks items slots ps head c end ends → p ≡ getD ends c 0
+      → s ≡ pieceAt ranks items slots ps head c → q ≡ p + length s → end′ ≡ over end p s → p + length s ≤ length end → c + 1 < length ends → q ≤ p + 11
+      → Told ranks items slots ps head (c + 1) end′ (set ends (c + 1) q)
+  told-next c p q end ends end′ s t e z n w r l m = record {
+    begins = λ k h. by k (eq-or-lt-of-le h);
+    short = λ k h. low k (eq-or-lt-of-le h);
+    text =
+        ap (λ (k : ℕ). take k end′) (getD-set-same ends (c + 1) q 0 l ∙ n)
+        ∙ ap (take (p + length s)) w
+        ∙ over-front end p s r
+        ∙ ap₂ (λ (a b : List ℕ). a ++ b) (ap (λ (k : ℕ). take k end) e ∙ t .text) z
+        ∙ sym (told-more c);
+  }
+    where
+      by : (k : ℕ) → (k ≡ c + 1) ⊎ (k < c + 1) → getD (set ends (c + 1) q) k 0 ≡ length (toldTo ranks items slots ps head k)
+      by k (inl i) =
+          ap (λ (k : ℕ). getD (set ends (c + 1) q) k 0) i
+          ∙ getD-set-same ends (c + 1) q 0 l
+          ∙ n
+          ∙ ap₂ (λ (a b : ℕ). a + b) (e ∙ t .begins c (omega arith)) (ap length z)
+          ∙ sym (length-append (toldTo ranks items slots ps head c) (pieceAt ranks items slots ps head c))
+          ∙ sym (ap length (told-more c))
+          ∙ ap (λ (k : ℕ). length (toldTo ranks items slots ps head k)) (sym i)
+      by k (inr i) = getD-set-other ends (c + 1) k q 0 (omega arith) ∙ t .begins k (omega arith)
+      low : (k : ℕ) → (k ≡ c + 1) ⊎ (k < c + 1) → getD (set ends (c + 1) q) k 0 ≤ 21 + 11 * k
+      low k (inl i) =
+          let g : getD (set ends (c + 1) q) k 0 ≡ q = ap (λ (k : ℕ). getD (set ends (c + 1) q) k 0) i ∙ getD-set-same ends (c + 1) q 0 l in
+          omega (arith, g, m, e, t .short c (omega arith))
+      low k (inr i) = omega (arith, getD-set-other ends (c + 1) k q 0 (omega arith), t .short k (omega arith))
+
+-- ---- the first slot, and the line's end
+
+module _ (ranks items slots ps : List ℕ) (head : ℕ) where
+  told-none : toldTo ranks items slots ps head 0 ≡ text " " ++ decimal head
+  unfolding toldTo joined
+  told-none = append-nil (text " " ++ decimal head)
+
+  pub told-first : (end ends : List ℕ) (p : ℕ) (end′ : List ℕ) → p ≡ length (text " " ++ decimal head) → end′ ≡ over end 0 (text " " ++ decimal head)
+      → p ≤ 21 → p ≤ length end → 0 < length ends → Told ranks items slots ps head 0 end′ (set ends 0 p)
+  told-first end ends p end′ n w m r l =
+      let g = getD-set-same ends 0 p 0 l in
+      let here : getD (set ends 0 p) 0 0 ≡ length (toldTo ranks items slots ps head 0) = g ∙ n ∙ sym (ap length told-none) in
+      record {
+    begins = λ k h. let z : k ≡ 0 = omega arith in ap (λ (k : ℕ). getD (set ends 0 p) k 0) z ∙ here ∙ ap (λ (k : ℕ). length (toldTo ranks items slots ps head k)) (sym z);
+    short = λ k h. let z : k ≡ 0 = omega arith in omega (arith, ap (λ (k : ℕ). getD (set ends 0 p) k 0) z, g, m);
+    text =
+        ap₂ (λ (k : ℕ) (z : List ℕ). take k z) (g ∙ n ∙ (let o : length (text " " ++ decimal head) ≡ 0 + length (text " " ++ decimal head) = omega arith in o)) w
+        ∙ over-front end 0 (text " " ++ decimal head) (omega (arith, n))
+        ∙ sym told-none;
+  }
+
+  -- what is written behind changes nothing of it
+  pub told-over : (c : ℕ) (end ends : List ℕ) (s : List ℕ) → Told ranks items slots ps head c end ends → getD ends c 0 + length s ≤ length end
+      → Told ranks items slots ps head c (over end (getD ends c 0) s) ends
+  told-over c end ends s t h = record {
+    begins = t .begins;
+    short = t .short;
+    text =
+        ap (take (getD ends c 0)) (tabs.over-is end (getD ends c 0) s h ∙ append-assoc (take (getD ends c 0) end) s (drop (getD ends c 0 + length s) end))
+        ∙ take-at (take (getD ends c 0) end) (s ++ drop (getD ends c 0 + length s) end) (getD ends c 0) (length-take-le (getD ends c 0) end (omega arith))
+        ∙ t .text;
+  }
+
+  pub told-end : (c : ℕ) (end ends : List ℕ) (s : List ℕ) → Told ranks items slots ps head c end ends → getD ends c 0 + length s ≤ length end
+      → s ≡ closing (joined (pieceAt ranks items slots ps head) c)
+      → take (getD ends c 0 + length s) (over end (getD ends c 0) s) ≡ toldEnd ranks items slots ps head c
+  unfolding toldEnd
+  told-end c end ends s t h e = over-front end (getD ends c 0) s h ∙ ap₂ (λ (a b : List ℕ). a ++ b) (t .text) e
+
+  length-told : (c : ℕ) → length (toldTo ranks items slots ps head c) ≡ length (text " " ++ decimal head) + length (joined (pieceAt ranks items slots ps head) c)
+  unfolding toldTo
+  length-told c = length-append (text " " ++ decimal head) (joined (pieceAt ranks items slots ps head) c)
+
+  close-none : (l : List ℕ) → length l ≡ 0 → 32 ∷ 45 ∷ 10 ∷ [] ≡ closing l
+  unfolding text
+  close-none [] h = refl
+  close-none (x ∷ l) h = absurd (omega arith)
+
+  close-some : (l : List ℕ) → (length l ≡ 0 → ⊥) → 10 ∷ [] ≡ closing l
+  close-some [] h = absurd (h refl)
+  close-some (x ∷ l) h = refl
+
+  -- nothing was told where the last slot begins where the first does
+  pub told-nothing : (c : ℕ) (end ends : List ℕ) → Told ranks items slots ps head c end ends → getD ends c 0 ≡ getD ends 0 0
+      → 32 ∷ 45 ∷ 10 ∷ [] ≡ closing (joined (pieceAt ranks items slots ps head) c)
+  told-nothing c end ends t e =
+      close-none (joined (pieceAt ranks items slots ps head) c)
+      (omega (arith, e, t .begins c (omega arith), t .begins 0 (omega arith), ap length told-none, length-told c))
+
+  pub told-something : (c : ℕ) (end ends : List ℕ) → Told ranks items slots ps head c end ends → (getD ends c 0 ≡ getD ends 0 0 → ⊥)
+      → 10 ∷ [] ≡ closing (joined (pieceAt ranks items slots ps head) c)
+  told-something c end ends t e =
+      close-some (joined (pieceAt ranks items slots ps head) c)
+      (λ z. e (omega (arith, z, t .begins c (omega arith), t .begins 0 (omega arith), ap length told-none, length-told c)))
+
+-- ---- a blank and a number
+
+pub put-spaced : (l : List ℕ) (p : ℕ) (x q : ℕ) (m : List ℕ) → (q ≡ p + 1 + length (decimal x)) × (m ≡ over (set l p 32) (p + 1) (decimal x))
+    → (q ≡ p + length (32 ∷ decimal x)) × (m ≡ over l p (32 ∷ decimal x))
+put-spaced l p x q m h = (omega (arith, h .0), h .1 ∙ ap (λ (z : List ℕ). over z (p + 1) (decimal x)) (written.one l p 32) ∙ tabs.over-append l p (32 ∷ []) (decimal x))

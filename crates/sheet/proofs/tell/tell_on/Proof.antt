@@ -1,0 +1,69 @@
+use native.Mathlib.Omega.{arith}
+use borrow.Author.Needs.{needs}
+use Prim.Native.Nat.{ℕ, _+_, _-_, _*_, _/_, _%_, _≤_, _<_}
+use mathlib.Core.Path.{_≡_, refl, sym, ap, ap₂, subst, _∙_}
+use lib.ListN.{length, getD, take, set}
+use borrow.Author.Needs.{needs}
+use Rattle.sheet.proofs.tell.tell_on.Statement.{statement}
+use Rattle.sheet.proofs.tell.tell_on.Tie as tie
+
+tell-anew-requires : tie.Need-tell-anew-requires
+tell-anew-requires c κs = search needs
+
+same-length : tie.Need-same-length
+same-length c = search needs
+
+same-length-2 : tie.Need-same-length-2
+same-length-2 c = search needs
+
+returns : tie.Need-returns
+returns c = search needs
+
+element-copy-out-wide : tie.Need-element-copy-out-wide
+element-copy-out-wide c = search needs
+
+wide-requires : tie.Need-wide-requires
+wide-requires c κs = search needs
+
+mul-head : tie.Need-mul-head
+mul-head c = search needs
+
+element-copy-out-head : tie.Need-element-copy-out-head
+element-copy-out-head c = search needs
+
+mul-from : tie.Need-mul-from
+mul-from c = search needs
+
+element-copy-out-from : tie.Need-element-copy-out-from
+element-copy-out-from c = search needs
+
+tell-from-requires : tie.Need-tell-from-requires
+tell-from-requires c κs = omega arith
+
+same-length-3 : tie.Need-same-length-3
+same-length-3 c = search needs
+
+same-length-4 : tie.Need-same-length-4
+same-length-4 c = search needs
+
+returns-2 : tie.Need-returns-2
+returns-2 c = ?returns-2
+
+pub tell-on-spec : {M : Type 1} → statement M
+tell-on-spec =
+    tie.close
+    (tie.spec
+    tell-anew-requires
+    same-length
+    same-length-2
+    returns
+    element-copy-out-wide
+    wide-requires
+    mul-head
+    element-copy-out-head
+    mul-from
+    element-copy-out-from
+    tell-from-requires
+    same-length-3
+    same-length-4
+    returns-2)
