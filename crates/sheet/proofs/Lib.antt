@@ -3,3 +3,4 @@ pub mod OrderLaws
 pub mod TurnLaws
 pub mod PlaceLaws
 pub mod TellLaws
+pub mod ChosenLaws

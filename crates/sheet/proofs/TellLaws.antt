@@ -5,7 +5,7 @@ use mathlib.Core.Bool.{Bool, true, false}
 use mathlib.Core.List.{List, [], _∷_, _++_, append-assoc, append-nil}
 use mathlib.Core.Logic.{_⊎_, inl, inr}
 use native.Mathlib.Omega.{arith}
-use native.Mathlib.Decide.{decLt}
+use native.Mathlib.Decide.{decLt, ℕ-discrete}
 use native.Mathlib.Numerals.{add-one}
 use native.Mathlib.Nat.{eq-or-lt-of-le}
 use borrow.Author.Tests.{eq-eqb, ne-eqb, lt-ltb, le-ltb}
@@ -17,7 +17,7 @@ use Rattle.lists.specs.Tab.{joined, over}
 use Rattle.lists.specs.Text.{text, decimal}
 use Rattle.lists.proofs.TabLaws as tabs
 use Rattle.printing.proofs.Written as written
-use Rattle.sheet.specs.Told.{pieceIf, pieceOf, pieceAt, toldTo, toldEnd, closing, Told}
+use Rattle.sheet.specs.Told.{pieceIf, pieceOf, pieceAt, toldTo, toldEnd, closing, Told, Closed}
 
 -- ---- one slot
 
@@ -146,6 +146,24 @@ module _ (ranks items slots ps : List ℕ) (head : ℕ) where
   told-something c end ends t e =
       close-some (joined (pieceAt ranks items slots ps head) c)
       (λ z. e (omega (arith, z, t .begins c (omega arith), t .begins 0 (omega arith), ap length told-none, length-told c)))
+
+  -- the line once it is closed
+  pub told-closed : (c : ℕ) (end ends end′ : List ℕ) (p begin r : ℕ) → Told ranks items slots ps head c end ends → p ≡ getD ends c 0 → begin ≡ getD ends 0 0
+      → p + 3 ≤ length end → Closed end p begin end′ r
+      → Told ranks items slots ps head c end′ ends × ((r ≤ p + 3) × (take r end′ ≡ toldEnd ranks items slots ps head c))
+  unfolding text
+  told-closed c end ends end′ p begin r t e f h k = by (ℕ-discrete p begin)
+    where
+      with : (s : List ℕ) → length s ≤ 3 → r ≡ p + length s → end′ ≡ over end p s → s ≡ closing (joined (pieceAt ranks items slots ps head) c)
+          → Told ranks items slots ps head c end′ ends × ((r ≤ p + 3) × (take r end′ ≡ toldEnd ranks items slots ps head c))
+      with s l z w y =
+          let w′ : end′ ≡ over end (getD ends c 0) s = w ∙ ap (λ (k : ℕ). over end k s) e in (
+            subst (λ (x : List ℕ). Told ranks items slots ps head c x ends) (sym w′) (told-over c end ends s t (omega (arith, e))),
+            (omega (arith, z), ap₂ (λ (k : ℕ) (x : List ℕ). take k x) (z ∙ ap (λ (k : ℕ). k + length s) e) w′ ∙ told-end c end ends s t (omega (arith, e)) y),
+          )
+      by : Dec (p ≡ begin) → Told ranks items slots ps head c end′ ends × ((r ≤ p + 3) × (take r end′ ≡ toldEnd ranks items slots ps head c))
+      by (yes d) = with (32 ∷ 45 ∷ 10 ∷ []) (omega arith) (k .0 d .0) (k .0 d .1) (told-nothing c end ends t (sym e ∙ d ∙ f))
+      by (no d) = with (10 ∷ []) (omega arith) (k .1 d .0) (k .1 d .1) (told-something c end ends t (λ z. d (e ∙ z ∙ sym f)))
 
 -- ---- a blank and a number
 

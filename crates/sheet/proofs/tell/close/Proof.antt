@@ -4,6 +4,7 @@ use Prim.Native.Nat.{ℕ, _+_, _-_, _*_, _/_, _%_, _≤_, _<_}
 use mathlib.Core.Path.{_≡_, refl, sym, ap, ap₂, subst, _∙_}
 use lib.ListN.{length, getD, take, set}
 use borrow.Author.Needs.{needs}
+use Rattle.lists.specs.Text.{text}
 use Rattle.sheet.proofs.tell.close.Statement.{statement}
 use Rattle.sheet.proofs.tell.close.Tie as tie
 
@@ -17,7 +18,8 @@ same-length : tie.Need-same-length
 same-length c = search needs
 
 returns : tie.Need-returns
-returns c = ?returns
+unfolding text
+returns c = (λ e. (omega (arith, c .before .before .put .ensures .0), c .before .before .put .ensures .1), λ n. absurd (n (omega arith)))
 
 slice-aggregate-put-2 : tie.Need-slice-aggregate-put-2
 slice-aggregate-put-2 c = search needs
@@ -29,7 +31,8 @@ same-length-2 : tie.Need-same-length-2
 same-length-2 c = search needs
 
 returns-2 : tie.Need-returns-2
-returns-2 c = ?returns-2
+unfolding text
+returns-2 c = (λ e. absurd (omega arith), λ n. (omega (arith, c .before .before .put2 .ensures .0), c .before .before .put2 .ensures .1))
 
 pub close-spec : {M : Type 1} → statement M
 close-spec =
