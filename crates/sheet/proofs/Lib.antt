@@ -4,3 +4,5 @@ pub mod TurnLaws
 pub mod PlaceLaws
 pub mod TellLaws
 pub mod ChosenLaws
+pub mod TextLaws
+pub mod EndLaws

@@ -1,0 +1,55 @@
+use native.Mathlib.Omega.{arith}
+use borrow.Author.Needs.{needs}
+use Prim.Native.Nat.{ℕ, _+_, _-_, _*_, _/_, _%_, _≤_, _<_}
+use mathlib.Core.Path.{_≡_, refl, sym, ap, ap₂, subst, _∙_}
+use lib.ListN.{length, getD, take, set}
+use borrow.Author.Needs.{needs}
+use mathlib.Core.List.{List, _++_}
+use lib.ListN.{length-append}
+use lib.Seq.{length-take-le}
+use Rattle.lists.specs.Text.{decimal}
+use Rattle.printing.proofs.Fittings as fits
+use Rattle.printing.proofs.Written as written
+use Rattle.sheet.proofs.stretch.fit_line.Statement.{statement}
+use Rattle.sheet.proofs.stretch.fit_line.Tie as tie
+
+width-of-requires : tie.Need-width-of-requires
+width-of-requires c κs = search needs
+
+sub-if1 : tie.Need-sub-if1
+sub-if1 c = search needs
+
+add-if1 : tie.Need-add-if1
+add-if1 c = ?add-if1
+
+returns : tie.Need-returns
+returns c = ?returns
+
+put-decimal-requires : tie.Need-put-decimal-requires
+put-decimal-requires c κs = search needs
+
+slice-aggregate-put : tie.Need-slice-aggregate-put
+slice-aggregate-put c = ?slice-aggregate-put
+
+put-requires : tie.Need-put-requires
+put-requires c κs = ?put-requires
+
+same-length : tie.Need-same-length
+same-length c = search needs
+
+returns-2 : tie.Need-returns-2
+returns-2 c = ?returns-2
+
+pub fit-line-spec : {M : Type 1} → statement M
+fit-line-spec =
+    tie.close
+    (tie.spec
+    width-of-requires
+    sub-if1
+    add-if1
+    returns
+    put-decimal-requires
+    slice-aggregate-put
+    put-requires
+    same-length
+    returns-2)
