@@ -6,3 +6,4 @@ pub mod TellLaws
 pub mod ChosenLaws
 pub mod TextLaws
 pub mod EndLaws
+pub mod StepLaws

@@ -7,12 +7,12 @@ use mathlib.Core.Logic.{_⊎_, inl, inr}
 use native.Mathlib.Omega.{arith}
 use native.Mathlib.Decide.{decLt, ℕ-discrete}
 use native.Mathlib.Numerals.{add-one}
-use native.Mathlib.Nat.{eq-or-lt-of-le}
+use native.Mathlib.Nat.{eq-or-lt-of-le, add-zero}
 use borrow.Author.Tests.{eq-eqb, ne-eqb, lt-ltb, le-ltb}
 use lib.Dec.{ltb}
 use Rattle.lists.specs.Find.{both}
 use lib.ListN.{length, getD, set, take, drop, length-append, length-set}
-use lib.Seq.{length-take-le, take-at, take-take, getD-set-same, getD-set-other}
+use lib.Seq.{length-take-le, take-at, take-take, take-length, take-append-le, getD-set-same, getD-set-other}
 use Rattle.lists.specs.Tab.{joined, over}
 use Rattle.lists.specs.Text.{text, decimal}
 use Rattle.lists.proofs.TabLaws as tabs
@@ -170,3 +170,59 @@ module _ (ranks items slots ps : List ℕ) (head : ℕ) where
 pub put-spaced : (l : List ℕ) (p : ℕ) (x q : ℕ) (m : List ℕ) → (q ≡ p + 1 + length (decimal x)) × (m ≡ over (set l p 32) (p + 1) (decimal x))
     → (q ≡ p + length (32 ∷ decimal x)) × (m ≡ over l p (32 ∷ decimal x))
 put-spaced l p x q m h = (omega (arith, h .0), h .1 ∙ ap (λ (z : List ℕ). over z (p + 1) (decimal x)) (written.one l p 32) ∙ tabs.over-append l p (32 ∷ []) (decimal x))
+
+-- ---- what stands before a slot, and before one that a turn may change
+
+module _ (ranks items slots ps : List ℕ) (head : ℕ) where
+  abbrev upTo : ℕ → List ℕ
+  upTo c = toldTo ranks items slots ps head c
+
+  up-grows : (s d : ℕ) → length (upTo s) ≤ length (upTo (s + d))
+  up-grows s zero = omega (arith, ap (λ (k : ℕ). length (upTo k)) (add-zero s))
+  up-grows s (suc d) =
+      let e : s + suc d ≡ s + d + 1 = omega arith in
+      omega (arith, up-grows s d, ap (λ (k : ℕ). length (upTo k)) e, ap length (told-more ranks items slots ps head (s + d)), length-append (upTo (s + d)) (pieceAt ranks items slots ps head (s + d)))
+
+  up-front : (s d : ℕ) → take (length (upTo s)) (upTo (s + d)) ≡ upTo s
+  up-front s zero = ap (λ (k : ℕ). take (length (upTo s)) (upTo k)) (add-zero s) ∙ take-length (upTo s)
+  up-front s (suc d) =
+      let e : s + suc d ≡ s + d + 1 = omega arith in
+      ap (λ (k : ℕ). take (length (upTo s)) (upTo k)) e
+      ∙ ap (take (length (upTo s))) (told-more ranks items slots ps head (s + d))
+      ∙ take-append-le (length (upTo s)) (upTo (s + d)) (pieceAt ranks items slots ps head (s + d)) (up-grows s d)
+      ∙ up-front s d
+
+  -- what is told up to c is told up to s before it
+  pub told-back : (s c : ℕ) (end ends : List ℕ) → s ≤ c → Told ranks items slots ps head c end ends → Told ranks items slots ps head s end ends
+  told-back s c end ends h t =
+      let e : s + (c - s) ≡ c = omega arith in
+      let n = t .begins s h in
+      let m = t .begins c (omega arith) in
+      let l : getD ends s 0 ≤ getD ends c 0 = omega (arith, n, m, up-grows s (c - s), ap (λ (k : ℕ). length (upTo k)) e) in
+      record {
+    begins = λ p g. t .begins p (omega arith);
+    short = λ p g. t .short p (omega arith);
+    text =
+        sym (take-take (getD ends s 0) (getD ends c 0) end l)
+        ∙ ap₂ (λ (k : ℕ) (z : List ℕ). take k z) n (t .text)
+        ∙ ap (λ (k : ℕ). take (length (upTo s)) (upTo k)) (sym e)
+        ∙ up-front s (c - s);
+  }
+
+  -- other choices that are the same for the slots before place s
+  told-same : (ps′ : List ℕ) (s p : ℕ) → p ≤ s
+      → ((q : ℕ) → q < s → getD ps (getD slots q 0 / 16) 0 ≡ getD ps′ (getD slots q 0 / 16) 0)
+      → toldTo ranks items slots ps head p ≡ toldTo ranks items slots ps′ head p
+  unfolding toldTo pieceAt
+  told-same ps′ s p h e =
+      ap (λ (z : List ℕ). (text " " ++ decimal head) ++ z)
+      (tabs.joined-same (pieceAt ranks items slots ps head) (pieceAt ranks items slots ps′ head) p
+      (λ q g. ap (λ (d : ℕ). pieceOf d (getD slots q 0 % 16) head (getD ranks (getD slots q 0) 0) (getD items (getD slots q 0) 0)) (e q (omega arith))))
+
+  pub told-other : (ps′ : List ℕ) (s : ℕ) (end ends : List ℕ) → ((q : ℕ) → q < s → getD ps (getD slots q 0 / 16) 0 ≡ getD ps′ (getD slots q 0 / 16) 0)
+      → Told ranks items slots ps head s end ends → Told ranks items slots ps′ head s end ends
+  told-other ps′ s end ends e t = record {
+    begins = λ p g. t .begins p g ∙ ap length (told-same ps′ s p g e);
+    short = t .short;
+    text = t .text ∙ told-same ps′ s s (omega arith) e;
+  }
