@@ -86,3 +86,11 @@ kept-before cs ps (suc n) l h = by (decLt (suc (getD ps n 0)) (getD cs n 0)) (ke
         ap (λ (z : List ℕ). getD z l 0) (turned-no cs ps n (omega arith))
         ∙ ih (omega (arith, e, b))
         ∙ getD-set-other ps n l 0 0 (omega (arith, e, b, at-le cs ps n))
+
+pub at-lt : (cs ps : List ℕ) (n : ℕ) → 0 < n → turnsAt cs n ps < n
+at-lt cs ps zero h = absurd (omega arith)
+at-lt cs ps (suc n) h = by (decLt (suc (getD ps n 0)) (getD cs n 0))
+  where
+    by : Dec (suc (getD ps n 0) < getD cs n 0) → turnsAt cs (suc n) ps < suc n
+    by (yes l) = omega (arith, at-yes cs ps n l)
+    by (no l) = omega (arith, at-no cs ps n (omega arith), at-le cs ps n)

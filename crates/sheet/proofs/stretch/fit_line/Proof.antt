@@ -30,7 +30,7 @@ returns c =
     fits.put-none (a .b .now) (a .at) (length (a .b .now) - a .at) (decimal (a .k) ++ s) (omega (arith, c .before .width-of .ensures, length-append (decimal (a .k)) s, length-take-le (a .n) (a .end .now) (omega arith)))
 
 put-decimal-requires : tie.Need-put-decimal-requires
-put-decimal-requires c κs = ?pd
+put-decimal-requires c κs = search needs
 
 slice-aggregate-put : tie.Need-slice-aggregate-put
 slice-aggregate-put c = let a = c .before .before .before .before .before .before .before .before .before .before .args in sym (length-take-le (a .n) (a .end .now) (omega arith))
