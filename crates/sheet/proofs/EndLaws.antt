@@ -57,7 +57,7 @@ module _ (t : List (List Content)) (cs : List ℕ) (n : ℕ) (ps : List ℕ)
   abbrev pub head : ℕ
   head = headMark ranks ps
 
-  sel : ℕ → Bool
+  pub sel : ℕ → Bool
   sel e = isTold (getD ps (e / 16) 0) (e % 16) head (getD ranks e 0)
 
   node : ℕ → ℕ
@@ -68,7 +68,7 @@ module _ (t : List (List Content)) (cs : List ℕ) (n : ℕ) (ps : List ℕ)
 
   -- ---- the head
 
-  head-is : headOf g ≡ head
+  pub head-is : headOf g ≡ head
   unfolding pickedImage pickedAt slotContent markAt
   head-is =
       let p = getD ps 0 0 in
@@ -178,7 +178,7 @@ module _ (t : List (List Content)) (cs : List ℕ) (n : ℕ) (ps : List ℕ)
   kept-chosen : kept sel order ≡ chosen (rankIn ranks) sel 16 (n * 16)
   kept-chosen = orders.kept-ordered (rankIn ranks) sel (λ e s. omega (arith, sel-says e s .1)) 16 (n * 16)
 
-  items-are : itemsOf g ≡ map (λ e. getD items e 0) (kept sel order)
+  pub items-are : itemsOf g ≡ map (λ e. getD items e 0) (kept sel order)
   unfolding itemsOf pickedImage
   items-are =
       let q : queueOf g ≡ map node (chosen (rankIn ranks) sel 16 (n * 16)) =

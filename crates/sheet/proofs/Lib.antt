@@ -7,3 +7,4 @@ pub mod ChosenLaws
 pub mod TextLaws
 pub mod EndLaws
 pub mod StepLaws
+pub mod SheetLaws

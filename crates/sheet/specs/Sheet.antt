@@ -27,3 +27,7 @@ pub record IsSheet (t : List (List Content)) (cs : List ℕ) (n : ℕ) (ranks it
   pub counted : count ≡ length (ordered (rankIn ranks) (16 * headLines n) (slotCount n - 16 * headLines n))
   pub placed : take count slots ≡ ordered (rankIn ranks) (16 * headLines n) (slotCount n - 16 * headLines n)
   pub begun : starts ≡ startsOf slots count cs (lineCount n)
+
+-- indices fit 64 bits, items 32
+abbrev pub Small : List ℕ → List ℕ → Type 0
+Small ranks items = (e : ℕ) → (getD ranks e 0 < 18446744073709551616) × (getD items e 0 < 4294967296)

@@ -1,5 +1,6 @@
 // The page's lines one from the other.
 pub mod marks;
+pub mod sheet;
 pub mod order;
 pub mod stretch;
 pub mod tell;
