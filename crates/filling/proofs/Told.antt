@@ -1,6 +1,6 @@
 -- The lines that a table's sheet tells are the table's lines.
-use Prim.Native.Nat.{ℕ, zero, suc, _≤_, _<_}
-use mathlib.Core.Path.{_≡_, refl, sym, ap, subst, fun-ext}
+use Prim.Native.Nat.{ℕ, zero, suc, _≤_}
+use mathlib.Core.Path.{_≡_, refl, sym, subst, fun-ext}
 use mathlib.Core.List.{List}
 use lib.ListN.{length}
 use Rattle.image.specs.declared.Content.{Content}
@@ -12,8 +12,7 @@ use Rattle.sheet.proofs.SheetLaws as sheets
 use Rattle.filling.specs.Lines.{tableLine, toldLine, Shorts}
 
 module _ (t : List (List Content)) (cs : List ℕ) (n : ℕ) (ranks items slots starts : List ℕ) (c : ℕ)
-  (s : IsSheet t cs n ranks items slots starts c) (ready : Ready cs (lineCount n)) where
-
+    (s : IsSheet t cs n ranks items slots starts c) (ready : Ready cs (lineCount n)) where
   told-at : (threads events count k : ℕ) → toldLine ranks items slots c cs n threads events count k ≡ tableLine t cs n threads events count k
   unfolding toldLine tableLine
   told-at threads events count zero = refl

@@ -41,7 +41,19 @@ pub fn fill_told(
     ensures onward { λ r. ⌜ (lineRoom 64 ≤ length (now (b .entry)) → from < r .next) ⌝ }
 {
     if 0 < from {
-        let w = write_endings(b, 0, counts, n, slots, told, ranks, items, starts, from - 1, count);
+        let w = write_endings(
+            b,
+            0,
+            counts,
+            n,
+            slots,
+            told,
+            ranks,
+            items,
+            starts,
+            from - 1,
+            count,
+        );
         return Stretch {
             next: w.next + 1,
             place: w.place,
@@ -80,5 +92,18 @@ pub fn fill(
     let items = s.items;
     let slots = s.slots;
     let starts = s.starts;
-    fill_told(counts, n, &slots, s.count, &ranks, &items, &starts, threads, events, count, from, b)
+    fill_told(
+        counts,
+        n,
+        &slots,
+        s.count,
+        &ranks,
+        &items,
+        &starts,
+        threads,
+        events,
+        count,
+        from,
+        b,
+    )
 }

@@ -73,7 +73,18 @@ fn print_lines(
     let mut next = 0;
     while next <= count {
         let filled = filling::fill_told(
-            counts, n, &slots, told, &ranks, &items, &starts, threads, events, count, next, b,
+            counts,
+            n,
+            &slots,
+            told,
+            &ranks,
+            &items,
+            &starts,
+            threads,
+            events,
+            count,
+            next,
+            b,
         );
         if !write_front(s, b, filled.place, done) {
             return false;

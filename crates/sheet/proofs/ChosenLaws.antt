@@ -1,21 +1,19 @@
 -- The recovered nodes of an ending are the slots that its choices tell, in their order.
-use Prim.Native.Nat.{ℕ, zero, suc, _+_, _-_, _*_, _/_, _%_, _≤_, _<_}
+use Prim.Native.Nat.{ℕ, zero, suc, _+_, _-_, _*_, _≤_, _<_}
 use mathlib.Core.Path.{_≡_, refl, sym, ap, ap₂, subst, _∙_}
 use mathlib.Core.Bool.{Bool, true, false}
 use mathlib.Core.List.{List, [], _∷_, map}
 use native.Mathlib.Omega.{arith}
 use native.Mathlib.Decide.{decLt}
-use native.Mathlib.Nat.{add-suc, add-zero, add-assoc}
+use native.Mathlib.Nat.{add-suc, add-zero}
 use borrow.Author.Tests.{lt-ltb, le-ltb}
-use lib.Dec.{ltb}
-use lib.ListN.{getD}
 use Rattle.image.specs.declared.Content.{Content}
 use Rattle.image.specs.declared.Image.{Image}
 use Rattle.image.specs.Layout.{contentAt}
 use Rattle.image.specs.Recovered.{recoveredAt}
 use Rattle.machine.specs.Start.{insert, risen}
 use Rattle.machine.proofs.QueueLaws as queues
-use Rattle.sheet.specs.Order.{joins, ordered}
+use Rattle.sheet.specs.Order.{joins}
 use Rattle.sheet.proofs.OrderLaws as orders
 use Rattle.sheet.proofs.OrderLaws.{Each, chosen, joined-if}
 
@@ -92,12 +90,11 @@ module _ (f : ℕ → ℕ) (sel : ℕ → Bool) (from : ℕ) where
 
 -- an image g of n nodes and the choice d of each node's slot
 module _ (g : Image) (n : ℕ) (f : ℕ → ℕ) (sel : ℕ → Bool) (from : ℕ) (node d : ℕ → ℕ)
-  (small : (i : ℕ) → i < n → d i < 16)
-  (others : (i j : ℕ) → i < n → j < 16 → (j ≡ d i → ⊥) → sel (from + (i * 16 + j)) ≡ false)
-  (told : (i : ℕ) → i < n → sel (from + (i * 16 + d i)) ≡ recoveredAt g i)
-  (nodes : (i j : ℕ) → i < n → j < 16 → node (from + (i * 16 + j)) ≡ i)
-  (ranks : (e : ℕ) → sel e ≡ true → from ≤ e → e < from + n * 16 → f e ≡ contentAt (g .nodes) (node e) .index) where
-
+    (small : (i : ℕ) → i < n → d i < 16)
+    (others : (i j : ℕ) → i < n → j < 16 → (j ≡ d i → ⊥) → sel (from + (i * 16 + j)) ≡ false)
+    (told : (i : ℕ) → i < n → sel (from + (i * 16 + d i)) ≡ recoveredAt g i)
+    (nodes : (i j : ℕ) → i < n → j < 16 → node (from + (i * 16 + j)) ≡ i)
+    (ranks : (e : ℕ) → sel e ≡ true → from ≤ e → e < from + n * 16 → f e ≡ contentAt (g .nodes) (node e) .index) where
   -- the recovered nodes below i are those of the chosen slots of the first i lines
   pub chosen-risen : (i : ℕ) → i ≤ n → map node (chosen f sel from (i * 16)) ≡ risen g i
   unfolding risen chosen joined-if
@@ -106,15 +103,18 @@ module _ (g : Image) (n : ℕ) (f : ℕ → ℕ) (sel : ℕ → Bool) (from : �
     where
       e : ℕ
       e = from + (i * 16 + d i)
+
       next : chosen f sel from (suc i * 16) ≡ joined-if f sel e (sel e) (chosen f sel from (i * 16))
       next =
           ap (chosen f sel from) (let z : suc i * 16 ≡ i * 16 + 16 = omega arith in z)
           ∙ chosen-line f sel from (i * 16) (d i) (small i (omega arith)) (λ j l x. others i j (omega arith) l x)
+
       all : Each (λ e. f e ≡ contentAt (g .nodes) (node e) .index) (chosen f sel from (i * 16))
       all =
           orders.each-map (λ e. (sel e ≡ true) × (from ≤ e) × (e < from + i * 16)) (λ e. f e ≡ contentAt (g .nodes) (node e) .index) (chosen f sel from (i * 16))
           (λ e z. ranks e (z .0) (z .1) (omega (arith, z .2)))
           (chosen-among f sel from (i * 16))
+
       by : (b : Bool) → recoveredAt g i ≡ b → map node (chosen f sel from (i * 16)) ≡ risen g i → map node (chosen f sel from (suc i * 16)) ≡ risen g (suc i)
       by true r ih =
           let s : sel e ≡ true = told i (omega arith) ∙ r in

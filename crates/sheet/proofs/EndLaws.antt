@@ -1,30 +1,29 @@
 -- An ending's line is its number and what the slots tell.
-use Prim.Native.Nat.{ℕ, zero, suc, _+_, _-_, _*_, _/_, _%_, _≤_, _<_}
+use Prim.Native.Nat.{ℕ, _+_, _-_, _*_, _/_, _%_, _≤_, _<_}
 use mathlib.Core.Path.{_≡_, refl, sym, ap, ap₂, subst, _∙_}
 use mathlib.Core.Bool.{Bool, true, false}
-use mathlib.Core.List.{List, [], _∷_, _++_, map, append-assoc}
+use mathlib.Core.List.{List, [], _++_, map, append-assoc}
 use native.Mathlib.Omega.{arith}
 use borrow.Author.Tests.{eq-eqb, ne-eqb, lt-ltb, le-ltb, eqb-true, ltb-true}
 use lib.Dec.{eqb, ltb}
 use lib.ListN.{length, getD, take, drop, List·getD-append}
 use lib.Seq.{getD-take}
 use Rattle.lists.specs.Find.{pick, both}
-use Rattle.lists.specs.Tab.{joined, front}
+use Rattle.lists.specs.Tab.{joined}
 use Rattle.lists.specs.Text.{text, decimal}
 use Rattle.lists.proofs.TabLaws as tabs
 use Rattle.lists.proofs.BoolLaws.{both-true}
 use Rattle.image.specs.declared.Content.{Content}
 use Rattle.image.specs.declared.Image.{Image}
-use Rattle.image.specs.Layout.{contentAt, headLines, noContents, headsOf}
+use Rattle.image.specs.Layout.{contentAt, headLines, noContents}
 use Rattle.image.specs.Recovered.{headOf, recovered, recoveredAt}
 use Rattle.image.proofs.HeadLaws.{one-head, heads-at, head-one}
 use Rattle.machine.specs.Line.{lineCount}
 use Rattle.machine.specs.Start.{queueOf}
 use Rattle.page.specs.Printed.{itemsOf, itemsText, spaced, newline, endingLine}
 use Rattle.endtable.specs.Opened.{blankCounts}
-use Rattle.endtable.specs.Picks.{Ready, picksOf, digits, pickedAt, pickedNode, pickedImage, endingFrom}
+use Rattle.endtable.specs.Picks.{Ready, picksOf, digits, pickedAt, pickedNode, pickedImage}
 use Rattle.endtable.proofs.Digits as picks
-use Rattle.printing.specs.Lines.{lineFrom}
 use Rattle.sheet.specs.Marks.{slotContent, markOf, markAt, marksOf, itemsIn, slotCount}
 use Rattle.sheet.specs.Order.{ordered, rankIn}
 use Rattle.sheet.specs.Told.{isTold, pieceIf, pieceOf, pieceAt, headMark, toldTo, toldEnd, closing}
@@ -42,9 +41,8 @@ pick-below cs n k r l h =
     omega (arith, e, picks.digit-below cs (lineCount n) k (r .0) l h)
 
 module _ (t : List (List Content)) (cs : List ℕ) (n : ℕ) (ps : List ℕ)
-  (below : (l : ℕ) → l < lineCount n → getD ps l 0 < getD cs l 0)
-  (few : (l : ℕ) → l < lineCount n → getD cs l 0 ≤ 16) where
-
+    (below : (l : ℕ) → l < lineCount n → getD ps l 0 < getD cs l 0)
+    (few : (l : ℕ) → l < lineCount n → getD cs l 0 ≤ 16) where
   abbrev pub g : Image
   g = pickedImage t ps n
 

@@ -1,16 +1,14 @@
 -- Slots filled one after the other, and what they hold.
-use Prim.Native.Nat.{ℕ, zero, suc, _+_, _*_, _/_, _%_, _≤_, _<_}
-use mathlib.Core.Path.{_≡_, refl, sym, ap, _∙_}
+use Prim.Native.Nat.{ℕ, _+_, _*_, _/_, _%_, _≤_, _<_}
+use mathlib.Core.Path.{_≡_, refl}
 use mathlib.Core.List.{List, []}
 use native.Mathlib.Omega.{arith}
 use borrow.Author.Tests.{eq-eqb, ne-eqb, lt-ltb, le-ltb}
 use lib.ListN.{length, getD, set}
-use Rattle.lists.specs.Tab.{front}
 use Rattle.lists.proofs.TabLaws as tabs
 use Rattle.image.specs.declared.Content.{Content}
 use Rattle.image.specs.Layout.{contentAt, headLines}
 use Rattle.image.proofs.HeadLaws.{one-head}
-use Rattle.machine.specs.Line.{lineCount}
 use Rattle.sheet.specs.Marks.{slotContent, markOf, markAt, itemIn, blankSlots, marksOf, itemsIn, slotCount}
 
 blank-length : length blankSlots ≡ 1040

@@ -1,7 +1,6 @@
 -- What is told from a table's sheet are the lines of its endings.
-use Prim.Native.Nat.{ℕ, zero, suc, _+_, _-_, _*_, _≤_, _<_}
-use mathlib.Core.Path.{_≡_, refl, sym, ap, ap₂, subst, _∙_}
-use mathlib.Core.Bool.{Bool, true, false}
+use Prim.Native.Nat.{ℕ, _+_, _-_, _*_, _≤_, _<_}
+use mathlib.Core.Path.{_≡_, sym, ap, ap₂, subst, _∙_}
 use mathlib.Core.List.{List, [], _∷_, _++_, map}
 use native.Mathlib.Omega.{arith}
 use lib.ListN.{length, getD, take}
@@ -11,12 +10,10 @@ use Rattle.image.specs.Layout.{headLines}
 use Rattle.image.specs.declared.Content.{Content}
 use Rattle.image.proofs.HeadLaws.{one-head}
 use Rattle.machine.specs.Line.{lineCount}
-use Rattle.page.specs.Printed.{endingLine, itemsOf}
 use Rattle.endtable.specs.Picks.{Ready, picksOf, pickedImage, endingFrom}
 use Rattle.printing.specs.Lines.{lineFrom}
 use Rattle.printing.specs.Bounds.{lineRoom, AllSmall}
 use Rattle.printing.proofs.Short as short
-use Rattle.printing.proofs.ItemLaws as printed
 use Rattle.sheet.specs.Marks.{marksOf, itemsIn, slotCount}
 use Rattle.sheet.specs.Order.{ordered, rankIn, startsOf}
 use Rattle.sheet.specs.Told.{headMark, toldEnd}
@@ -37,12 +34,12 @@ sheet-made t cs n ranks items slots starts count lines r i l c p s =
     let b : lines * 16 - 16 ≡ slotCount n - 16 * headLines n = omega (arith, one-head n) in
     let o = ap₂ (ordered (rankIn ranks)) a b in
     record {
-  ranked = r;
-  itemed = i;
-  counted = c ∙ ap length o;
-  placed = p ∙ o;
-  begun = s ∙ ap (startsOf slots count cs) (let z : lines ≡ lineCount n = omega (arith, one-head n) in z);
-}
+      ranked = r;
+      itemed = i;
+      counted = c ∙ ap length o;
+      placed = p ∙ o;
+      begun = s ∙ ap (startsOf slots count cs) (let z : lines ≡ lineCount n = omega (arith, one-head n) in z);
+    }
 
 module _ (t : List (List Content)) (cs : List ℕ) (n : ℕ) (ranks items slots starts : List ℕ) (count : ℕ) (s : IsSheet t cs n ranks items slots starts count) where
   order-is : ordered (rankIn ranks) (16 * headLines n) (slotCount n - 16 * headLines n) ≡ ordered (rankIn (marksOf t cs n (slotCount n))) 16 (n * 16)

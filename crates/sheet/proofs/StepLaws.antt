@@ -1,23 +1,20 @@
 -- From an ending's line to the next one: what is told before the first slot that the turn may change stays.
-use Prim.Native.Nat.{ℕ, _+_, _-_, _*_, _/_, _≤_, _<_}
-use mathlib.Core.Path.{_≡_, refl, sym, ap, ap₂, subst, _∙_}
-use mathlib.Core.Bool.{Bool, true, false}
+use Prim.Native.Nat.{ℕ, _+_, _-_, _/_, _≤_, _<_}
+use mathlib.Core.Path.{_≡_, sym, ap, ap₂, subst, _∙_}
+use mathlib.Core.Bool.{false}
 use mathlib.Core.List.{List, [], _∷_, _++_}
 use native.Mathlib.Omega.{arith}
 use native.Mathlib.Decide.{decLt}
-use borrow.Author.Tests.{le-leb, lt-ltb}
-use lib.Dec.{ltb, leb}
 use lib.ListN.{length, getD, length-append}
 use Rattle.lists.specs.Tab.{joined}
 use Rattle.lists.specs.Text.{text, decimal}
-use Rattle.lists.specs.Find.{both}
 use Rattle.lists.proofs.BoolLaws.{no-way}
 use Rattle.image.proofs.HeadLaws.{one-head}
 use Rattle.machine.specs.Line.{lineCount}
 use Rattle.endtable.specs.Picks.{Ready, picksOf, turnedOf}
 use Rattle.endtable.proofs.Turns as turns
 use Rattle.sheet.specs.Marks.{slotCount}
-use Rattle.sheet.specs.Order.{turnsAt, moves, movesAt, startAt, startsOf}
+use Rattle.sheet.specs.Order.{turnsAt, moves, startAt, startsOf}
 use Rattle.sheet.specs.Told.{pieceAt, toldTo, toldEnd, closing, headMark, Told}
 use Rattle.sheet.specs.Sheet.{lineTold}
 use Rattle.sheet.proofs.TurnLaws as laws
@@ -85,7 +82,7 @@ module _ (cs : List ℕ) (n k lines : ℕ) (ps : List ℕ) (ready : Ready cs (li
       let u = told-turned cs n k ready ranks items slots count end ends r (λ y. z (j ∙ y)) t′ in (
         omega (arith, s, places.start-le slots count cs i),
         subst (λ (x : ℕ). Told ranks items slots ps′ (headMark ranks ps′) x end ends) (ap (startAt slots count cs) (sym j) ∙ sym s)
-        (subst (λ (x : List ℕ). Told ranks items slots x (headMark ranks x) (startAt slots count cs (turnsAt cs (lineCount n) (picksOf cs n k))) end ends) (sym (next-picks ps′ g)) u),
+            (subst (λ (x : List ℕ). Told ranks items slots x (headMark ranks x) (startAt slots count cs (turnsAt cs (lineCount n) (picksOf cs n k))) end ends) (sym (next-picks ps′ g)) u),
       )
 
 -- ---- a line

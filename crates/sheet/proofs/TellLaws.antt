@@ -1,17 +1,17 @@
 -- The end of a line, slot by slot.
 use Prim.Native.Nat.{ℕ, zero, suc, _+_, _-_, _*_, _/_, _%_, _≤_, _<_}
 use mathlib.Core.Path.{_≡_, refl, sym, ap, ap₂, subst, _∙_}
-use mathlib.Core.Bool.{Bool, true, false}
+use mathlib.Core.Bool.{Bool}
 use mathlib.Core.List.{List, [], _∷_, _++_, append-assoc, append-nil}
 use mathlib.Core.Logic.{_⊎_, inl, inr}
 use native.Mathlib.Omega.{arith}
-use native.Mathlib.Decide.{decLt, ℕ-discrete}
+use native.Mathlib.Decide.{ℕ-discrete}
 use native.Mathlib.Numerals.{add-one}
 use native.Mathlib.Nat.{eq-or-lt-of-le, add-zero}
 use borrow.Author.Tests.{eq-eqb, ne-eqb, lt-ltb, le-ltb}
 use lib.Dec.{ltb}
 use Rattle.lists.specs.Find.{both}
-use lib.ListN.{length, getD, set, take, drop, length-append, length-set}
+use lib.ListN.{length, getD, set, take, drop, length-append}
 use lib.Seq.{length-take-le, take-at, take-take, take-length, take-append-le, getD-set-same, getD-set-other}
 use Rattle.lists.specs.Tab.{joined, over}
 use Rattle.lists.specs.Text.{text, decimal}
@@ -76,6 +76,7 @@ module _ (ranks items slots ps : List ℕ) (head : ℕ) where
           ∙ sym (ap length (told-more c))
           ∙ ap (λ (k : ℕ). length (toldTo ranks items slots ps head k)) (sym i)
       by k (inr i) = getD-set-other ends (c + 1) k q 0 (omega arith) ∙ t .begins k (omega arith)
+
       low : (k : ℕ) → (k ≡ c + 1) ⊎ (k < c + 1) → getD (set ends (c + 1) q) k 0 ≤ 21 + 11 * k
       low k (inl i) =
           let g : getD (set ends (c + 1) q) k 0 ≡ q = ap (λ (k : ℕ). getD (set ends (c + 1) q) k 0) i ∙ getD-set-same ends (c + 1) q 0 l in
@@ -95,13 +96,13 @@ module _ (ranks items slots ps : List ℕ) (head : ℕ) where
       let g = getD-set-same ends 0 p 0 l in
       let here : getD (set ends 0 p) 0 0 ≡ length (toldTo ranks items slots ps head 0) = g ∙ n ∙ sym (ap length told-none) in
       record {
-    begins = λ k h. let z : k ≡ 0 = omega arith in ap (λ (k : ℕ). getD (set ends 0 p) k 0) z ∙ here ∙ ap (λ (k : ℕ). length (toldTo ranks items slots ps head k)) (sym z);
-    short = λ k h. let z : k ≡ 0 = omega arith in omega (arith, ap (λ (k : ℕ). getD (set ends 0 p) k 0) z, g, m);
-    text =
-        ap₂ (λ (k : ℕ) (z : List ℕ). take k z) (g ∙ n ∙ (let o : length (text " " ++ decimal head) ≡ 0 + length (text " " ++ decimal head) = omega arith in o)) w
-        ∙ over-front end 0 (text " " ++ decimal head) (omega (arith, n))
-        ∙ sym told-none;
-  }
+        begins = λ k h. let z : k ≡ 0 = omega arith in ap (λ (k : ℕ). getD (set ends 0 p) k 0) z ∙ here ∙ ap (λ (k : ℕ). length (toldTo ranks items slots ps head k)) (sym z);
+        short = λ k h. let z : k ≡ 0 = omega arith in omega (arith, ap (λ (k : ℕ). getD (set ends 0 p) k 0) z, g, m);
+        text =
+            ap₂ (λ (k : ℕ) (z : List ℕ). take k z) (g ∙ n ∙ (let o : length (text " " ++ decimal head) ≡ 0 + length (text " " ++ decimal head) = omega arith in o)) w
+            ∙ over-front end 0 (text " " ++ decimal head) (omega (arith, n))
+            ∙ sym told-none;
+      }
 
   -- what is written behind changes nothing of it
   pub told-over : (c : ℕ) (end ends : List ℕ) (s : List ℕ) → Told ranks items slots ps head c end ends → getD ends c 0 + length s ≤ length end
@@ -161,6 +162,7 @@ module _ (ranks items slots ps : List ℕ) (head : ℕ) where
             subst (λ (x : List ℕ). Told ranks items slots ps head c x ends) (sym w′) (told-over c end ends s t (omega (arith, e))),
             (omega (arith, z), ap₂ (λ (k : ℕ) (x : List ℕ). take k x) (z ∙ ap (λ (k : ℕ). k + length s) e) w′ ∙ told-end c end ends s t (omega (arith, e)) y),
           )
+
       by : Dec (p ≡ begin) → Told ranks items slots ps head c end′ ends × ((r ≤ p + 3) × (take r end′ ≡ toldEnd ranks items slots ps head c))
       by (yes d) = with (32 ∷ 45 ∷ 10 ∷ []) (omega arith) (k .0 d .0) (k .0 d .1) (told-nothing c end ends t (sym e ∙ d ∙ f))
       by (no d) = with (10 ∷ []) (omega arith) (k .1 d .0) (k .1 d .1) (told-something c end ends t (λ z. d (e ∙ z ∙ sym f)))
@@ -200,14 +202,14 @@ module _ (ranks items slots ps : List ℕ) (head : ℕ) where
       let m = t .begins c (omega arith) in
       let l : getD ends s 0 ≤ getD ends c 0 = omega (arith, n, m, up-grows s (c - s), ap (λ (k : ℕ). length (upTo k)) e) in
       record {
-    begins = λ p g. t .begins p (omega arith);
-    short = λ p g. t .short p (omega arith);
-    text =
-        sym (take-take (getD ends s 0) (getD ends c 0) end l)
-        ∙ ap₂ (λ (k : ℕ) (z : List ℕ). take k z) n (t .text)
-        ∙ ap (λ (k : ℕ). take (length (upTo s)) (upTo k)) (sym e)
-        ∙ up-front s (c - s);
-  }
+        begins = λ p g. t .begins p (omega arith);
+        short = λ p g. t .short p (omega arith);
+        text =
+            sym (take-take (getD ends s 0) (getD ends c 0) end l)
+            ∙ ap₂ (λ (k : ℕ) (z : List ℕ). take k z) n (t .text)
+            ∙ ap (λ (k : ℕ). take (length (upTo s)) (upTo k)) (sym e)
+            ∙ up-front s (c - s);
+      }
 
   -- other choices that are the same for the slots before place s
   told-same : (ps′ : List ℕ) (s p : ℕ) → p ≤ s

@@ -1,12 +1,11 @@
 -- Texts told slot by slot, and all at once.
-use Prim.Native.Nat.{ℕ, zero, suc, _+_, _<_}
+use Prim.Native.Nat.{ℕ, zero, suc, _+_}
 use mathlib.Core.Path.{_≡_, refl, sym, ap, ap₂, _∙_}
 use mathlib.Core.Bool.{Bool, true, false}
 use mathlib.Core.List.{List, [], _∷_, _++_, map, append-assoc, append-nil}
-use native.Mathlib.Omega.{arith}
 use lib.ListN.{length, getD}
 use Rattle.lists.specs.Tab.{joined}
-use Rattle.lists.specs.Text.{text, decimal}
+use Rattle.lists.specs.Text.{text}
 use Rattle.page.specs.Printed.{spaced, itemsText, newline}
 use Rattle.sheet.specs.Told.{pieceIf, closing}
 use Rattle.sheet.proofs.OrderLaws as orders

@@ -1,7 +1,6 @@
 -- The line that turns; and what a turn leaves alone.
 use Prim.Native.Nat.{ℕ, zero, suc, _+_, _-_, _≤_, _<_}
 use mathlib.Core.Path.{_≡_, refl, sym, ap, _∙_}
-use mathlib.Core.Bool.{Bool, true, false}
 use mathlib.Core.List.{List}
 use native.Mathlib.Omega.{arith}
 use native.Mathlib.Decide.{decLt}
@@ -35,6 +34,7 @@ at-behind cs ps (suc n) m x h = by (decLt (suc (getD ps n 0)) (getD cs n 0)) (at
   where
     same : getD (set ps m x) n 0 ≡ getD ps n 0
     same = getD-set-other ps m n x 0 (omega arith)
+
     by : Dec (suc (getD ps n 0) < getD cs n 0) → turnsAt cs n (set ps m x) ≡ turnsAt cs n ps → turnsAt cs (suc n) (set ps m x) ≡ turnsAt cs (suc n) ps
     by (yes l) ih = at-yes cs (set ps m x) n (omega (arith, same)) ∙ sym (at-yes cs ps n l)
     by (no l) ih = at-no cs (set ps m x) n (omega (arith, same)) ∙ ih ∙ sym (at-no cs ps n (omega arith))

@@ -88,7 +88,17 @@ pub fn write_endings(
         }
         p = q;
         let i = turn(&mut picks, &counts, lines);
-        len = tell_on(&mut end, &mut ends, slots, count, ranks, items, &picks, starts, i);
+        len = tell_on(
+            &mut end,
+            &mut ends,
+            slots,
+            count,
+            ranks,
+            items,
+            &picks,
+            starts,
+            i,
+        );
         k += 1;
     }
     Stretch { next: k, place: p }

@@ -46,7 +46,15 @@ fn tell_slots(
     let mut p = ends[from];
     while c < count {
         let e = slots[c];
-        let q = put_piece(end, p, picks[e / 16], (e % 16) as u8, head, ranks[e], items[e]);
+        let q = put_piece(
+            end,
+            p,
+            picks[e / 16],
+            (e % 16) as u8,
+            head,
+            ranks[e],
+            items[e],
+        );
         p = q;
         c += 1;
         ends[c] = q;

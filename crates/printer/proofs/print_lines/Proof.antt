@@ -1,16 +1,15 @@
-use Prim.Native.Nat.{_+_, _-_, _*_, _≤_, _<_}
-use mathlib.Core.Path.{_≡_, refl, sym, ap, _∙_}
+use Prim.Native.Nat.{_+_, _-_, _*_, _≤_}
+use mathlib.Core.Path.{_≡_, refl, ap, _∙_}
 use lib.ListN.{length}
-use Rattle.page.specs.Filled.{linesOn, fitting}
+use Rattle.page.specs.Filled.{linesOn}
 use Rattle.printing.proofs.Fittings as fits
 use Rattle.pages.proofs.GoingLaws as going
 use Rattle.image.proofs.HeadLaws.{one-head}
 use Rattle.sheet.proofs.SheetLaws as sheets
-use Rattle.filling.specs.Lines.{tableLine, toldLine}
+use Rattle.filling.specs.Lines.{toldLine}
 use Rattle.filling.proofs.Told as tolds
 use mathlib.Core.List.{List}
 use Prim.Native.Nat.{ℕ}
-use mathlib.Core.Path.{subst}
 use Rattle.page.specs.Printed.{printed}
 use Rattle.printer.proofs.Parting as parts
 use native.Mathlib.Omega.{arith}
@@ -43,9 +42,10 @@ fill-told-requires c κs =
     let h = c .before .before .before .before .before .before .before .before .before .before .before .sheet-of in
     let m = h .result in
     let f = toldLine (m .ranks) (m .items) (m .slots) (m .count) (a .counts) (a .n) (a .threads) (a .events) (a .count) in
-    let s = h .ensures .0 in
-    ((z .pre .0 .0, z .pre .0 .1, z .pre .0 .2, z .pre .0 .3, z .pre .0 .4, c .before .before .before .before .before .loop-test .taken),
-    (omega (arith, sheets.sheet-count (a .t) (a .counts) (a .n) (m .ranks) (m .items) (m .slots) (m .starts) (m .count) s, one-head (a .n), z .pre .0 .0), sheets.sheet-slots (a .t) (a .counts) (a .n) (m .ranks) (m .items) (m .slots) (m .starts) (m .count) s, s .begun, tolds.told-short (a .t) (a .counts) (a .n) (m .ranks) (m .items) (m .slots) (m .starts) (m .count) s (z .pre .0 .1) (h .ensures .1) (z .pre .0 .0)))
+    let s = h .ensures .0 in (
+      (z .pre .0 .0, z .pre .0 .1, z .pre .0 .2, z .pre .0 .3, z .pre .0 .4, c .before .before .before .before .before .loop-test .taken),
+      (omega (arith, sheets.sheet-count (a .t) (a .counts) (a .n) (m .ranks) (m .items) (m .slots) (m .starts) (m .count) s, one-head (a .n), z .pre .0 .0), sheets.sheet-slots (a .t) (a .counts) (a .n) (m .ranks) (m .items) (m .slots) (m .starts) (m .count) s, s .begun, tolds.told-short (a .t) (a .counts) (a .n) (m .ranks) (m .items) (m .slots) (m .starts) (m .count) s (z .pre .0 .1) (h .ensures .1) (z .pre .0 .0)),
+    )
 
 write-front-requires : tie.Need-write-front-requires Inv-loop μ-loop
 write-front-requires c κs =

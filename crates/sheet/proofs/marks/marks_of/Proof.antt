@@ -1,10 +1,9 @@
 use native.Mathlib.Omega.{arith}
-use borrow.Author.Needs.{needs}
-use Prim.Native.Nat.{ℕ, _+_, _-_, _*_, _/_, _%_, _≤_, _<_}
-use mathlib.Core.Path.{_≡_, refl, sym, ap, ap₂, subst, _∙_}
+use Prim.Native.Nat.{ℕ, _-_, _/_, _%_, _≤_}
+use mathlib.Core.Path.{_≡_, ap, ap₂, _∙_}
 use mathlib.Core.List.{List, []}
 use Rattle.image.specs.Layout.{contentAt}
-use lib.ListN.{length, getD, take, set}
+use lib.ListN.{getD, set}
 use Rattle.sheet.specs.Marks.{marksOf, itemsIn, slotCount}
 use Rattle.sheet.proofs.MarkLaws as laws
 use Rattle.sheet.proofs.marks.marks_of.Statement.{statement}

@@ -1,13 +1,10 @@
 use native.Mathlib.Omega.{arith}
 use borrow.Author.Needs.{needs}
-use Prim.Native.Nat.{ℕ, _+_, _-_, _*_, _/_, _%_, _≤_, _<_}
-use mathlib.Core.Path.{_≡_, refl, sym, ap, ap₂, subst, _∙_}
-use lib.ListN.{length, getD, take, set}
-use borrow.Author.Needs.{needs}
-use mathlib.Core.List.{List}
+use Prim.Native.Nat.{ℕ, _+_, _-_, _*_}
+use mathlib.Core.Path.{refl, ap}
+use lib.ListN.{getD}
 use mir.Val.{Fits}
 use mir.Syntax.{w32, w64}
-use Rattle.sheet.specs.Marks.{slotCount}
 use Rattle.sheet.specs.Order.{rankIn}
 use Rattle.sheet.specs.declared.marks.Marks.{Marks}
 use Rattle.sheet.proofs.OrderLaws as orders
@@ -44,9 +41,10 @@ returns c =
     let m = c .before .before .before .before .before .before .before .before .before .marks-of in
     let r = c .before .before .before .before .ranked in
     let x : (e : ℕ) → Fits w64 (getD (m .result .ranks) e 0) = λ e. search needs in
-    let y : (e : ℕ) → Fits w32 (getD (m .result .items) e 0) = λ e. search needs in
-    (laws.sheet-made (a .t) (a .t2) (a .n) (m .result .ranks) (m .result .items) (r .last .0) (c .starts-of .result) (r .result) (a .n + 1) (ap (λ (m : Marks). m .ranks) (m .ensures)) (ap (λ (m : Marks). m .items) (m .ensures)) refl (r .ensures .0) (r .ensures .1) (c .starts-of .ensures),
-    λ e. (omega (arith, x e), omega (arith, y e)))
+    let y : (e : ℕ) → Fits w32 (getD (m .result .items) e 0) = λ e. search needs in (
+      laws.sheet-made (a .t) (a .t2) (a .n) (m .result .ranks) (m .result .items) (r .last .0) (c .starts-of .result) (r .result) (a .n + 1) (ap (λ (m : Marks). m .ranks) (m .ensures)) (ap (λ (m : Marks). m .items) (m .ensures)) refl (r .ensures .0) (r .ensures .1) (c .starts-of .ensures),
+      λ e. (omega (arith, x e), omega (arith, y e)),
+    )
 
 pub sheet-of-spec : {M : Type 1} → statement M
 sheet-of-spec =

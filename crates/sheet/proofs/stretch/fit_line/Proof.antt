@@ -1,10 +1,9 @@
 use native.Mathlib.Omega.{arith}
 use borrow.Author.Needs.{needs}
-use Prim.Native.Nat.{ℕ, _+_, _-_, _*_, _/_, _%_, _≤_, _<_}
-use mathlib.Core.Path.{_≡_, refl, sym, ap, ap₂, subst, _∙_}
-use lib.ListN.{length, getD, take, set}
-use borrow.Author.Needs.{needs}
-use mathlib.Core.List.{List, _++_}
+use Prim.Native.Nat.{_+_, _-_}
+use mathlib.Core.Path.{sym}
+use lib.ListN.{length, take}
+use mathlib.Core.List.{_++_}
 use lib.ListN.{length-append}
 use lib.Seq.{length-take-le}
 use Rattle.lists.specs.Text.{decimal}

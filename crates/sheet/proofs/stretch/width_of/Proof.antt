@@ -1,8 +1,7 @@
 use native.Mathlib.Omega.{arith}
-use borrow.Author.Needs.{needs}
-use Prim.Native.Nat.{ℕ, _+_, _-_, _*_, _/_, _%_, _≤_, _<_}
-use mathlib.Core.Path.{_≡_, refl, sym, ap, ap₂, subst, _∙_}
-use lib.ListN.{length, getD, take, set}
+use Prim.Native.Nat.{_-_, _/_}
+use mathlib.Core.Path.{sym, ap}
+use lib.ListN.{length}
 use Rattle.printing.proofs.Decimal as laws
 use Rattle.sheet.proofs.stretch.width_of.Statement.{statement}
 use Rattle.sheet.proofs.stretch.width_of.Tie as tie

@@ -1,23 +1,18 @@
 use native.Mathlib.Omega.{arith}
-use borrow.Author.Needs.{needs}
-use Prim.Native.Nat.{ℕ, _+_, _-_, _*_, _/_, _%_, _≤_, _<_}
-use mathlib.Core.Path.{_≡_, refl, sym, ap, ap₂, subst, _∙_}
-use lib.ListN.{length, getD, take, set}
+use Prim.Native.Nat.{ℕ, _+_, _-_, _≤_}
+use mathlib.Core.Path.{_≡_, refl, sym, ap, subst, _∙_}
+use lib.ListN.{length, take}
 use Rattle.lists.specs.Tab.{over}
 use Rattle.lists.specs.Text.{decimal}
 use Rattle.image.proofs.HeadLaws.{one-head}
 use Rattle.machine.specs.Line.{lineCount}
 use Rattle.page.specs.Filled.{linesOn, fitting}
-use Rattle.endtable.specs.Picks.{picksOf, turnedOf}
-use Rattle.endtable.proofs.Turns as turns
+use Rattle.endtable.specs.Picks.{picksOf}
 use Rattle.printing.proofs.Fittings as fits
 use Rattle.printing.proofs.Written as written
-use Rattle.sheet.specs.Order.{turnsAt, startAt, startsOf}
 use Rattle.sheet.specs.Told.{headMark, toldEnd, Told}
 use Rattle.sheet.specs.Sheet.{lineTold}
 use mathlib.Core.List.{List, _++_}
-use Rattle.sheet.proofs.TurnLaws as laws
-use Rattle.sheet.proofs.PlaceLaws as places
 use Rattle.sheet.proofs.StepLaws as steps
 use Rattle.sheet.proofs.stretch.write_endings.Statement.{statement}
 use Rattle.sheet.proofs.stretch.write_endings.Tie as tie
@@ -98,9 +93,10 @@ tell-on-requires c κs =
     let a = z .args in
     let p = c .before .before .before .before .before .before .before .before .before .before .before .before .before .loop in
     let t = c .before .before .before .turn in
-    let e : a .n + 1 ≡ lineCount (a .n) = omega (arith, one-head (a .n)) in
-    ((omega arith, λ q l. omega (arith, z .pre .1 .1 q l, one-head (a .n)), p .inv .10, p .inv .11, omega (arith, steps.turn-in (a .t3) (a .n) (p .k) (a .n + 1) (p .picks) (z .pre .0 .1) e (p .inv .6) (t .result) (t .ensures .0))),
-    λ y. steps.step-told (a .t3) (a .n) (p .k) (a .n + 1) (p .picks) (z .pre .0 .1) e (p .inv .6) (a .ranks .now) (a .items .now) (a .slots .now) (a .starts .now) (a .count) (p .end) (p .ends) (t .last .0) (t .result) (t .ensures .0) (t .ensures .1) (z .pre .1 .2) (z .pre .1 .1) (p .inv .7) y)
+    let e : a .n + 1 ≡ lineCount (a .n) = omega (arith, one-head (a .n)) in (
+      (omega arith, λ q l. omega (arith, z .pre .1 .1 q l, one-head (a .n)), p .inv .10, p .inv .11, omega (arith, steps.turn-in (a .t3) (a .n) (p .k) (a .n + 1) (p .picks) (z .pre .0 .1) e (p .inv .6) (t .result) (t .ensures .0))),
+      λ y. steps.step-told (a .t3) (a .n) (p .k) (a .n + 1) (p .picks) (z .pre .0 .1) e (p .inv .6) (a .ranks .now) (a .items .now) (a .slots .now) (a .starts .now) (a .count) (p .end) (p .ends) (t .last .0) (t .result) (t .ensures .0) (t .ensures .1) (z .pre .1 .2) (z .pre .1 .1) (p .inv .7) y,
+    )
 
 add-k : tie.Need-add-k Inv-loop μ-loop
 add-k c = omega (arith, c .before .before .before .before .before .before .before .before .before .before .before .before .before .before .before .loop-test .taken, c .before .before .before .before .before .before .before .before .before .before .before .before .before .before .before .before .before .before .before .before .before .before .before .before .before .pre .0 .3)

@@ -1,14 +1,11 @@
 use native.Mathlib.Omega.{arith}
-use Prim.Native.Nat.{ℕ, _+_, _-_, _*_, _/_, _%_, _≤_, _<_}
-use mathlib.Core.Path.{_≡_, refl, sym, ap, ap₂, subst, _∙_}
-use lib.ListN.{length, getD, take, set}
+use Prim.Native.Nat.{ℕ, _+_, _-_}
+use mathlib.Core.Path.{ap, _∙_}
+use lib.ListN.{length}
 use borrow.Author.Needs.{needs}
-use mathlib.Core.List.{List, [], _∷_}
+use mathlib.Core.List.{List}
 use Rattle.lists.specs.Tab.{over}
-use Rattle.lists.specs.Text.{decimal}
-use Rattle.lists.proofs.TabLaws as tabs
 use Rattle.printing.proofs.Short as short
-use Rattle.printing.proofs.Written as written
 use Rattle.sheet.specs.Told.{pieceOf}
 use mir.Val.{Fits}
 use mir.Syntax.{w32}

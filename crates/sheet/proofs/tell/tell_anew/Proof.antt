@@ -1,11 +1,10 @@
 use native.Mathlib.Omega.{arith}
 use borrow.Author.Needs.{needs}
-use Prim.Native.Nat.{ℕ, _+_, _-_, _*_, _/_, _%_, _≤_, _<_}
-use mathlib.Core.Path.{_≡_, refl, sym, ap, ap₂, subst, _∙_}
-use lib.ListN.{length, getD, take, set}
-use borrow.Author.Needs.{needs}
+use Prim.Native.Nat.{ℕ, _-_, _≤_}
+use mathlib.Core.Path.{_≡_, subst, _∙_}
+use lib.ListN.{getD, take}
 use lib.ListN.{length-set}
-use Rattle.sheet.specs.Told.{Told, toldEnd, headMark}
+use Rattle.sheet.specs.Told.{Told, toldEnd}
 use Rattle.sheet.proofs.TellLaws as laws
 use Rattle.sheet.proofs.tell.tell_anew.Statement.{statement}
 use Rattle.sheet.proofs.tell.tell_anew.Tie as tie

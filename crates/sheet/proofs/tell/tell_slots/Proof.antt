@@ -1,10 +1,10 @@
 use native.Mathlib.Omega.{arith}
 use borrow.Author.Needs.{needs}
-use Prim.Native.Nat.{ℕ, _+_, _-_, _*_, _/_, _%_, _≤_, _<_}
-use mathlib.Core.Path.{_≡_, refl, sym, ap, ap₂, subst, _∙_}
-use lib.ListN.{length, getD, take, set}
+use Prim.Native.Nat.{ℕ, _+_, _-_, _*_, _≤_}
+use mathlib.Core.Path.{_≡_, refl, sym, ap, subst, _∙_}
+use lib.ListN.{length, getD}
 use lib.ListN.{length-set}
-use Rattle.sheet.specs.Told.{pieceOf, pieceAt, toldTo, Told}
+use Rattle.sheet.specs.Told.{pieceAt, Told}
 use lib.Seq.{getD-set-same}
 use Rattle.sheet.proofs.TellLaws as laws
 use Rattle.sheet.proofs.tell.tell_slots.Statement.{statement}

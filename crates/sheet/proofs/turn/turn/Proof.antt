@@ -1,10 +1,7 @@
 use native.Mathlib.Omega.{arith}
-use borrow.Author.Needs.{needs}
-use Prim.Native.Nat.{ℕ, _+_, _-_, _≤_}
+use Prim.Native.Nat.{_-_, _≤_}
 use mathlib.Core.Path.{_≡_, refl, sym, ap, _∙_}
-use lib.ListN.{getD, set}
-use mir.Val.{Fits}
-use mir.Syntax.{w8}
+use lib.ListN.{set}
 use Rattle.endtable.specs.Picks.{turnedOf}
 use Rattle.endtable.proofs.Turns as turns
 use Rattle.sheet.specs.Order.{turnsAt}
