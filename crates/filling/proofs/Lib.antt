@@ -1,4 +1,5 @@
 pub mod Lined
+pub mod Told
 pub mod Numbers
 pub mod Answers
 pub mod Tables

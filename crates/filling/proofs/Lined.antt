@@ -14,7 +14,8 @@ use Rattle.page.specs.Filled.{linesOn, fitting}
 use Rattle.printing.specs.Lines.{lineFrom}
 use Rattle.printing.proofs.Written.{Put, then}
 use Rattle.printing.proofs.Fittings as fits
-use Rattle.filling.specs.Lines.{tableLine}
+use Rattle.sheet.specs.Sheet.{lineTold}
+use Rattle.filling.specs.Lines.{tableLine, toldLine}
 
 -- of the lines from `from` on and below `to`, those that fit into `room` bytes stand from place `at` on in what was b and is m; n is the
 -- first that does not, and p the place behind them
@@ -93,6 +94,12 @@ module _ (t : List (List Content)) (cs : List ℕ) (n threads events count : ℕ
   pub line-behind : (k : ℕ) → line (suc k) ≡ lineFrom t cs n k
   unfolding tableLine
   line-behind k = refl
+
+-- told by a sheet
+pub told-behind : (ranks items slots : List ℕ) (c : ℕ) (cs : List ℕ) (n threads events count k : ℕ)
+    → toldLine ranks items slots c cs n threads events count (suc k) ≡ lineTold ranks items slots c cs n k
+unfolding toldLine
+told-behind ranks items slots c cs n threads events count k = refl
 
 -- no first line is empty
 pub first-some : (threads n events count : ℕ) → 0 < length (firstLine threads n events count)

@@ -5,3 +5,4 @@ pub mod table;
 pub use calls::page_lines;
 pub use calls::refusal_line;
 pub use table::fill;
+pub use table::fill_told;

@@ -17,6 +17,7 @@ use answer::Answer;
 use image::Content;
 use libc::STDOUT_FILENO;
 use runs::running::Run;
+use sheet::sheet::sheet_of;
 
 // Whether the schedule was refused, whether standard output took the whole text, and then its length.
 pub struct Printed {
@@ -46,7 +47,8 @@ fn print_refused(s: &[u8], a: Answer, done: &mut usize) -> bool
     write_front(s, &b, place, done)
 }
 
-// A buffer of lines at a time: it has room for the longest, so each turn prints one at least.
+// A buffer of lines at a time, told from the table's sheet, which is made once: it has room for the longest, so each turn prints one
+// at least.
 fn print_lines(
     s: &[u8],
     t: [[Content; 16]; 65],
@@ -62,9 +64,28 @@ fn print_lines(
     requires { ⌜ (linesOn (tableLine t counts n threads events count) 0 (count + 1) ≡ printed (now s)) × (now done ≡ 0) ⌝ }
     ensures { λ r. ⌜ (r ≡ true → now (done .exit) ≡ length (printed (now (s .entry)))) ⌝ }
 {
+    let sheet = sheet_of(t, counts, n);
+    let ranks = sheet.ranks;
+    let items = sheet.items;
+    let slots = sheet.slots;
+    let starts = sheet.starts;
+    let told = sheet.count;
     let mut next = 0;
     while next <= count {
-        let filled = filling::fill(t, counts, n, threads, events, count, next, b);
+        let filled = filling::fill_told(
+            counts,
+            n,
+            &slots,
+            told,
+            &ranks,
+            &items,
+            &starts,
+            threads,
+            events,
+            count,
+            next,
+            b,
+        );
         if !write_front(s, b, filled.place, done) {
             return false;
         }

@@ -1,113 +1,44 @@
-use Prim.Native.Nat.{_+_, _-_}
-use mathlib.Core.Path.{refl}
-use lib.ListN.{length}
-use Rattle.page.specs.Printed.{firstLine}
-use Rattle.printing.specs.Lines.{lineFrom}
-use Rattle.printing.proofs.Fittings as fits
-use Rattle.printing.proofs.Short as short
-use Rattle.filling.specs.Lines.{tableLine}
-use Rattle.filling.proofs.Lined as laws
 use native.Mathlib.Omega.{arith}
-use borrow.Author.Needs.{needs}
+use Prim.Native.Nat.{ℕ, _+_, _-_, _≤_, _<_}
+use mathlib.Core.Path.{_≡_, subst}
+use mathlib.Core.List.{List}
+use lib.ListN.{length}
+use Rattle.lists.specs.Tab.{over}
+use Rattle.image.proofs.HeadLaws.{one-head}
+use Rattle.page.specs.Filled.{linesOn, fitting}
+use Rattle.printing.specs.Bounds.{lineRoom}
+use Rattle.sheet.proofs.SheetLaws as sheets
+use Rattle.filling.proofs.Told as laws
 use Rattle.filling.proofs.table.fill.Statement.{statement}
 use Rattle.filling.proofs.table.fill.Tie as tie
 
-sub-write-endings : tie.Need-sub-write-endings
-sub-write-endings c = search needs
+sheet-of-requires : tie.Need-sheet-of-requires
+sheet-of-requires c κs = omega arith
 
-write-endings-requires : tie.Need-write-endings-requires
-write-endings-requires c κs = search needs
-
-add-t15 : tie.Need-add-t15
-add-t15 c =
-    let a = c .before .before .before .before .before .before .before .args in
-    let w = c .before .before .before .write-endings in
-    omega (arith, w .ensures .0, fits.fit-few (lineFrom (a .t) (a .counts) (a .n)) (a .count - (a .from - 1)) (a .from - 1) (length (a .b .now) - 0))
+fill-told-requires : tie.Need-fill-told-requires
+fill-told-requires c κs =
+    let z = c .before .before .before .before .before .before .before .before .before .before .before .pre in
+    let a = c .before .before .before .before .before .before .before .before .before .before .before .args in
+    let r = c .before .before .before .before .before .before .before .before .before .sheet-of in
+    let s = r .result in
+    let h = r .ensures .0 in
+    ((z .0, z .1, z .2, z .3, z .4, z .5), (omega (arith, sheets.sheet-count (a .t) (a .counts) (a .n) (s .ranks) (s .items) (s .slots) (s .starts) (s .count) h, one-head (a .n), z .0), sheets.sheet-slots (a .t) (a .counts) (a .n) (s .ranks) (s .items) (s .slots) (s .starts) (s .count) h, h .begun, laws.told-short (a .t) (a .counts) (a .n) (s .ranks) (s .items) (s .slots) (s .starts) (s .count) h (z .1) (r .ensures .1) (z .0)))
 
 same-length : tie.Need-same-length
-same-length c = search needs
+same-length c = c .before .before .fill-told .kept .1 .1 .1 .1 .1 .1 .1 .1 .1 .1 .1 .0
 
 returns : tie.Need-returns
 returns c =
-    let a = c .before .before .before .before .before .before .before .args in
-    let w = c .before .before .before .write-endings in
-    let e = w .ensures in
-    let r = length (a .b .now) in
-    let x = laws.lined-behind (tableLine (a .t) (a .counts) (a .n) (a .threads) (a .events) (a .count)) (lineFrom (a .t) (a .counts) (a .n)) (laws.line-behind (a .t) (a .counts) (a .n) (a .threads) (a .events) (a .count)) (a .b .now) 0 (a .from - 1) (a .count) (r - 0) (w .last .0) (w .result .next) (w .result .place) (e .0, (e .1 .0, e .1 .1 .0)) in
-    let y = laws.lined-as (tableLine (a .t) (a .counts) (a .n) (a .threads) (a .events) (a .count)) (a .b .now) 0 (a .from - 1 + 1) (a .from) (a .count + 1) (r - 0) r (w .last .0) (w .result .next + 1) (w .result .place) (omega arith) (omega arith) x in (
-      y .0,
-      (
-        omega (arith, y .1 .0),
-        (y .1 .1, λ h. omega (arith, e .0, fits.fit-some (lineFrom (a .t) (a .counts) (a .n)) (a .count - (a .from - 1)) (a .from - 1) (r - 0) (omega arith) (omega (arith, e .1 .1 .1 (omega arith))))),
-      ),
-    )
-
-fit-first-line-requires : tie.Need-fit-first-line-requires
-fit-first-line-requires c κs = search needs
-
-same-length-2 : tie.Need-same-length-2
-same-length-2 c = search needs
-
-returns-2 : tie.Need-returns-2
-unfolding tableLine
-returns-2 c =
-    let a = c .before .before .before .before .before .before .before .args in
-    let w = c .before .before .before .fit-first-line in
-    let r = length (a .b .now) in
-    let l = fits.put-left (a .b .now) 0 (r - 0) (firstLine (a .threads) (a .n) (a .events) (a .count)) (w .ensures) (c .if2 .taken) (laws.first-some (a .threads) (a .n) (a .events) (a .count)) in
-    let y = laws.lined-as (tableLine (a .t) (a .counts) (a .n) (a .threads) (a .events) (a .count)) (a .b .now) 0 0 (a .from) (a .count + 1) r r (w .last .0) 0 0 (omega arith) refl (laws.lined-none (tableLine (a .t) (a .counts) (a .n) (a .threads) (a .events) (a .count)) (a .b .now) 0 0 (a .count + 1) r (w .last .0) (omega (arith, l .0)) (l .1)) in (
-      y .0,
-      (
-        omega (arith, y .1 .0),
-        (y .1 .1, λ h. absurd (omega (arith, l .0, short.first-short (a .threads) (a .n) (a .events) (a .count) (omega arith) (omega arith) (omega arith) (omega arith)))),
-      ),
-    )
-
-write-endings-requires-2 : tie.Need-write-endings-requires-2
-write-endings-requires-2 c κs =
-    let a = c .before .before .before .before .before .before .before .before .args in
-    let w = c .before .before .before .before .fit-first-line in
-    let h = fits.fits-within (length (a .b .now) - 0) (firstLine (a .threads) (a .n) (a .events) (a .count)) in
-    (c .before .before .before .before .before .before .before .before .pre .0, c .before .before .before .before .before .before .before .before .pre .1, omega arith, c .before .before .before .before .before .before .before .before .pre .4, omega (arith, w .ensures .0, h, w .kept .0))
-
-add-t20 : tie.Need-add-t20
-add-t20 c =
-    let a = c .before .before .before .before .before .before .before .before .before .before .before .before .args in
-    let w = c .before .before .before .write-endings2 in
-    let q = c .before .before .before .before .before .before .before .before .fit-first-line in
-    omega (arith, w .ensures .0, fits.fit-few (lineFrom (a .t) (a .counts) (a .n)) (a .count - 0) 0 (length (q .last .0) - q .result))
-
-same-length-3 : tie.Need-same-length-3
-same-length-3 c = search needs
-
-returns-3 : tie.Need-returns-3
-unfolding tableLine
-returns-3 c =
-    let a = c .before .before .before .before .before .before .before .before .before .before .before .before .args in
-    let w = c .before .before .before .write-endings2 in
-    let q = c .before .before .before .before .before .before .before .before .fit-first-line in
-    let e = w .ensures in
-    let r = length (a .b .now) in
-    let l = fits.put-taken (a .b .now) 0 (r - 0) (firstLine (a .threads) (a .n) (a .events) (a .count)) (q .ensures) (c .before .before .before .before .before .if2 .left) in
-    let x = laws.lined-behind (tableLine (a .t) (a .counts) (a .n) (a .threads) (a .events) (a .count)) (lineFrom (a .t) (a .counts) (a .n)) (laws.line-behind (a .t) (a .counts) (a .n) (a .threads) (a .events) (a .count)) (q .last .0) (q .result) 0 (a .count) (length (q .last .0) - q .result) (w .last .0) (w .result .next) (w .result .place) (e .0, (e .1 .0, e .1 .1 .0)) in
-    let z = laws.lined-as (tableLine (a .t) (a .counts) (a .n) (a .threads) (a .events) (a .count)) (q .last .0) (q .result) (0 + 1) (0 + 1) (a .count + 1) (length (q .last .0) - q .result) (r - length (firstLine (a .threads) (a .n) (a .events) (a .count))) (w .last .0) (w .result .next + 1) (w .result .place) refl (omega (arith, q .kept .0, l .1 .0)) x in
-    let y = laws.lined-as (tableLine (a .t) (a .counts) (a .n) (a .threads) (a .events) (a .count)) (a .b .now) 0 0 (a .from) (a .count + 1) r r (w .last .0) (w .result .next + 1) (w .result .place) (omega arith) refl
-    (laws.lined-first (tableLine (a .t) (a .counts) (a .n) (a .threads) (a .events) (a .count)) (a .b .now) 0 0 (a .count + 1) r (q .last .0) (q .result) (w .last .0) (w .result .next + 1) (w .result .place) (omega arith) (omega (arith, l .0)) (l .1) z) in
-    (y .0, (omega (arith, y .1 .0), (y .1 .1, λ h. omega arith)))
+    let z = c .before .before .before .before .before .before .before .before .before .before .before .before .before .before .pre in
+    let a = c .before .before .before .before .before .before .before .before .before .before .before .before .before .before .args in
+    let r = c .before .before .before .before .before .before .before .before .before .before .before .before .sheet-of in
+    let s = r .result in
+    let w = c .before .before .fill-told in
+    let b = w .last .1 .1 .1 .1 .1 .1 .1 .1 .1 .1 .1 .0 in
+    subst (λ (f : ℕ → List ℕ). (w .result .next ≡ a .from + fitting f (a .from) (a .count + 1 - a .from) (length (a .b .now)))
+    × ((w .result .place ≡ length (linesOn f (a .from) (w .result .next - a .from)))
+    × ((b ≡ over (a .b .now) 0 (linesOn f (a .from) (w .result .next - a .from))) × (lineRoom 64 ≤ length (a .b .now) → a .from < w .result .next))))
+    (laws.told-lines (a .t) (a .counts) (a .n) (s .ranks) (s .items) (s .slots) (s .starts) (s .count) (r .ensures .0) (z .1) (a .threads) (a .events) (a .count)) (w .ensures)
 
 pub fill-spec : {M : Type 1} → statement M
-fill-spec =
-    tie.close
-    (tie.spec
-    sub-write-endings
-    write-endings-requires
-    add-t15
-    same-length
-    returns
-    fit-first-line-requires
-    same-length-2
-    returns-2
-    write-endings-requires-2
-    add-t20
-    same-length-3
-    returns-3)
+fill-spec = tie.close (tie.spec sheet-of-requires fill-told-requires same-length returns)

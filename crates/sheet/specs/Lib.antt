@@ -1,0 +1,4 @@
+pub mod Marks
+pub mod Order
+pub mod Told
+pub mod Sheet
