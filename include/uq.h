@@ -46,7 +46,7 @@ enum {
     UQ_MAX_SCHEDULE = 25430, /* 8, the image, and 6 for each event */
     UQ_MAX_LIST = 128,       /* of uq_mend: 2 for each node */
     UQ_MAX_CONTENTS = 208,   /* 16 contents of 13 */
-    UQ_RECORD = 1971,
+    UQ_RECORD = 2083,
     UQ_PLACES = 6,
     UQ_MAX_HISTORY = 859, /* 3 + 4 for each item, and 22 for each operation */
     UQ_MAX_ORDER = 16,
@@ -90,7 +90,7 @@ enum { UQ_NO_REPLY = 0, UQ_DONE = 1, UQ_FULL = 2, UQ_WORN_OUT = 3, UQ_ITEM = 4, 
 
 /* Whether `image` is an image. Value 0 where it is taken.
    Nothing is written.
-   A refusal has number 1, 2, 3, 6, 7 or 8 and its place. */
+   A refusal has number 1, 2, 3, 4 (the T of "UQP"), 6, 7 or 8 and its place. */
 uint64_t uq_check_image(const uint8_t *image, size_t length);
 
 /* An image of version 1 as one of version 2, whose indices have 64 bits: the same contents. Value 0 where it is taken.
@@ -103,6 +103,18 @@ uint64_t uq_widen(const uint8_t *image, size_t length, uint8_t *buffer, size_t r
    A refusal has number 1, 2 (of version 1 too), 3, 6, 7, 8, 20 where an index is above 4,294,967,295, or 17, and its place: of 20 the first such node,
    recovered or not, and N for the head, which is tested first. It writes nothing. */
 uint64_t uq_narrow(const uint8_t *image, size_t length, uint8_t *buffer, size_t room);
+
+/* An image of mark "UQP", one head index per desk, as one of version 1, its head the largest of them. Value 0 where it is taken.
+   It is written into the first 10 + 9N bytes of `buffer`; the bytes after them stay.
+   A refusal has number 1 (fewer than 7 bytes), 2 (of another mark or version), 3, 4 for its T, 1, 6, 7, 8 or 17, in this order, and its place, and writes
+   nothing. */
+uint64_t uq_import(const uint8_t *image, size_t length, uint8_t *buffer, size_t room);
+
+/* An image of version 1 as one of mark "UQP" for `threads` desks, its head written for each. Value 0 where it is taken. Exported and then imported it is the
+   same bytes again.
+   It is written into the first 7 + 4 * threads + 9N bytes of `buffer`; the bytes after them stay.
+   A refusal has number 1, 2 (of version 2 and of "UQP" too), 3, 6, 7, 8, then 4 where `threads` is not 1 to 8, then 17, and its place, and writes nothing. */
+uint64_t uq_export(const uint8_t *image, size_t length, uint8_t threads, uint8_t *buffer, size_t room);
 
 /* The image, mended: linked bytes above 1 become 0; then of recovered nodes with one index all but the lowest-numbered have linked cleared; then, if every
    node is recovered, the one with the largest index has. Where it is taken the value is how many nodes were changed, at most N.
@@ -143,11 +155,11 @@ uint64_t uq_page_lines(const uint8_t *schedule, size_t length, uint64_t k, uint8
 uint64_t uq_refusal_line(uint32_t number, uint32_t place, uint8_t *buffer, size_t room);
 
 /* The machine at the start of an image with `threads` threads. Value 0 where it is taken.
-   The record is written into the first 1,971 bytes of `record`; the bytes after them stay.
+   The record is written into the first 2,083 bytes of `record`; the bytes after them stay.
    A refusal has number 4, then those of the image, then 17, and writes nothing. */
 uint64_t uq_start(const uint8_t *image, size_t length, uint8_t threads, uint8_t *record, size_t room);
 
-/* One event on a record of exactly 1,971 bytes. The value where it is taken: uq_reply says what an operation answered, uq_item which item.
+/* One event on a record of exactly 2,083 bytes. The value where it is taken: uq_reply says what an operation answered, uq_item which item.
    The record is changed in place: this is the call for a rig that keeps its own record, one event at a time, and it needs no other memory.
    A refusal has number 1, 18, 9, 10, 13, 11, 12, 19, and of a crash 7 or 8, with place 0 (of 7: the node); the record stays. */
 uint64_t uq_event(uint8_t *record, size_t length, uint8_t kind, uint8_t number, uint32_t item);

@@ -27,7 +27,7 @@ static Verdict read_image_of(u32 form, const u8 *bytes, u64 length, Image *image
 {
     if (length >= IMAGE_LEAST && get2(bytes + 3) != form)
         return verdict(WRONG_MARK, 0);
-    return read_image(bytes, length, image);
+    return read_uqi(bytes, length, image);
 }
 
 static u64 twice(u64 index)
@@ -150,7 +150,7 @@ Finding there_and_back(const u8 *bytes, u64 length)
     Image image;
     u32 form = length < IMAGE_LEAST || get2(bytes + 3) != 2 ? NARROW : WIDE, other = form == WIDE ? NARROW : WIDE;
     Conversion *forth = form == WIDE ? narrow : widen, *again = form == WIDE ? widen : narrow;
-    Verdict v = read_image(bytes, length, &image), given = forth(bytes, length, there, 0);
+    Verdict v = read_uqi(bytes, length, &image), given = forth(bytes, length, there, 0);
     if (!same_verdict(again(bytes, length, there, 0), length < IMAGE_LEAST ? verdict(WRONG_LENGTH, 0) : verdict(WRONG_MARK, 0)))
         return finding(CONTRADICTS, 0, "the other version was not refused by 2");
     if (is_version_3(bytes, length))

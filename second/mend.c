@@ -133,7 +133,7 @@ static u32 mend_by_refusals(u8 *bytes, u64 length, Mending *mending)
     *mending = none;
     for (u32 changes = 0;; changes++) {
         Image image;
-        Verdict v = read_image(bytes, length, &image);
+        Verdict v = read_uqi(bytes, length, &image);
         if (v.number == TAKEN)
             return changes;
         u32 node = v.number == NO_DUMMY ? node_of_largest_index(&image) : v.place;
@@ -158,7 +158,7 @@ Finding mend_two_ways(const u8 *bytes, u64 length)
     Finding agrees = {AGREES, 0, "", 1}, contradicts = {CONTRADICTS, 0, "", 1};
     Mending ours, theirs, none;
     Image image;
-    Verdict v = read_image(bytes, length, &image), given = mend(bytes, length, mended, sizeof mended, &ours);
+    Verdict v = read_uqi(bytes, length, &image), given = mend(bytes, length, mended, sizeof mended, &ours);
     if (is_version_3(bytes, length))
         v = verdict(WRONG_MARK, 0); /* which the reader takes */
     if (v.number == WRONG_LENGTH || v.number == WRONG_MARK || v.number == WRONG_N) {

@@ -92,7 +92,7 @@ void print_record_item(const u8 *bytes, u64 length)
     print_reply(&reply, record);
 }
 
-/* An image alone: its verdict and, when taken, the record that a start with one thread makes of it. */
+/* An image alone: its verdict and, when taken, the record that a start makes of it, with one thread or as many as it has index lines. */
 void print_image(const u8 *bytes, u64 length)
 {
     Image image;
@@ -103,7 +103,7 @@ void print_image(const u8 *bytes, u64 length)
         print_refusal(v);
         return;
     }
-    start(&machine, 1, &image);
+    start(&machine, image.form == DESKS ? image.t : 1, &image);
     print_moment(&machine, &reply);
 }
 

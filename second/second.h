@@ -21,7 +21,7 @@ enum {
     MAX_IMAGE = 918, /* 22 + 14 * 64, of version 3 */
     MAX_SCHEDULE = SCHEDULE_HEAD + MAX_IMAGE + EVENT_BYTES * MAX_EVENTS,
     RECORD_MARK = 5,        /* "UQM" and the version */
-    RECORD_VERSION = 2,
+    RECORD_VERSION = 3,     /* 2 before request 101 */
     MOST_RECORD = 4096,     /* more than any record has */
     CONTENTS_BYTES = 5 + 9 * MAX_NODES + 2,
     WIDE_CONTENTS_BYTES = 10 + 13 * MAX_NODES + 2,
@@ -281,6 +281,7 @@ Verdict verdict(u32 number, u32 place);
 Verdict read_image_head(const u8 *bytes, u64 length, Image *image);
 Verdict read_image_nodes(const u8 *bytes, Image *image);
 Verdict read_image(const u8 *bytes, u64 length, Image *image);
+Verdict read_uqi(const u8 *bytes, u64 length, Image *image);
 Verdict test_recovered(const Image *image);
 Verdict test_contents(const Image *image);
 Verdict write_image(const Image *image, u8 *buffer, u64 room);

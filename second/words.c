@@ -381,16 +381,15 @@ static u32 entry_count(const Schedule *s)
     return 3 + s->image.n + s->event_count;
 }
 
-/* The words know versions 1 and 2 alone: the forms that other requests bring are wrong ones here, so 2, also where they are on. */
+/* The words know "UQI" versions 1 and 2 alone: a schedule on "UQP" is read as any other, and 2 where it is taken up to its events. The form that request
+   113 brings is a wrong one here, also where it is on. */
 static Verdict read_spoken(const u8 *bytes, u64 length, Schedule *s)
 {
-    int desks = on(DESKS_TOO), queues = on(QUEUES_TOO);
-    set(DESKS_TOO, 0);
+    int queues = on(QUEUES_TOO);
     set(QUEUES_TOO, 0);
     Verdict v = read_schedule(bytes, length, s);
-    set(DESKS_TOO, (u32)desks);
     set(QUEUES_TOO, (u32)queues);
-    return v;
+    return v.number == TAKEN && s->image.form == DESKS ? verdict(WRONG_MARK, 0) : v;
 }
 
 static void print_words(const u8 *bytes, u64 length)

@@ -15,13 +15,15 @@ use Rattle.answer.specs.Answers.{told, check, accepted}
 use Rattle.answer.specs.declared.Answer.{Answer}
 use Rattle.answer.specs.declared.Answer.the-variants.{Taken, Threads, Room}
 use Rattle.answer.proofs.Injective.{told-injective}
-use Rattle.image.specs.Layout.{imageIn}
-use Rattle.image.specs.Refusals.{imageAnswer, readImage, sound}
+use Rattle.image.specs.Layout.{shapeIn, imageIn}
+use Rattle.image.proofs.ShapeLaws.{shape-then}
+use Rattle.codec.specs.Parts.{readPart}
+use Rattle.image.specs.Refusals.{threadsFit, imageAnswer, whole}
 use Rattle.image.specs.declared.Image.{Image}
 use Rattle.machine.specs.Event.{eventOn}
 use Rattle.machine.specs.Place.{countPlaces}
 use Rattle.machine.specs.Saved.{saveAnswer, saved}
-use Rattle.machine.specs.Start.{threadsFit, startOf, startAnswer, startFrom, blankMachine}
+use Rattle.machine.specs.Start.{startOf, startAnswer, startFrom, blankMachine}
 use Rattle.machine.specs.declared.Machine.{Machine}
 use Rattle.machine.specs.declared.Event.{Event}
 use Rattle.machine.specs.declared.Out.{Out}
@@ -83,37 +85,39 @@ module _ (s : List ℕ) (t : ℕ) where
   start-threads-stay b h = rw h
 
   module _ (fit : threadsFit t ≡ true) where
-    pub start-image : (room : ℕ) → accepted (imageAnswer 0 s) ≡ false → startAnswered s t room ≡ imageAnswer 0 s
+    pub start-image : (room : ℕ) → accepted (imageAnswer t 0 s) ≡ false → startAnswered s t room ≡ imageAnswer t 0 s
     unfolding startAnswered
-    start-image room h = rw fit (and-refused (imageAnswer 0 s) (recordAnswer room) h)
+    start-image room h = rw fit (and-refused (imageAnswer t 0 s) (recordAnswer room) h)
 
-    pub start-image-stays : (b : List ℕ) → accepted (imageAnswer 0 s) ≡ false → startWritten s t b ≡ b
+    pub start-image-stays : (b : List ℕ) → accepted (imageAnswer t 0 s) ≡ false → startWritten s t b ≡ b
     unfolding startWritten
     start-image-stays b h = rw (fit, h)
 
-    pub start-room : (room : ℕ) → accepted (imageAnswer 0 s) ≡ true → startAnswered s t room ≡ recordAnswer room
+    pub start-room : (room : ℕ) → accepted (imageAnswer t 0 s) ≡ true → startAnswered s t room ≡ recordAnswer room
     unfolding startAnswered
-    start-room room h = rw fit (and-taken (imageAnswer 0 s) (recordAnswer room) h)
+    start-room room h = rw fit (and-taken (imageAnswer t 0 s) (recordAnswer room) h)
 
-    pub start-written : (b : List ℕ) → accepted (imageAnswer 0 s) ≡ true → startWritten s t b ≡ recordWritten (startOf (imageIn s) t) b
+    pub start-written : (b : List ℕ) → accepted (imageAnswer t 0 s) ≡ true → startWritten s t b ≡ recordWritten (startOf (imageIn s) t) b
     unfolding startWritten
     start-written b h = rw (fit, h)
 
-    starts : num.Bytes s → accepted (imageAnswer 0 s) ≡ true → accepted (startAnswer (imageIn s) t) ≡ true
+    starts : num.Bytes s → accepted (imageAnswer t 0 s) ≡ true → accepted (startAnswer (imageIn s) t) ≡ true
     unfolding startAnswer imageIn
-    starts y h = let p = codec.part-taken 0 s h in rw (fit, p .mark, p .nodes, there.read-whole s y (p .mark) (p .clear))
+    starts y h =
+        let p = codec.part-taken t 0 s h in
+        rw fit (ap accepted (shape-then t (shapeIn s) (whole (imageIn s) Taken) (p .shape) ∙ there.read-whole s y (p .clear)))
 
-    pub start-machine : num.Bytes s → accepted (imageAnswer 0 s) ≡ true → startFrom (imageIn s) t .machine ≡ startOf (imageIn s) t
+    pub start-machine : num.Bytes s → accepted (imageAnswer t 0 s) ≡ true → startFrom (imageIn s) t .machine ≡ startOf (imageIn s) t
     unfolding startFrom
     start-machine y h = rw (starts y h, startFrom)
 
-pub image-answer : (s : List ℕ) → readImage s .answer ≡ imageAnswer 0 s
-unfolding readImage
-image-answer s = refl
+pub image-answer : (t : ℕ) (s : List ℕ) → readPart t 0 s .answer ≡ imageAnswer t 0 s
+unfolding readPart
+image-answer t s = refl
 
-pub image-read : (s : List ℕ) → accepted (imageAnswer 0 s) ≡ true → readImage s .image ≡ imageIn s
-unfolding readImage
-image-read s h = rw h
+pub image-read : (t : ℕ) (s : List ℕ) → accepted (imageAnswer t 0 s) ≡ true → readPart t 0 s .image ≡ imageIn s
+unfolding readPart
+image-read t s h = rw h
 
 -- ---- an event
 

@@ -17,11 +17,10 @@ use Rattle.answer.specs.Answers.{told, check, accepted}
 use Rattle.answer.specs.declared.Answer.{Answer}
 use Rattle.answer.specs.declared.Answer.the-variants.{Taken, Room, Number, Contents}
 use Rattle.image.specs.Bytes.{le}
-use Rattle.image.specs.Form.{known, widthOf, nodeSize}
-use Rattle.image.specs.Layout.{contentAt, headLines, nodeBytes, bodyBytes}
+use Rattle.image.specs.Form.{known, widthOf, nodeSize, headLines}
+use Rattle.image.specs.Layout.{contentAt, nodeBytes, bodyBytes}
 use Rattle.image.specs.declared.Content.{Content}
-use Rattle.image.proofs.HeadLaws.{one-head}
-use Rattle.schedule.specs.Layout.{nodesIn, scheduleAnswer}
+use Rattle.schedule.specs.Layout.{scheduleShape, scheduleAnswer}
 use Rattle.schedule.specs.Run.{Ran, ran}
 use Rattle.page.specs.Refusals.{andThen, firstCrowded, tableIn, tableAnswer, pageAnswer}
 use Rattle.pages.specs.Lines.{lineAnswer, lineIn, blankRow, firstOf, sixteen}
@@ -106,16 +105,17 @@ table-taken s h = by (accepted (scheduleAnswer s)) refl
     by false e = false-true (sym e ∙ ap accepted (pages.page-bytes s e) ∙ h)
 
 module _ (s : List ℕ) (l : ℕ) where
-  head-is : ltb l (headLines (nodesIn s)) ≡ ltb l 1
-  head-is = ap (ltb l) (one-head (nodesIn s))
+  -- line l is a head line
+  abbrev pub head : Bool
+  head = ltb l (headLines (scheduleShape s))
 
-  pub bytes-are : (c : List Content) (n : ℕ) → c ≡ sixteen (lineIn s l) → n ≡ length (lineIn s l) → partsOf (ltb l 1) c n ≡ lineBytes s l
+  pub bytes-are : (c : List Content) (n : ℕ) → c ≡ sixteen (lineIn s l) → n ≡ length (lineIn s l) → partsOf head c n ≡ lineBytes s l
   unfolding lineBytes
-  bytes-are c n e f = rw (e, f, head-is) (parts-same (ltb l 1) (lineIn s l))
+  bytes-are c n e f = rw (e, f) (parts-same head (lineIn s l))
 
-  room-is : length (lineBytes s l) ≡ roomOf (ltb l 1) (length (lineIn s l))
+  room-is : length (lineBytes s l) ≡ roomOf head (length (lineIn s l))
   unfolding lineBytes
-  room-is = length-parts (ltb l (headLines (nodesIn s))) (lineIn s l) (length (lineIn s l)) ∙ ap (λ (h : Bool). roomOf h (length (lineIn s l))) head-is
+  room-is = length-parts head (lineIn s l) (length (lineIn s l))
 
   -- ---- the answers, in their order
 
@@ -132,6 +132,14 @@ module _ (s : List ℕ) (l : ℕ) where
         by true e = e
         by false e = ap accepted (sym (laws.and-refused (pageAnswer s) _ e)) ∙ h
 
+    -- the schedule is taken, so its image stands behind its first 8 bytes
+    pub line-schedule : accepted (scheduleAnswer s) ≡ true
+    line-schedule = by (accepted (scheduleAnswer s)) refl
+      where
+        by : (x : Bool) → accepted (scheduleAnswer s) ≡ x → accepted (scheduleAnswer s) ≡ true
+        by true e = e
+        by false e = false-true (sym e ∙ ap accepted (pages.page-bytes s e) ∙ page-taken)
+
     there : l < length (tableIn s)
     unfolding lineAnswer
     there = leb-false (length (tableIn s)) l (codec.check-true (leb (length (tableIn s)) l) (Number 0) Taken refl (ap accepted (sym (laws.and-taken (pageAnswer s) _ page-taken)) ∙ h) .0)
@@ -141,11 +149,11 @@ module _ (s : List ℕ) (l : ℕ) where
     unfolding lineIn
     line-few = rw h (row-few (tableIn s) (table-taken s page-taken) l there)
 
-    pub line-short : (room : ℕ) → room < roomOf (ltb l 1) (length (lineIn s l)) → Room ≡ lineAnswered s l room
+    pub line-short : (room : ℕ) → room < roomOf head (length (lineIn s l)) → Room ≡ lineAnswered s l room
     unfolding lineAnswered
     line-short room p = sym (laws.and-taken (lineAnswer s l) _ h ∙ rw (lt-ltb room (length (lineBytes s l)) (omega (arith, room-is))))
 
-    pub line-goes : (room : ℕ) → roomOf (ltb l 1) (length (lineIn s l)) ≤ room → Taken ≡ lineAnswered s l room
+    pub line-goes : (room : ℕ) → roomOf head (length (lineIn s l)) ≤ room → Taken ≡ lineAnswered s l room
     unfolding lineAnswered
     line-goes room p = sym (laws.and-taken (lineAnswer s l) _ h ∙ rw (le-ltb room (length (lineBytes s l)) (omega (arith, room-is))))
 

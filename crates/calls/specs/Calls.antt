@@ -10,11 +10,11 @@ use Rattle.answer.specs.Answers.{told, check, accepted}
 use Rattle.answer.specs.declared.Answer.{Answer}
 use Rattle.answer.specs.declared.Answer.the-variants.{Taken, Threads, Room}
 use Rattle.image.specs.Layout.{imageIn}
-use Rattle.image.specs.Refusals.{imageAnswer}
+use Rattle.image.specs.Refusals.{threadsFit, imageAnswer, aloneAnswer}
 use Rattle.machine.specs.Event.{eventOn}
 use Rattle.machine.specs.Place.{countPlaces}
 use Rattle.machine.specs.Saved.{saveAnswer, saved}
-use Rattle.machine.specs.Start.{threadsFit, startOf}
+use Rattle.machine.specs.Start.{startOf}
 use Rattle.machine.specs.declared.Event.{Event}
 use Rattle.machine.specs.declared.Places.{Places}
 use Rattle.schedule.specs.Layout.{scheduleAnswer}
@@ -24,7 +24,7 @@ use Rattle.runs.specs.Paged.{countOf}
 use Rattle.calls.specs.Packed.{packed, replyOf}
 
 abbrev pub imageChecked : List ℕ → ℕ
-imageChecked s = packed (told (imageAnswer 0 s)) 0
+imageChecked s = packed (told (aloneAnswer s)) 0
 
 abbrev pub scheduleChecked : List ℕ → ℕ
 scheduleChecked s = packed (told (scheduleAnswer s)) 0
@@ -36,14 +36,14 @@ endingsCounted s = packed (told (pageAnswer s)) (countOf s)
 abbrev pub endingGiven : List ℕ → ℕ → ℕ → ℕ
 endingGiven s k room = packed (told (endingAnswer s k room)) 0
 
--- ---- calls on a record's bytes: 1 where they are not 1,971, 2 where their mark or version is another
+-- ---- calls on a record's bytes: 1 where they are not 2,083, 2 where their mark or version is another
 
--- T first, then the image's own, as a schedule has them; then 17
+-- T first, then the image's own for T threads, as a schedule has them; then 17
 unfoldable pub startAnswered : List ℕ → ℕ → ℕ → Answer
-startAnswered s t room = check (not (threadsFit t)) Threads (andThen (imageAnswer 0 s) (recordAnswer room))
+startAnswered s t room = check (not (threadsFit t)) Threads (andThen (imageAnswer t 0 s) (recordAnswer room))
 
 unfoldable pub startWritten : List ℕ → ℕ → List ℕ → List ℕ
-startWritten s t b = pick (both (threadsFit t) (accepted (imageAnswer 0 s))) (recordWritten (startOf (imageIn s) t) b) b
+startWritten s t b = pick (both (threadsFit t) (accepted (imageAnswer t 0 s))) (recordWritten (startOf (imageIn s) t) b) b
 
 abbrev pub started : List ℕ → ℕ → ℕ → ℕ
 started s t room = packed (told (startAnswered s t room)) 0

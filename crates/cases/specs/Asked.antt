@@ -6,8 +6,8 @@ use Rattle.lists.specs.Find.{least, around, any}
 use Rattle.lists.specs.Tab.{tab, front}
 use Rattle.lists.specs.Word.{has, with, without, wordOf}
 use Rattle.image.specs.Bytes.{atW}
-use Rattle.image.specs.Form.{known, widthOf, topOf, headsAt, nodeSize, headerSize}
-use Rattle.image.specs.Layout.{noContents, marked, readNodes, imageIn, headLines, noHeads, headsOf, readHeads, formIn, nodePlace}
+use Rattle.image.specs.Form.{known, widthOf, topOf, headsAt, nodeSize, headerSize, headLines, ownThreads, perDesk, nodePlace, imageSize}
+use Rattle.image.specs.Layout.{noContents, marked, readNodes, imageIn, noHeads, headsOf, readHeads, formIn, shapeIn}
 use Rattle.image.specs.Recovered.{largest, headOf, recovered, twins, hasTwin, firstTwin, dummyOf}
 use Rattle.image.specs.Refusals.{startable}
 use Rattle.machine.specs.Record.{blankNodes, idleThreads}
@@ -46,19 +46,19 @@ pub drained-asked : asked drained ≡
     operation (puts 7) 0 done 11 ∷ operation takes 12 (gave 7) 18 ∷ operation takes 19 empty 22 ∷ operation (puts 8) 23 full 24
     ∷ operation (puts 9) 25 nothing 0 ∷ []
 unfolding drained worn crashed p1 p3 four enqueue dequeue step crash zeroNodes schedule least around any tab front has with without wordOf noContents atW known widthOf topOf headsAt nodeSize headerSize marked formIn nodePlace readNodes imageIn
-    headLines noHeads headsOf readHeads largest headOf recovered twins hasTwin firstTwin dummyOf startable blankNodes idleThreads
+    headLines ownThreads perDesk imageSize shapeIn noHeads headsOf readHeads largest headOf recovered twins hasTwin firstTwin dummyOf startable blankNodes idleThreads
     lineAt putLine insert risen behind lastOf startWith nextFree releasedAt released others retired eventAt scheduleIn eventsIn run ran operations serveAll itemsFrom
 drained-asked = refl
 
 pub worn-asked : asked worn ≡ operation (puts 7) 0 wornOut 7 ∷ []
 unfolding drained worn crashed p1 p3 four enqueue dequeue step crash zeroNodes schedule least around any tab front has with without wordOf noContents atW known widthOf topOf headsAt nodeSize headerSize marked formIn nodePlace readNodes imageIn
-    headLines noHeads headsOf readHeads largest headOf recovered twins hasTwin firstTwin dummyOf startable blankNodes idleThreads
+    headLines ownThreads perDesk imageSize shapeIn noHeads headsOf readHeads largest headOf recovered twins hasTwin firstTwin dummyOf startable blankNodes idleThreads
     lineAt putLine insert risen behind lastOf startWith nextFree releasedAt released others retired eventAt scheduleIn eventsIn run ran operations serveAll itemsFrom
 worn-asked = refl
 
 -- what was asked before the crash does not count; its item is in the queue at the last start
 pub crashed-asked : (asked crashed ≡ operation takes 13 nothing 0 ∷ []) × (firstQueue crashed ≡ 7 ∷ [])
 unfolding drained worn crashed p1 p3 four enqueue dequeue step crash zeroNodes schedule least around any tab front has with without wordOf noContents atW known widthOf topOf headsAt nodeSize headerSize marked formIn nodePlace readNodes imageIn
-    headLines noHeads headsOf readHeads largest headOf recovered twins hasTwin firstTwin dummyOf startable blankNodes idleThreads
+    headLines ownThreads perDesk imageSize shapeIn noHeads headsOf readHeads largest headOf recovered twins hasTwin firstTwin dummyOf startable blankNodes idleThreads
     lineAt putLine insert risen behind lastOf startWith nextFree releasedAt released others retired eventAt scheduleIn eventsIn run ran operations serveAll itemsFrom
 crashed-asked = (refl, refl)

@@ -9,8 +9,8 @@ use Rattle.lists.specs.Find.{least, around, any}
 use Rattle.lists.specs.Tab.{tab, front}
 use Rattle.lists.specs.Word.{has, with, without, wordOf}
 use Rattle.image.specs.Bytes.{atW}
-use Rattle.image.specs.Form.{known, widthOf, topOf, headsAt, nodeSize, headerSize}
-use Rattle.image.specs.Layout.{noContents, marked, formIn, nodePlace, readNodes, imageIn, sameContent, headLines, noHeads, headsOf, readHeads}
+use Rattle.image.specs.Form.{known, widthOf, topOf, headsAt, nodeSize, headerSize, headLines, ownThreads, perDesk, nodePlace, imageSize}
+use Rattle.image.specs.Layout.{noContents, marked, formIn, readNodes, imageIn, sameContent, noHeads, headsOf, readHeads, shapeIn}
 use Rattle.image.specs.Recovered.{largest, headOf, recovered, twins, hasTwin, firstTwin, dummyOf, firstUnclear, headTooWide, firstTooWide}
 use Rattle.image.specs.Refusals.{startable, sound, fitting, whole}
 use Rattle.machine.specs.Record.{blankNodes, idleThreads}
@@ -86,7 +86,7 @@ lawful-five-six = record { order = 0 ∷ 1 ∷ []; within = within; once = (diff
 pub P6-recovers : (k : ℕ) → k < 3 → Recovers P6 (endingIn P6 k)
 unfolding P6 P7 p6 four enqueue step zeroNodes schedule least around any tab front has with without wordOf noContents atW known widthOf topOf headsAt nodeSize headerSize marked formIn nodePlace readNodes imageIn
     recovered twins hasTwin firstTwin dummyOf firstUnclear startable sound headTooWide firstTooWide fitting whole blankNodes idleThreads insert risen behind lastOf startWith startAnswer
-    nextFree releasedAt released others retired eventAt scheduleIn eventsIn run ran headLines noHeads headsOf readHeads largest headOf lineAt putLine sameContent joins gathered contentsOf tableOf
+    nextFree releasedAt released others retired eventAt scheduleIn eventsIn run ran headLines ownThreads perDesk imageSize shapeIn noHeads headsOf readHeads largest headOf lineAt putLine sameContent joins gathered contentsOf tableOf
     choices imageOf ending tableIn endingIn operations serveAll itemsFrom
 P6-recovers zero h = record { starts = refl; lawful = lawful-six }
 P6-recovers (suc zero) h = record { starts = refl; lawful = lawful-six }
@@ -97,7 +97,7 @@ P6-recovers (suc (suc (suc k))) h = absurd (omega arith)
 pub P7-recovers : (k : ℕ) → k < 4 → Recovers P7 (endingIn P7 k)
 unfolding P6 P7 p6 four enqueue step zeroNodes schedule least around any tab front has with without wordOf noContents atW known widthOf topOf headsAt nodeSize headerSize marked formIn nodePlace readNodes imageIn
     recovered twins hasTwin firstTwin dummyOf firstUnclear startable sound headTooWide firstTooWide fitting whole blankNodes idleThreads insert risen behind lastOf startWith startAnswer
-    nextFree releasedAt released others retired eventAt scheduleIn eventsIn run ran headLines noHeads headsOf readHeads largest headOf lineAt putLine sameContent joins gathered contentsOf tableOf
+    nextFree releasedAt released others retired eventAt scheduleIn eventsIn run ran headLines ownThreads perDesk imageSize shapeIn noHeads headsOf readHeads largest headOf lineAt putLine sameContent joins gathered contentsOf tableOf
     choices imageOf ending tableIn endingIn operations serveAll itemsFrom
 P7-recovers zero h = record { starts = refl; lawful = lawful-six }
 P7-recovers (suc zero) h = record { starts = refl; lawful = lawful-six }

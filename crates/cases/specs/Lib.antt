@@ -5,3 +5,4 @@ pub mod Instances
 pub mod Asked
 pub mod Same
 pub mod Clean
+pub mod Desks

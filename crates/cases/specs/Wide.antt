@@ -9,8 +9,8 @@ use Rattle.lists.specs.Tab.{tab, joined, over, front}
 use Rattle.lists.specs.Text.{text, digitsOf, decimal}
 use Rattle.lists.specs.Word.{has, with, without, wordOf}
 use Rattle.image.specs.Bytes.{at1, atW}
-use Rattle.image.specs.Form.{known, widthOf, topOf, headsAt, nodeSize, headerSize}
-use Rattle.image.specs.Layout.{noContents, marked, formIn, nodePlace, headBytes, bodyBytes, imageBytes, readNodes, imageIn, sameContent, headLines, noHeads, headsOf, readHeads}
+use Rattle.image.specs.Form.{known, widthOf, topOf, headsAt, nodeSize, headerSize, headLines, ownThreads, perDesk, nodePlace, imageSize}
+use Rattle.image.specs.Layout.{noContents, marked, formIn, headBytes, bodyBytes, imageBytes, readNodes, imageIn, sameContent, noHeads, headsOf, readHeads, shapeIn, markBytes}
 use Rattle.image.specs.Recovered.{largest, headOf, recovered, twins, hasTwin, firstTwin, dummyOf, firstUnclear}
 use Rattle.image.specs.Refusals.{startable, sound, imageAnswer}
 use Rattle.machine.specs.Record.{blankNodes, idleThreads}
@@ -66,12 +66,12 @@ widest =
 
 -- P1 TO P9 ON VERSION 2 GIVE THE SAME PAGES, and the two above
 pub wide-hold : allRight (map onWide (take 9 starred) ++ widest) ≡ true
-unfolding widely onWide wideNodes widest bytesIn imageBytes headBytes bodyBytes allRight right starred p1 p3 p6 sameBytes lastAnswer sixPlaces heldBelow four enqueue dequeue step zeroNodes schedule
+unfolding widely onWide wideNodes widest bytesIn imageBytes markBytes headBytes bodyBytes allRight right starred p1 p3 p6 sameBytes lastAnswer sixPlaces heldBelow four enqueue dequeue step zeroNodes schedule
     least around any count tab joined over front text digitsOf decimal has with without wordOf
     noContents atW known widthOf topOf headsAt nodeSize headerSize marked formIn nodePlace readNodes imageIn recovered twins hasTwin firstTwin dummyOf firstUnclear startable sound imageAnswer
     blankNodes idleThreads insert risen behind lastOf startWith nextFree releasedAt released others retired eventAt
     reached isHeld inEnqueue inDequeue scheduleIn eventsIn scheduleAnswer run ran
-    headLines noHeads headsOf readHeads largest headOf lineAt putLine sameContent joins gathered contentsOf tableOf choices product imageOf endings
+    headLines ownThreads perDesk imageSize shapeIn noHeads headsOf readHeads largest headOf lineAt putLine sameContent joins gathered contentsOf tableOf choices product imageOf endings
     tableIn firstCrowded tableAnswer pageAnswer endingCount
     itemsOf spaced endingLine linesFrom firstLine refusedLine printed
 wide-hold = refl

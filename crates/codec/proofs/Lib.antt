@@ -3,6 +3,7 @@ pub mod Laws
 pub mod Lying
 pub mod ReadWrite
 pub mod Same
+pub mod Shapes
 pub mod Unique
 pub mod WriteRead
 pub mod Long

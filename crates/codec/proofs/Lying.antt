@@ -1,30 +1,33 @@
 -- An image's nodes and its head index, as the bytes have them.
-use Prim.Native.Nat.{ℕ, _+_, _*_, _<_}
-use mathlib.Core.Path.{_≡_, refl, ap, _∙_}
+use Prim.Native.Nat.{ℕ, _+_, _*_, _≤_, _<_}
+use mathlib.Core.Path.{_≡_, refl, sym, ap, _∙_}
 use mathlib.Core.List.{List}
 use native.Mathlib.Omega.{arith}
+use lib.ListN.{length}
 use Rattle.lists.proofs.TabLaws as tabs
-use Rattle.image.specs.Bytes.{at1, atW}
-use Rattle.image.specs.Form.{known, widthOf, headsAt}
-use Rattle.image.specs.Layout.{noContent, noContents, contentAt, formIn, isImage, nodePlace, readContent, readNodes, readHeads, imageIn}
-use Rattle.image.specs.Recovered.{headOf}
-use mathlib.Core.Bool.{true}
-use Rattle.image.proofs.FormLaws.{heads-six}
-use Rattle.image.proofs.HeadLaws.{one-head, heads-at, head-one}
+use Rattle.image.specs.Form.{headLines, headerSize, nodePlace, imageSize}
+use Rattle.image.specs.Layout.{noContent, noContents, contentAt, shapeIn, readContent, readNodes, readHeads, imageIn}
+use Rattle.image.specs.Recovered.{largest, headOf}
+use Rattle.image.specs.declared.Shape.{Shape}
+use Rattle.image.proofs.FormLaws.{place-from}
+use Rattle.image.proofs.HeadLaws.{own-few}
+use Rattle.codec.specs.Parts.{Lies}
+use Rattle.codec.proofs.Shapes.{size-from}
 
-pub nodes-in : (s : List ℕ) → imageIn s .n ≡ at1 s 5
+pub nodes-in : (s : List ℕ) (z : Shape) → Lies s z → imageIn s .n ≡ z .n
 unfolding imageIn
-nodes-in s = refl
+nodes-in s z l = rw (l .shape)
 
 -- node i's content is read from its place
-pub content-in : (s : List ℕ) (i : ℕ) → i < at1 s 5 → contentAt (imageIn s .nodes) i ≡ readContent (formIn s) s (nodePlace (formIn s) i)
+pub content-in : (s : List ℕ) (z : Shape) (i : ℕ) → Lies s z → i < z .n → contentAt (imageIn s .nodes) i ≡ readContent (z .form) s (nodePlace z i)
 unfolding imageIn readNodes
-content-in s i h = tabs.front-at (λ k. readContent (formIn s) s (nodePlace (formIn s) k)) (at1 s 5) noContents i noContent h
+content-in s z i l h =
+    rw (← l .shape) (tabs.front-at (λ k. readContent (z .form) s (nodePlace z k)) (z .n) noContents i noContent h)
 
--- the head index is that of the one head line
-pub head-in : (s : List ℕ) → isImage s ≡ true → headOf (imageIn s) ≡ atW (widthOf (formIn s)) s 6
-unfolding imageIn readHeads
-head-in s h =
-    head-one (imageIn s)
-    ∙ heads-at (at1 s 5) (λ k. atW (widthOf (formIn s)) s (headsAt (formIn s) + k * widthOf (formIn s))) 0 (omega (arith, one-head (at1 s 5)))
-    ∙ ap (atW (widthOf (formIn s)) s) (omega (arith, heads-six (formIn s) h))
+-- the head index is the largest of the head lines
+pub head-in : (s : List ℕ) (z : Shape) → Lies s z → headOf (imageIn s) ≡ largest (readHeads z s) (headLines z)
+unfolding imageIn headOf
+head-in s z l = rw (l .shape)
+
+pub lines-lie : (s : List ℕ) (z : Shape) → Lies s z → (headLines z ≤ 8) × (headerSize z ≤ length s)
+lines-lie s z l = (own-few z (l .own), omega (arith, l .long, size-from z))

@@ -15,13 +15,15 @@ use Rattle.lists.proofs.TabLaws as tabs
 use Rattle.answer.specs.Answers.{accepted}
 use Rattle.answer.specs.declared.Answer.the-variants.{Taken}
 use Rattle.image.specs.Bytes.{le, at1, at4, atW}
-use Rattle.image.specs.Form.{known, widthOf, topOf, headsAt, nodeSize, headerSize}
+use Rattle.image.specs.Form.{Form, formOf, known, letter, version, threadBytes, heldThreads, widthOf, topOf, headsAt, nodeSize, headLines, headerSize, nodePlace, imageSize}
 use Rattle.image.specs.declared.Content.{Content}
 use Rattle.image.specs.Layout as im
-use Rattle.image.proofs.HeadLaws.{one-head, heads-at}
-use Rattle.image.proofs.FormLaws.{size-is, header-is, heads-six, place-from, place-within, form-marked}
+use Rattle.image.specs.declared.Shape.{Shape}
+use Rattle.image.proofs.HeadLaws.{heads-at}
+use Rattle.image.proofs.FormLaws.{size-is, header-is, place-from, place-within, by-form, hasMark, form-marked}
+use Rattle.codec.proofs.Shapes.{form-of, nodes-of, line-within, size-place, size-from}
 use Rattle.image.proofs.SoundLaws.{Fitting, sound-then, is-fitting}
-use Rattle.image.specs.Refusals.{sound, whole, imageAnswer, readImage, writeAnswer, written}
+use Rattle.image.specs.Refusals.{sound, whole, imageAnswer, aloneAnswer, readImage, writeAnswer, written}
 use Rattle.codec.proofs.Accepted as acc
 use Rattle.image.proofs.ByteLaws as num
 
@@ -42,99 +44,123 @@ node-there f s p b k h =
     ∙ all
     ∙ ap (λ (k : ℕ). take k (drop p s)) long
 
-pub head-there : (s : List ℕ) → num.Bytes s → im.isImage s ≡ true → headerSize (im.formIn s) ≤ length s
-    → im.headBytes (im.formIn s) (at1 s 5) (λ k. atW (widthOf (im.formIn s)) s (headsAt (im.formIn s) + k * widthOf (im.formIn s))) ≡ take (headerSize (im.formIn s)) s
-unfolding im.marked im.headBytes im.headLines joined tab
+-- the five bytes of a mark and a version
+five-there : (x v : ℕ) (s : List ℕ) → im.marked 85 81 x v s ≡ true
+    → (getD s 0 0 ≡ 85) × (getD s 1 0 ≡ 81) × (getD s 2 0 ≡ x) × (getD s 3 0 ≡ v) × (getD s 4 0 ≡ 0)
+unfolding im.marked
+five-there x v s m =
+    let m0 = both-true (eqb (getD s 0 0) 85) _ m in
+    let m1 = both-true (eqb (getD s 1 0) 81) _ (m0 .1) in
+    let m2 = both-true (eqb (getD s 2 0) x) _ (m1 .1) in
+    let m3 = both-true (eqb (getD s 3 0) v) _ (m2 .1) in
+    (eqb-true _ _ (m0 .0), eqb-true _ _ (m1 .0), eqb-true _ _ (m2 .0), eqb-true _ _ (m3 .0), eqb-true _ _ (m3 .1))
+
+-- mark, version, N and T of a form are what the bytes begin with
+mark-there : (f : ℕ) (s : List ℕ) → known f ≡ true → hasMark f s ≡ true → headsAt f ≤ length s
+    → 85 ∷ 81 ∷ letter (formOf f) ∷ version (formOf f) ∷ 0 ∷ at1 s 5 ∷ threadBytes (formOf f) (heldThreads (formOf f) (at1 s 6)) ≡ take (headsAt f) s
+unfolding tab headsAt
+mark-there f s k =
+    by-form
+    (λ f. hasMark f s ≡ true → headsAt f ≤ length s
+    → 85 ∷ 81 ∷ letter (formOf f) ∷ version (formOf f) ∷ 0 ∷ at1 s 5 ∷ threadBytes (formOf f) (heldThreads (formOf f) (at1 s 6)) ≡ take (headsAt f) s)
+    f
+    k
+    (λ m l. let e = five-there 73 1 s m in sym (rw (e .0, e .1, e .2, e .3, e .4) at (tabs.take-drop-tab s 0 0 6 l)))
+    (λ m l. let e = five-there 73 2 s m in sym (rw (e .0, e .1, e .2, e .3, e .4) at (tabs.take-drop-tab s 0 0 6 l)))
+    (λ m l. let e = five-there 80 1 s m in sym (rw (e .0, e .1, e .2, e .3, e .4) at (tabs.take-drop-tab s 0 0 7 l)))
+
+-- the head's bytes
+pub head-there : (s : List ℕ) → num.Bytes s → im.isImage s ≡ true → headerSize (im.shapeIn s) ≤ length s
+    → im.headBytes (im.shapeIn s) (λ k. atW (widthOf (im.shapeIn s .form)) s (headsAt (im.shapeIn s .form) + k * widthOf (im.shapeIn s .form))) ≡ take (headerSize (im.shapeIn s)) s
+unfolding im.headBytes im.markBytes im.shapeIn
 head-there s b m h =
     let f = im.formIn s in
     let w = widthOf f in
-    let z = header-is f m in
-    let m0 = both-true (eqb (getD s 0 0) 85) _ (form-marked s m) in
-    let m1 = both-true (eqb (getD s 1 0) 81) _ (m0 .1) in
-    let m2 = both-true (eqb (getD s 2 0) 73) _ (m1 .1) in
-    let m3 = both-true (eqb (getD s 3 0) f) _ (m2 .1) in
-    let e0 : getD s 0 0 ≡ 85 = eqb-true _ _ (m0 .0) in
-    let e1 : getD s 1 0 ≡ 81 = eqb-true _ _ (m1 .0) in
-    let e2 : getD s 2 0 ≡ 73 = eqb-true _ _ (m2 .0) in
-    let e3 : getD s 3 0 ≡ f = eqb-true _ _ (m3 .0) in
-    let e4 : getD s 4 0 ≡ 0 = eqb-true _ _ (m3 .1) in
-    let at : headsAt f + 0 * w ≡ 6 = omega (arith, heads-six f m) in
-    ap (λ (l : List ℕ). 85 ∷ 81 ∷ 73 ∷ f ∷ 0 ∷ getD s 5 0 ∷ l) (ap (λ (i : ℕ). le w (atW w s i)) at ∙ num.le-at w s 6 b (omega arith))
-    ∙ ap (λ (l : List ℕ). l ++ take w (drop 6 s)) (sym (rw (e0, e1, e2, e3, e4) at (tabs.take-drop-tab s 0 0 6 (omega arith))))
-    ∙ sym (take-add 6 w s)
+    let n = headLines (im.shapeIn s) in
+    let z = header-is (im.shapeIn s) in
+    ap₂ (λ (x y : List ℕ). x ++ y)
+    (mark-there f s m (form-marked s m) (omega (arith, z)))
+    (tabs.joined-same (λ k. le w (atW w s (headsAt f + k * w))) (λ k. take w (drop (k * w) (drop (headsAt f) s))) n
+    (λ k p. num.le-at w s (headsAt f + k * w) b (omega (arith, line-within (im.shapeIn s) k p)) ∙ ap (take w) (sym (drop-drop (k * w) (headsAt f) s)))
+    ∙ tabs.joined-parts (drop (headsAt f) s) w n)
+    ∙ sym (take-add (headsAt f) (n * w) s)
     ∙ ap (λ (k : ℕ). take k s) (sym z)
 
 -- the indices of the head lines that are read
-pub heads-there : (f n : ℕ) (x y : ℕ → ℕ) → ((k : ℕ) → k < im.headLines n → x k ≡ y k) → im.headBytes f n x ≡ im.headBytes f n y
+pub heads-there : (z : Shape) (x y : ℕ → ℕ) → ((k : ℕ) → k < headLines z → x k ≡ y k) → im.headBytes z x ≡ im.headBytes z y
 unfolding im.headBytes
-heads-there f n x y h = ap (λ (l : List ℕ). 85 ∷ 81 ∷ 73 ∷ f ∷ 0 ∷ n ∷ l) (tabs.joined-same (λ k. le (widthOf f) (x k)) (λ k. le (widthOf f) (y k)) (im.headLines n) (λ k p. ap (le (widthOf f)) (h k p)))
+heads-there z x y h =
+    ap (λ (l : List ℕ). im.markBytes z ++ l) (tabs.joined-same (λ k. le (widthOf (z .form)) (x k)) (λ k. le (widthOf (z .form)) (y k)) (headLines z) (λ k p. ap (le (widthOf (z .form))) (h k p)))
 
-body-there : (f : ℕ) (s : List ℕ) (n : ℕ) → num.Bytes s → known f ≡ true → im.nodePlace f n ≤ length s → im.bodyBytes f (im.readNodes f s n) n ≡ take (n * nodeSize f) (drop (headerSize f) s)
+body-there : (z : Shape) (s : List ℕ) → num.Bytes s → known (z .form) ≡ true → imageSize z ≤ length s
+    → im.bodyBytes (z .form) (im.readNodes z s) (z .n) ≡ take (z .n * nodeSize (z .form)) (drop (headerSize z) s)
 unfolding im.bodyBytes im.readNodes
-body-there f s n b k e =
-    tabs.joined-same (λ i. im.nodeBytes f (im.contentAt (im.readNodes f s n) i)) (λ i. take (nodeSize f) (drop (i * nodeSize f) (drop (headerSize f) s))) n
+body-there z s b k e =
+    let f = z .form in
+    let n = z .n in
+    tabs.joined-same (λ i. im.nodeBytes f (im.contentAt (im.readNodes z s) i)) (λ i. take (nodeSize f) (drop (i * nodeSize f) (drop (headerSize z) s))) n
     (λ i p.
     ap (im.nodeBytes f)
-    (tabs.front-at (λ k. im.readContent f s (im.nodePlace f k)) n im.noContents i im.noContent p)
-    ∙ node-there f s (im.nodePlace f i) b k (omega (arith, place-within f i n p))
-    ∙ ap (λ (j : ℕ). take (nodeSize f) (drop j s)) (place-from f i)
-    ∙ ap (take (nodeSize f)) (sym (drop-drop (i * nodeSize f) (headerSize f) s)))
-    ∙ tabs.joined-parts (drop (headerSize f) s) (nodeSize f) n
+    (tabs.front-at (λ k. im.readContent f s (nodePlace z k)) n im.noContents i im.noContent p)
+    ∙ node-there f s (nodePlace z i) b k (omega (arith, place-within z i n p, size-place z))
+    ∙ ap (λ (j : ℕ). take (nodeSize f) (drop j s)) (place-from z i)
+    ∙ ap (take (nodeSize f)) (sym (drop-drop (i * nodeSize f) (headerSize z) s)))
+    ∙ tabs.joined-parts (drop (headerSize z) s) (nodeSize f) n
 
 -- an image that lies in the bytes: its own bytes come back
-pub shape-again : (s : List ℕ) → num.Bytes s → im.isImage s ≡ true → im.nodePlace (im.formIn s) (at1 s 5) ≤ length s → im.imageBytes (im.imageIn s) ≡ take (im.nodePlace (im.formIn s) (at1 s 5)) s
+pub shape-again : (s : List ℕ) → num.Bytes s → im.isImage s ≡ true → imageSize (im.shapeIn s) ≤ length s → im.imageBytes (im.imageIn s) ≡ take (imageSize (im.shapeIn s)) s
 unfolding im.imageBytes im.imageIn im.readHeads
 shape-again s b m l =
-    let n = at1 s 5 in
-    let f = im.formIn s in
+    let z = im.shapeIn s in
+    let f = z .form in
     let x : ℕ → ℕ = λ k. atW (widthOf f) s (headsAt f + k * widthOf f) in
     ap₂ (λ (x y : List ℕ). x ++ y)
-    (heads-there f n _ x (λ k p. heads-at n x k p) ∙ head-there s b m (omega (arith, l, place-from f n)))
-    (body-there f s n b m l)
-    ∙ sym (take-add (headerSize f) (n * nodeSize f) s)
-    ∙ ap (λ (k : ℕ). take k s) (sym (place-from f n))
+    (heads-there z _ x (λ k p. heads-at z x k p) ∙ head-there s b m (omega (arith, l, size-from z)))
+    (body-there z s b (ap known (form-of s) ∙ m) l)
+    ∙ sym (take-add (headerSize z) (z .n * nodeSize f) s)
+    ∙ ap (λ (k : ℕ). take k s) (sym (size-from z))
 
-pub part-again : (more : ℕ) (s : List ℕ) → num.Bytes s → accepted (imageAnswer more s) ≡ true → im.imageBytes (im.imageIn s) ≡ take (im.nodePlace (im.formIn s) (at1 s 5)) s
-part-again more s b h = let a = acc.part-taken more s h in shape-again s b (a .mark) (omega (arith, a .size))
+pub part-again : (t more : ℕ) (s : List ℕ) → num.Bytes s → accepted (imageAnswer t more s) ≡ true → im.imageBytes (im.imageIn s) ≡ take (imageSize (im.shapeIn s)) s
+part-again t more s b h = let a = acc.part-taken t more s h in shape-again s b (a .mark) (omega (arith, a .size))
 
 -- an image alone
-pub bytes-again : (s : List ℕ) → num.Bytes s → accepted (imageAnswer 0 s) ≡ true → im.imageBytes (im.imageIn s) ≡ s
+pub bytes-again : (s : List ℕ) → num.Bytes s → accepted (aloneAnswer s) ≡ true → im.imageBytes (im.imageIn s) ≡ s
 bytes-again s b h =
-    let a = acc.part-taken 0 s h in
-    part-again 0 s b h ∙ take-all (im.nodePlace (im.formIn s) (at1 s 5)) s (omega (arith, a .size))
+    let a = acc.alone-taken s h in
+    shape-again s b (a .mark) (omega (arith, a .size)) ∙ take-all (imageSize (im.shapeIn s)) s (omega (arith, a .size))
 
-pub read-answer : (s : List ℕ) → readImage s .answer ≡ imageAnswer 0 s
+pub read-answer : (s : List ℕ) → readImage s .answer ≡ aloneAnswer s
 unfolding readImage
 read-answer s = refl
 
-pub read-image : (s : List ℕ) → accepted (imageAnswer 0 s) ≡ true → readImage s .image ≡ im.imageIn s
+pub read-image : (s : List ℕ) → accepted (aloneAnswer s) ≡ true → readImage s .image ≡ im.imageIn s
 unfolding readImage
 read-image s h = rw h
 
 -- every index that is read is within its width
-pub read-fits : (s : List ℕ) → num.Bytes s → im.isImage s ≡ true → Fitting (im.imageIn s)
+pub read-fits : (s : List ℕ) → num.Bytes s → Fitting (im.imageIn s)
 unfolding im.imageIn im.readHeads im.readNodes topOf
-read-fits s b m =
-    let f = im.formIn s in
+read-fits s b =
+    let z = im.shapeIn s in
+    let f = z .form in
     let x : ℕ → ℕ = λ k. atW (widthOf f) s (headsAt f + k * widthOf f) in
-    let h = heads-at (at1 s 5) x 0 (omega (arith, one-head (at1 s 5))) in
     record {
-      head = omega (arith, h, num.at-small (widthOf f) s (headsAt f + 0 * widthOf f) b);
+      head = λ k p. omega (arith, heads-at z x k p, num.at-small (widthOf f) s (headsAt f + k * widthOf f) b);
       at = λ i p.
-          let c = ap (λ (v : Content). v .index) (tabs.front-at (λ k. im.readContent f s (im.nodePlace f k)) (at1 s 5) im.noContents i im.noContent p) in
-          omega (arith, c, num.at-small (widthOf f) s (im.nodePlace f i + 1) b);
+          let c = ap (λ (v : Content). v .index) (tabs.front-at (λ k. im.readContent f s (nodePlace z k)) (z .n) im.noContents i im.noContent p) in
+          omega (arith, c, num.at-small (widthOf f) s (nodePlace z i + 1) b);
     }
 
-pub read-whole : (s : List ℕ) → num.Bytes s → im.isImage s ≡ true → accepted (sound (im.imageIn s) Taken) ≡ true → whole (im.imageIn s) Taken ≡ Taken
+pub read-whole : (s : List ℕ) → num.Bytes s → accepted (sound (im.imageIn s) Taken) ≡ true → whole (im.imageIn s) Taken ≡ Taken
 unfolding whole
-read-whole s b m h = sound-then (im.imageIn s) _ h ∙ is-fitting (im.imageIn s) Taken (read-fits s b m)
+read-whole s b h = sound-then (im.imageIn s) _ h ∙ is-fitting (im.imageIn s) Taken (read-fits s b)
 
 -- an image that was read is taken for writing wherever there is room
-pub room-taken : (s : List ℕ) (room : ℕ) → num.Bytes s → accepted (imageAnswer 0 s) ≡ true → length s ≤ room → writeAnswer (im.imageIn s) room ≡ Taken
+pub room-taken : (s : List ℕ) (room : ℕ) → num.Bytes s → accepted (aloneAnswer s) ≡ true → length s ≤ room → writeAnswer (im.imageIn s) room ≡ Taken
 unfolding im.imageIn
 room-taken s room b h l =
-    let a = acc.part-taken 0 s h in
-    acc.write-taken (im.imageIn s) room (a .mark) (a .nodes) (ap accepted (read-whole s b (a .mark) (a .clear))) (omega (arith, a .size))
+    let a = acc.alone-taken s h in
+    acc.write-taken (im.imageIn s) room (a .shape) (ap accepted (read-whole s b (a .clear))) (omega (arith, a .size))
 
 -- bytes written from the front on, then the rest
 pub over-front : (b s : List ℕ) → length s ≤ length b → over b 0 s ≡ s ++ drop (length s) b
@@ -144,7 +170,7 @@ over-front b s l = tabs.over-is b 0 s (omega arith) ∙ ap (λ (k : ℕ). s ++ d
 pub read-written : (s b : List ℕ) → num.Bytes s → accepted (readImage s .answer) ≡ true → length s ≤ length b →
     (writeAnswer (readImage s .image) (length b) ≡ Taken) × (written (readImage s .image) b ≡ s ++ drop (length s) b)
 read-written s b by t l =
-    let h : accepted (imageAnswer 0 s) ≡ true = rw (← read-answer s) t in
+    let h : accepted (aloneAnswer s) ≡ true = rw (← read-answer s) t in
     let w = room-taken s (length b) by h l in
     rw (read-image s h) (
       w,

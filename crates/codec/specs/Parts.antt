@@ -8,32 +8,35 @@ use lib.Dec.{eqb, ltb, leb}
 use Rattle.lists.specs.Find.{pick, both}
 use Rattle.answer.specs.Answers.{check, accepted}
 use Rattle.answer.specs.declared.Answer.{Answer}
-use Rattle.image.specs.Bytes.{at1}
-use Rattle.answer.specs.declared.Answer.the-variants.{Taken, Length, Mark, Nodes, NoEnding}
-use Rattle.image.specs.Layout.{formIn, isImage, nodePlace, imageIn}
-use Rattle.image.specs.Refusals.{nodesFit, imageAnswer, blankImage}
+use Rattle.answer.specs.declared.Answer.the-variants.{Taken, Length, NoEnding}
+use Rattle.image.specs.Form.{known, imageSize}
+use Rattle.image.specs.Layout.{shapeIn, imageIn}
+use Rattle.image.specs.Refusals.{ownFit, shapeAnswer, imageAnswer, blankImage}
 use Rattle.image.specs.declared.Read.{Read}
+use Rattle.image.specs.declared.Shape.{Shape}
 use Rattle.machine.specs.declared.Event.{Event}
 use Rattle.schedule.specs.Layout.{countIn, eventIn, scheduleAnswer, blankSchedule}
 use Rattle.schedule.specs.declared.Opened.{Opened}
 
--- an image's head and nodes lie in the bytes
-abbrev pub Lies : List ℕ → Type 0
-Lies s = (isImage s ≡ true) × ((at1 s 5 ≤ 64) × (nodePlace (formIn s) (at1 s 5) ≤ length s))
+-- an image of shape z, its head lines and nodes, lies in the bytes
+pub record Lies (s : List ℕ) (z : Shape) : Type 0 where
+  pub shape : z ≡ shapeIn s
+  pub form : known (z .form) ≡ true
+  pub nodes : z .n ≤ 64
+  pub own : ownFit z ≡ true
+  pub long : imageSize z ≤ length s
 
--- 1, 2, 3, 1: what is asked of an image with `more` bytes behind it before its nodes are looked at, with what follows
-unfoldable pub shape : ℕ → List ℕ → Answer → Answer
-shape more s rest =
+-- 1, 2, 3, 4, 1: what is asked of an image for t threads with `more` bytes behind it before its nodes are looked at, with what follows
+unfoldable pub shape : ℕ → ℕ → List ℕ → Answer → Answer
+shape t more s rest =
     check (ltb (length s) 10) Length
-    (check (not (isImage s)) Mark
-    (check (not (nodesFit (at1 s 5))) Nodes
-    (check (not (eqb (length s) (nodePlace (formIn s) (at1 s 5) + more))) Length rest)))
+    (shapeAnswer t (shapeIn s) (check (not (eqb (length s) (imageSize (shapeIn s) + more))) Length rest))
 
--- an image with `more` bytes behind it, as `readImage` reads one alone
-unfoldable pub readPart : ℕ → List ℕ → Read
-readPart more s = record {
-  answer = imageAnswer more s;
-  image = pick (accepted (imageAnswer more s)) (imageIn s) blankImage;
+-- an image for t threads with `more` bytes behind it, as `readImage` reads one alone
+unfoldable pub readPart : ℕ → ℕ → List ℕ → Read
+readPart t more s = record {
+  answer = imageAnswer t more s;
+  image = pick (accepted (imageAnswer t more s)) (imageIn s) blankImage;
 }
 
 -- a refusal with what is handed back beside it

@@ -7,7 +7,8 @@ ghost use Rattle.lists.specs.Tab.{over};
 ghost use mathlib.Core.Bool.{true};
 ghost use Rattle.image.specs.Bytes.{numOf, le, le4, at2, at4, atW};
 ghost use Rattle.image.specs.Form.{known, widthOf};
-ghost use Rattle.image.specs.Layout.{marked, formIn};
+ghost use Rattle.image.specs.Layout.{marked, formIn, shapeIn};
+use image::Shape;
 
 fn num(a: u8, b: u8, c: u8, d: u8) -> u32
     ensures { λ r. ⌜ r ≡ numOf (a ∷ b ∷ c ∷ d ∷ []) ⌝ }
@@ -125,5 +126,32 @@ pub fn form_in(s: &[u8]) -> u8
     if is_marked(s, 85, 81, 73, 2) {
         return 2;
     }
+    if is_marked(s, 85, 81, 80, 1) {
+        return 4;
+    }
     0
+}
+
+// The shape that the bytes have: T stands behind N, in "UQP" alone.
+pub fn shape_in(s: &[u8]) -> Shape
+    requires { ⌜ 7 ≤ length (now s) ⌝ }
+    ensures { λ r. ⌜ r ≡ shapeIn (now (s .entry)) ⌝ }
+{
+    let form = form_in(s);
+    let n = s[5];
+    if form == 4 {
+        return Shape { form, n, t: s[6] };
+    }
+    Shape { form, n, t: 0 }
+}
+
+// T as the bytes hold it; zero where they hold none.
+pub fn own_threads(s: &[u8]) -> u8
+    ensures { λ r. ⌜ r ≡ shapeIn (now (s .entry)) .t ⌝ }
+{
+    if s.len() < 7 {
+        return 0;
+    }
+    let z = shape_in(s);
+    z.t
 }

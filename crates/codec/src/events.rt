@@ -6,7 +6,8 @@ ghost use mathlib.Core.Bool.{true};
 ghost use Rattle.image.specs.Form.{known};
 ghost use Rattle.schedule.specs.Layout.{eventFrom, eventPlace};
 use crate::bytes::word_at;
-use image::place_of;
+use image::Shape;
+use image::size_of;
 use machine::Event;
 
 // The event whose bytes begin at a place.
@@ -22,10 +23,10 @@ pub fn event_from(s: &[u8], at: usize) -> Event
     }
 }
 
-// Event i of a schedule that is long enough, whose image is in this form, with n nodes.
-pub fn event_at(s: &[u8], form: u8, n: usize, i: usize) -> Event
-    requires { ⌜ (known form ≡ true) × ((n ≤ 64) × (eventPlace form n i + 6 ≤ length (now s))) ⌝ }
-    ensures { λ r. ⌜ r ≡ eventFrom (now (s .entry)) (eventPlace form n i) ⌝ }
+// Event i of a schedule that is long enough, whose machine has this shape.
+pub fn event_at(s: &[u8], z: Shape, i: usize) -> Event
+    requires { ⌜ (known (z .form) ≡ true) × (eventPlace z i + 6 ≤ length (now s)) ⌝ }
+    ensures { λ r. ⌜ r ≡ eventFrom (now (s .entry)) (eventPlace z i) ⌝ }
 {
-    event_from(s, 8 + place_of(form, n) + i * 6)
+    event_from(s, 8 + size_of(z) + i * 6)
 }

@@ -1,57 +1,49 @@
 // An image as bytes, read and written.
 ghost use mathlib.Core.Path.{_≡_};
-ghost use Prim.Native.Nat.{_+_, _*_, _≤_};
-ghost use lib.ListN.{length, getD};
-ghost use Rattle.lists.specs.Tab.{over};
 ghost use mathlib.Core.Bool.{true};
-ghost use Rattle.image.specs.Form.{known, headerSize};
-ghost use Rattle.image.specs.Layout.{nodePlace, headBytes, imageBytes, imageIn};
+ghost use Prim.Native.Nat.{_≤_};
+ghost use lib.ListN.{length};
+ghost use Rattle.lists.specs.Tab.{over};
+ghost use Rattle.image.specs.Form.{known, headLines, imageSize};
+ghost use Rattle.image.specs.Layout.{imageShape, imageBytes, shapeIn, imageIn};
 ghost use Rattle.codec.specs.Parts.{Lies};
-use crate::bytes::index_in;
-use crate::bytes::put_index;
+use crate::bytes::shape_in;
+use crate::lines::heads_in;
+use crate::lines::put_head;
 use crate::nodes::nodes_in;
 use crate::nodes::put_nodes;
 use image::Image;
-use image::no_heads;
+use image::Shape;
 
 // What the bytes hold, where they are long enough.
 pub fn image_in(s: &[u8]) -> Image
-    requires { ⌜ Lies (now s) ⌝ }
+    requires { ⌜ Lies (now s) (shapeIn (now s)) ⌝ }
     ensures { λ r. ⌜ r ≡ imageIn (now (s .entry)) ⌝ }
 {
-    let form = s[3];
-    let n = s[5];
-    let mut heads = no_heads();
-    heads[0] = index_in(s, form, 6);
-    let nodes = nodes_in(s, form, n as usize);
+    let z = shape_in(s);
+    let heads = heads_in(s, z);
+    let nodes = nodes_in(s, z);
     Image {
         heads,
         nodes,
-        form,
-        n,
+        form: z.form,
+        n: z.n,
+        t: z.t,
     }
-}
-
-fn put_head(b: &mut [u8], form: u8, n: u8, heads: [u64; 8])
-    requires { ⌜ (known form ≡ true) × (headerSize form ≤ length (now b)) ⌝ }
-    ensures { λ _. ⌜ now (b .exit) ≡ over (now (b .entry)) 0 (headBytes form n (λ k. getD heads k 0)) ⌝ }
-{
-    b[0] = 85;
-    b[1] = 81;
-    b[2] = 73;
-    b[3] = form;
-    b[4] = 0;
-    b[5] = n;
-    put_index(b, form, 6, heads[0]);
 }
 
 // The image in the buffer's first bytes; the bytes after them stay.
 pub fn put_image(b: &mut [u8], g: Image)
-    requires { ⌜ (known (g .form) ≡ true) × ((g .n ≤ 64) × (nodePlace (g .form) (g .n) ≤ length (now b))) ⌝ }
+    requires { ⌜ (known (g .form) ≡ true) × ((g .n ≤ 64) × ((headLines (imageShape g) ≤ 8) × (imageSize (imageShape g) ≤ length (now b)))) ⌝ }
     ensures { λ _. ⌜ now (b .exit) ≡ over (now (b .entry)) 0 (imageBytes g) ⌝ }
 {
+    let z = Shape {
+        form: g.form,
+        n: g.n,
+        t: g.t,
+    };
     let heads = g.heads;
-    put_head(b, g.form, g.n, heads);
+    put_head(b, z, heads);
     let nodes = g.nodes;
-    put_nodes(b, g.form, nodes, g.n as usize);
+    put_nodes(b, z, nodes);
 }

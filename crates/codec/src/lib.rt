@@ -3,6 +3,7 @@
 mod bytes;
 mod events;
 mod images;
+mod lines;
 mod nodes;
 mod opening;
 mod reading;
@@ -11,8 +12,10 @@ mod writing;
 
 pub use bytes::form_in;
 pub use bytes::long_at;
+pub use bytes::own_threads;
 pub use bytes::put_index;
 pub use bytes::put_word;
+pub use bytes::shape_in;
 pub use bytes::word_at;
 pub use events::event_at;
 pub use events::event_from;
@@ -23,6 +26,7 @@ pub use opening::check_file;
 pub use opening::check_schedule;
 pub use opening::open_file;
 pub use opening::open_schedule;
+pub use reading::check_alone;
 pub use reading::check_part;
 pub use reading::read_part;
 pub use reading::shape_part;
@@ -35,6 +39,7 @@ ghost use Rattle.codec.specs.Parts.{eventAsked, eventOf};
 use answer::Answer;
 use answer::is_taken;
 use image::Read;
+use image::Shape;
 use machine::Event;
 use schedule::Opened;
 
@@ -43,7 +48,8 @@ pub fn read_image(s: &[u8]) -> Read
     ensures answers { λ r. ⌜ told (r .answer) ≡ told (readImage (now (s .entry)) .answer) ⌝ }
     ensures image { λ r. ⌜ r .image ≡ readImage (now (s .entry)) .image ⌝ }
 {
-    read_part(s, 0)
+    let t = own_threads(s);
+    read_part(s, t, 0)
 }
 
 // The schedule that the bytes are, up to its events, or what is wrong with them.
@@ -87,8 +93,12 @@ pub fn event_of(s: &[u8], i: usize) -> Found
         };
     }
     let g = d.image;
-    let n = g.n as usize;
-    let event = event_at(s, g.form, n, i);
+    let z = Shape {
+        form: g.form,
+        n: g.n,
+        t: d.t,
+    };
+    let event = event_at(s, z, i);
     Found {
         answer: Answer::Taken,
         event,

@@ -4,13 +4,14 @@ ghost use mathlib.Core.Bool.{true};
 ghost use Prim.Native.Nat.{_+_, _*_, _≤_};
 ghost use lib.ListN.{length};
 ghost use Rattle.lists.specs.Tab.{over};
-ghost use Rattle.image.specs.Form.{known, nodeSize, headerSize};
-ghost use Rattle.image.specs.Layout.{nodePlace, nodeBytes, bodyBytes, readContent, readNodes};
+ghost use Rattle.image.specs.Form.{known, nodeSize, headerSize, imageSize};
+ghost use Rattle.image.specs.Layout.{nodeBytes, bodyBytes, readContent, readNodes};
 use crate::bytes::index_in;
 use crate::bytes::put_index;
 use crate::bytes::put_word;
 use crate::bytes::word_at;
 use image::Content;
+use image::Shape;
 use image::place_of;
 use image::width_of;
 
@@ -28,15 +29,17 @@ fn content_at(s: &[u8], form: u8, at: usize) -> Content
     }
 }
 
-// The contents of the first n nodes; those beyond are blank.
-pub fn nodes_in(s: &[u8], form: u8, n: usize) -> [Content; 64]
-    requires { ⌜ (known form ≡ true) × ((n ≤ 64) × (nodePlace form n ≤ length (now s))) ⌝ }
-    ensures { λ r. ⌜ r ≡ readNodes form (now (s .entry)) n ⌝ }
+// The contents of the nodes; those beyond are blank.
+pub fn nodes_in(s: &[u8], z: Shape) -> [Content; 64]
+    requires { ⌜ (known (z .form) ≡ true) × ((z .n ≤ 64) × (imageSize z ≤ length (now s))) ⌝ }
+    ensures { λ r. ⌜ r ≡ readNodes z (now (s .entry)) ⌝ }
 {
+    let form = z.form;
+    let n = z.n as usize;
     let mut nodes = image::no_contents();
     let mut i = 0;
     while i < n {
-        let at = place_of(form, i);
+        let at = place_of(z, i);
         let v = content_at(s, form, at);
         nodes[i] = v;
         i += 1;
@@ -55,14 +58,16 @@ pub fn put_content(b: &mut [u8], form: u8, at: usize, v: Content)
     put_word(b, at + 1 + w, v.item as u64);
 }
 
-pub fn put_nodes(b: &mut [u8], form: u8, nodes: [Content; 64], n: usize)
-    requires { ⌜ (known form ≡ true) × ((n ≤ 64) × (nodePlace form n ≤ length (now b))) ⌝ }
-    ensures { λ _. ⌜ now (b .exit) ≡ over (now (b .entry)) (headerSize form) (bodyBytes form nodes n) ⌝ }
+pub fn put_nodes(b: &mut [u8], z: Shape, nodes: [Content; 64])
+    requires { ⌜ (known (z .form) ≡ true) × ((z .n ≤ 64) × (imageSize z ≤ length (now b))) ⌝ }
+    ensures { λ _. ⌜ now (b .exit) ≡ over (now (b .entry)) (headerSize z) (bodyBytes (z .form) nodes (z .n)) ⌝ }
 {
+    let form = z.form;
+    let n = z.n as usize;
     let mut i = 0;
     while i < n {
         let v = nodes[i];
-        let at = place_of(form, i);
+        let at = place_of(z, i);
         put_content(b, form, at, v);
         i += 1;
     }

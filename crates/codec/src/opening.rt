@@ -51,7 +51,7 @@ pub fn check_file(s: &[u8], z: u8, w: usize) -> Answer
     if Machine::EVENTS < count {
         return Answer::Events;
     }
-    check_part(&s[8..], (count as usize) * w)
+    check_part(&s[8..], t, (count as usize) * w)
 }
 
 pub fn check_schedule(s: &[u8]) -> Answer

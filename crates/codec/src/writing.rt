@@ -7,23 +7,23 @@ use crate::images::put_image;
 use answer::Answer;
 use answer::is_taken;
 use image::Image;
-use image::is_known;
-use image::place_of;
+use image::Shape;
+use image::shape_of;
+use image::size_of;
 
 // Writes the image into the buffer's first bytes, or nothing.
 pub fn write_image(g: Image, b: &mut [u8]) -> Answer
     ensures answers { λ r. ⌜ told r ≡ told (writeAnswer g (length (now (b .entry)))) ⌝ }
     ensures bytes { λ r. ⌜ now (b .exit) ≡ written g (now (b .entry)) ⌝ }
 {
-    if !is_known(g.form) {
-        return Answer::Mark;
-    }
-    let n = g.n;
-    if n < 2 {
-        return Answer::Nodes;
-    }
-    if 64 < n {
-        return Answer::Nodes;
+    let z = Shape {
+        form: g.form,
+        n: g.n,
+        t: g.t,
+    };
+    let a = shape_of(z, g.t);
+    if !is_taken(a) {
+        return a;
     }
     let a = image::sound_of(g);
     if !is_taken(a) {
@@ -33,8 +33,7 @@ pub fn write_image(g: Image, b: &mut [u8]) -> Answer
     if !is_taken(a) {
         return a;
     }
-    let k = n as usize;
-    if b.len() < place_of(g.form, k) {
+    if b.len() < size_of(z) {
         return Answer::Room;
     }
     put_image(b, g);

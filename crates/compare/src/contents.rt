@@ -40,6 +40,7 @@ pub fn contents_of(s: &[u8]) -> Image {
         nodes,
         form: 1,
         n,
+        t: 0,
     }
 }
 
@@ -86,5 +87,6 @@ pub fn wide_contents_of(s: &[u8]) -> Image {
         nodes,
         form,
         n,
+        t: 0,
     }
 }

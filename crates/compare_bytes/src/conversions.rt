@@ -11,7 +11,7 @@ use converting::widen;
 use stream::half;
 
 // Number, place and the whole of what was lent.
-fn put_lent(out: &mut [u8; 65536], at: usize, a: Answer, lent: &[u8], room: usize) -> usize {
+pub(crate) fn put_lent(out: &mut [u8; 65536], at: usize, a: Answer, lent: &[u8], room: usize) -> usize {
     let t = told_of(a);
     let first = put_pair(out, at, t.number as u64, t.place as u64);
     let second = put(out, first, b' ');
@@ -20,7 +20,7 @@ fn put_lent(out: &mut [u8; 65536], at: usize, a: Answer, lent: &[u8], room: usiz
 }
 
 // Where the room stands behind an image: 0 where there are fewer than two bytes.
-fn image_end(s: &[u8]) -> usize
+pub(crate) fn image_end(s: &[u8]) -> usize
     ensures { λ r. ⌜ r ≤ length (now (s .entry)) ⌝ }
 {
     let n = s.len();

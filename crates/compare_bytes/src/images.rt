@@ -5,9 +5,12 @@ use compare::text::put_front;
 use compare::text::put_refusal;
 use image::Image;
 
-fn size_of(form: u8, n: u8) -> usize {
+fn size_of(form: u8, n: u8, t: u8) -> usize {
     if form == 2 {
         return 14 + (n as usize) * 13;
+    }
+    if form == 4 {
+        return 7 + (t as usize) * 4 + (n as usize) * 9;
     }
     10 + (n as usize) * 9
 }
@@ -20,7 +23,7 @@ pub(crate) fn put_image(out: &mut [u8; 65536], at: usize, g: Image) -> usize {
     if t.number != 0 {
         return put_refusal(out, at, t);
     }
-    let size = size_of(g.form, g.n);
+    let size = size_of(g.form, g.n, g.t);
     put_front(out, at, &bytes, size)
 }
 

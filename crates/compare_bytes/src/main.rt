@@ -7,8 +7,11 @@
 //   d  contents that say the version they are for, with indices of 8 bytes: the same
 //   w  an image to be widened, the buffer's room behind it: the same
 //   v  an image to be narrowed: the same
+//   j  an image of "UQP" to be imported, the buffer's room behind it: the same
+//   x  an image to be exported, T (1 byte) and the room behind it: the same
 mod contents;
 mod conversions;
+mod desks;
 mod images;
 mod mended;
 mod schedules;
@@ -17,6 +20,8 @@ use compare::text::finish;
 use contents::answer_contents;
 use contents::answer_wide_contents;
 use conversions::answer_converted;
+use desks::answer_exported;
+use desks::answer_imported;
 use images::answer_image;
 use libc::STDIN_FILENO;
 use mended::answer_mended;
@@ -31,6 +36,8 @@ fn answer_one(mode: u8, s: &[u8], out: &mut [u8; 65536], at: usize) -> usize {
         b'd' => answer_wide_contents(s, out, at),
         b'w' => answer_converted(s, out, at, true),
         b'v' => answer_converted(s, out, at, false),
+        b'j' => answer_imported(s, out, at),
+        b'x' => answer_exported(s, out, at),
         b'm' => answer_mended(s, out, at),
         _ => at,
     }

@@ -97,11 +97,15 @@ fn put_all_endings(
     put_sum_line(out, at, sum)
 }
 
-// A schedule that is taken has its image's version at byte 11 and N at byte 13.
+// A schedule that is taken has the last letter of its image's mark at byte 10, the version at byte 11 and N at byte 13, behind "UQP" T
+// at byte 14.
 fn size_of(s: &[u8]) -> usize
     ensures { λ r. ⌜ (1 ≤ r) × (r ≤ 3329) ⌝ }
 {
     let n = byte(s, 13) as usize;
+    if byte(s, 10) == b'P' {
+        return 7 + byte(s, 14) as usize * 4 + n * 9;
+    }
     if byte(s, 11) == 2 {
         return 14 + n * 13;
     }

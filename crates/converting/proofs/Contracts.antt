@@ -1,4 +1,5 @@
--- Of whatever the two calls' contracts allow, as the source has them: a refused conversion writes nothing; there and back returns the same bytes.
+-- Of whatever the calls' contracts allow, as the source has them: a refused conversion writes nothing; there and back returns the same bytes;
+-- export followed by import too.
 use Prim.Native.Nat.{ℕ, _+_, _*_, _≤_}
 use mathlib.Core.Path.{_≡_, sym, ap, _∙_}
 use mathlib.Core.Bool.{true, false}
@@ -17,6 +18,11 @@ use Rattle.converting.proofs.Laws.{refused-same}
 use Rattle.converting.proofs.Versions.{wide-and-back, narrow-and-back}
 use Rattle.converting.proofs.widen.Reads as widening
 use Rattle.converting.proofs.narrow.Reads as narrowing
+use Rattle.converting.specs.Desks.{importAnswer, imported, exportAnswer}
+use Rattle.converting.proofs.DeskLaws.{import-stays, export-stays}
+use Rattle.converting.proofs.ExportImport.{export-import}
+use Rattle.converting.proofs.desks.import_desks.Reads as importing
+use Rattle.converting.proofs.desks.export_desks.Reads as exporting
 
 module _ (κs : Lfts 2) (s b z : RefT (List ℕ)) (r : Answer) where
   -- widen, or narrow, may answer r and leave z where the buffer held b
@@ -60,3 +66,28 @@ module _ (κs : Lfts 2) (s b z : RefT (List ℕ)) (r : Answer) (λs : Lfts 2) (t
         widen-is λs t c w q p′ ∙ ap (λ (l : List ℕ). widenAnswer l (length (now c))) f ∙ o .0,
         p′ .1 ∙ ap (λ (l : List ℕ). widened l (now c)) f ∙ o .1,
       )
+
+pub import-refused :
+    (κs : Lfts 2) (s b z : RefT (List ℕ)) (r : Answer) → importing.Post κs (s, (b, tt)) r (s, (z, tt)) → accepted r ≡ false → now z ≡ now b
+import-refused κs s b z r p h =
+    p .1 ∙ import-stays (now s) (now b) (ap accepted (sym (told-injective r (importAnswer (now s) (length (now b))) (p .0))) ∙ h)
+
+pub export-refused :
+    (κs : Lfts 2) (s b z : RefT (List ℕ)) (t : ℕ) (r : Answer) → exporting.Post κs (s, (t, (b, tt))) r (s, (t, (z, tt))) → accepted r ≡ false → now z ≡ now b
+export-refused κs s b z t r p h =
+    p .1 ∙ export-stays (now s) t (now b) (ap accepted (sym (told-injective r (exportAnswer (now s) t (length (now b))) (p .0))) ∙ h)
+
+-- an image s, exported for t threads into a buffer that held b and now holds z; the image u that stands there, imported into a buffer that held c and now holds w
+pub exported-imported :
+    (κs : Lfts 2) (s b z : RefT (List ℕ)) (t : ℕ) (r : Answer) (λs : Lfts 2) (u c w : RefT (List ℕ)) (q : Answer) →
+    Bytes (now s) → accepted r ≡ true → length (now s) ≤ length (now c) →
+    exporting.Post κs (s, (t, (b, tt))) r (s, (t, (z, tt))) → now u ≡ take (7 + t * 4 + at1 (now s) 5 * 9) (now z) →
+    importing.Post λs (u, (c, tt)) q (u, (w, tt)) →
+    (q ≡ Taken) × (now w ≡ now s ++ drop (length (now s)) (now c))
+exported-imported κs s b z t r λs u c w q bytes taken room p e p′ =
+    let is = told-injective r (exportAnswer (now s) t (length (now b))) (p .0) in
+    let o = export-import (now s) bytes t (now b) (now c) (ap accepted (sym is) ∙ taken) room in
+    let f = e ∙ ap (take (7 + t * 4 + at1 (now s) 5 * 9)) (p .1) in (
+      told-injective q (importAnswer (now u) (length (now c))) (p′ .0) ∙ ap (λ (l : List ℕ). importAnswer l (length (now c))) f ∙ o .0,
+      p′ .1 ∙ ap (λ (l : List ℕ). imported l (now c)) f ∙ o .1,
+    )

@@ -9,23 +9,27 @@ use Rattle.lists.specs.Tab.{over}
 use Rattle.answer.specs.Answers.{check, accepted}
 use Rattle.answer.specs.declared.Answer.{Answer}
 use Rattle.answer.specs.declared.Answer.the-variants.{Taken, Length, Mark, Room}
-use Rattle.image.specs.Bytes.{at1}
-use Rattle.image.specs.Layout.{inForm, formIn, nodePlace, imageIn, imageBytes}
-use Rattle.image.specs.Refusals.{fitting, imageAnswer}
+use Rattle.image.specs.Form.{imageSize}
+use Rattle.image.specs.Layout.{inForm, imageShape, formIn, imageIn, imageBytes}
+use Rattle.image.specs.Refusals.{fitting, aloneAnswer}
 
 -- the image that the bytes hold, as bytes in form f: the same contents
 unfoldable pub bytesIn : ℕ → List ℕ → List ℕ
 bytesIn f s = imageBytes (inForm f (imageIn s))
 
--- an image in form f to be written in form f′ into a lent buffer of `room` bytes. Fewer than 10 bytes are 1, another form is 2; then an image's own
+-- and how many they are
+abbrev pub sizeIn : ℕ → List ℕ → ℕ
+sizeIn f s = imageSize (imageShape (inForm f (imageIn s)))
+
+-- an image in form f to be written in form f′ into a lent buffer of `room` bytes. Fewer than 10 bytes are 1, another form, "UQP" too, is 2; then an image's own
 -- refusals, 3, 1, 6, 7, 8; then 20, which "stands after 8 and before 17"; 17 goes by the form that is written
 unfoldable pub convertAnswer : ℕ → ℕ → List ℕ → ℕ → Answer
 convertAnswer f f′ s room =
     check (ltb (length s) 10) Length
     (check (not (eqb (formIn s) f)) Mark
-    (pick (accepted (imageAnswer 0 s))
-    (fitting (inForm f′ (imageIn s)) (check (ltb room (nodePlace f′ (at1 s 5))) Room Taken))
-    (imageAnswer 0 s)))
+    (pick (accepted (aloneAnswer s))
+    (fitting (inForm f′ (imageIn s)) (check (ltb room (sizeIn f′ s)) Room Taken))
+    (aloneAnswer s)))
 
 -- what the lent buffer holds then: the image in its first bytes, the rest as it was; or all as it was
 unfoldable pub converted : ℕ → ℕ → List ℕ → List ℕ → List ℕ

@@ -9,20 +9,20 @@ use lib.ListN.{length}
 use lib.Dec.{eqb, ltb, leb}
 use Rattle.lists.specs.Find.{pick}
 use Rattle.lists.specs.Tab.{over}
-use Rattle.image.specs.Form.{known, topOf}
+use Rattle.image.specs.Form.{topOf}
 use Rattle.spelling.specs.declared.Act.{Act}
 use Rattle.spelling.specs.declared.Survey.{Survey}
 use Rattle.spelling.specs.declared.Said.{Said}
 use Rattle.spelling.specs.declared.Said.the-variants.{Taken, Strange, Large, Many, Room}
 use Rattle.spelling.specs.Lines.{actsOf}
-use Rattle.spelling.specs.Layout.{sizeOf, eventsPlace}
+use Rattle.spelling.specs.Layout.{worded, sizeOf, eventsPlace}
 use Rattle.spelling.specs.Reading.{noSurvey, faulted, withNodes, withThreads, withHead, withNode, withForm, withEvents, versionForm, indexSaid, nodesSaid, versionSaid, eventsSaid, behindNodes, surveyed, surveyFrom, surveyOf, lastFrom, blankFile, putAll, fileOf, tells, isTaken, readAnswer, readBytes, readWritten}
 use Rattle.wordreader.proofs.PutLaws as puts
 
--- ---- the form stays known, N and the event count stay within their bounds
+-- ---- the form stays one that has words, N and the event count stay within their bounds
 
 abbrev pub Within : Survey → Type 0
-Within v = (known (v .form) ≡ true) × (v .n ≤ 255) × (v .count ≤ 65535)
+Within v = (worded (v .form) ≡ true) × (v .n ≤ 255) × (v .count ≤ 65535)
 
 either : (b : Bool) (x y : Survey) → Within x → Within y → Within (pick b x y)
 either true x y p q = p
@@ -44,9 +44,9 @@ events-within i v x w = by (leb (v .count + x) 65535) refl
     by true e = (w .0, w .1, leb-true (v .count + x) 65535 e)
     by false e = w
 
--- a version that is known names a form that is
+-- a version that words may say names a form that has words
 version-within : (i : ℕ) (v : Survey) (x : ℕ) → Within v → Within (versionSaid i v x)
-unfolding versionSaid versionForm known
+unfolding versionSaid versionForm worded
 version-within i v x w = either (v .settled) (faulted v 1 i) _ w (by (eqb x 1) (eqb x 2))
   where
     by : (a b : Bool) → Within (pick (eqb (pick a 1 (pick b 2 0)) 0) (faulted v 1 i) (withForm v (pick a 1 (pick b 2 0))))
@@ -79,7 +79,7 @@ from-within i v [] w = w
 from-within i v (a ∷ l) w = from-within (suc i) (surveyed i v a) l (surveyed-within i v a w)
 
 pub survey-within : (t : List ℕ) → Within (surveyOf t)
-unfolding surveyOf known
+unfolding surveyOf worded
 survey-within t = from-within 0 noSurvey (actsOf t) (refl, omega arith, omega arith)
 
 -- ---- the answer
@@ -144,7 +144,7 @@ module _ (t b : List ℕ) where
       none-written : isTaken (readAnswer t (length b)) ≡ false → b ≡ readWritten t b
       none-written h = sym (written-none t b h)
 
-  pub gives-some : (v : Survey) (m x : List ℕ) → v ≡ surveyOf t → known (v .form) ≡ true → readAnswer t (length b) ≡ Taken → sizeOf v ≤ length b
+  pub gives-some : (v : Survey) (m x : List ℕ) → v ≡ surveyOf t → worded (v .form) ≡ true → readAnswer t (length b) ≡ Taken → sizeOf v ≤ length b
       → x ≡ over b 0 (blankFile v) → m ≡ putAll (v .form) (sizeOf v) x (eventsPlace v) (actsOf t) → Gives Taken (sizeOf v) m
   gives-some v m x e f h l p q = (
     ap tells (sym h),

@@ -10,11 +10,12 @@ use lib.ListN.{length}
 use Rattle.lists.specs.Tab.{over}
 use Rattle.answer.specs.Answers.{told, accepted}
 use Rattle.answer.specs.declared.Answer.{Answer}
-use Rattle.answer.specs.declared.Answer.the-variants.{Taken, NoEnding, Room}
+use Rattle.answer.specs.declared.Answer.the-variants.{Taken, Mark, NoEnding, Room}
+use Rattle.image.specs.Form.{perDesk}
 use Rattle.schedule.specs.Layout.{scheduleAnswer}
 use Rattle.page.specs.Filled.{linesOn, fitting}
 use Rattle.printing.proofs.Fittings as fits
-use Rattle.spelling.specs.Writing.{entryOf, entriesIn, spellAnswer, spellTaken, spellBytes, spellWritten}
+use Rattle.spelling.specs.Writing.{imageForm, entryOf, entriesIn, spellAnswer, spellTaken, spellBytes, spellWritten}
 
 module _ (s : List ℕ) (k : ℕ) (b : List ℕ) where
   abbrev pub Gives : Answer → ℕ → ℕ → List ℕ → Type 0
@@ -28,17 +29,23 @@ module _ (s : List ℕ) (k : ℕ) (b : List ℕ) where
   unfolding spellAnswer
   refused h = rw (h, spellAnswer) refl
 
-  pub beyond : accepted (scheduleAnswer s) ≡ true → entriesIn s ≤ k → spellAnswer s k (length b) ≡ NoEnding
-  unfolding spellAnswer
-  beyond h p = rw (h, spellAnswer) (rw (le-ltb k (entriesIn s) p) refl)
+  pub no-words : accepted (scheduleAnswer s) ≡ true → imageForm s ≡ 4 → spellAnswer s k (length b) ≡ Mark
+  unfolding spellAnswer perDesk
+  no-words h f = rw (h, spellAnswer) (rw f refl)
 
-  pub no-room : accepted (scheduleAnswer s) ≡ true → k < entriesIn s → length b < length (entryOf s k) → spellAnswer s k (length b) ≡ Room
-  unfolding spellAnswer
-  no-room h p q = rw (h, spellAnswer) (rw (lt-ltb k (entriesIn s) p, lt-ltb (length b) (length (entryOf s k)) q) refl)
+  -- where there are words
+  module _ (h : accepted (scheduleAnswer s) ≡ true) (w : perDesk (imageForm s) ≡ false) where
+    pub beyond : entriesIn s ≤ k → spellAnswer s k (length b) ≡ NoEnding
+    unfolding spellAnswer
+    beyond p = rw (h, spellAnswer) (rw (w, le-ltb k (entriesIn s) p) refl)
 
-  pub some : accepted (scheduleAnswer s) ≡ true → k < entriesIn s → length (entryOf s k) ≤ length b → spellAnswer s k (length b) ≡ Taken
-  unfolding spellAnswer
-  some h p q = rw (h, spellAnswer) (rw (lt-ltb k (entriesIn s) p, le-ltb (length b) (length (entryOf s k)) q) refl)
+    pub no-room : k < entriesIn s → length b < length (entryOf s k) → spellAnswer s k (length b) ≡ Room
+    unfolding spellAnswer
+    no-room p q = rw (h, spellAnswer) (rw (w, lt-ltb k (entriesIn s) p, lt-ltb (length b) (length (entryOf s k)) q) refl)
+
+    pub some : k < entriesIn s → length (entryOf s k) ≤ length b → spellAnswer s k (length b) ≡ Taken
+    unfolding spellAnswer
+    some p q = rw (h, spellAnswer) (rw (w, lt-ltb k (entriesIn s) p, le-ltb (length b) (length (entryOf s k)) q) refl)
 
   -- ---- what is written
 

@@ -27,8 +27,9 @@ fn no_entries(a: Answer) -> Spelled
     }
 }
 
-// As many entries of the words of a schedule as fit into the lent buffer, from entry k on; the bytes behind them stay. 16 where there is no
-// entry k, 17 where not even that one fits, which a buffer of 64 bytes never meets. On a refusal nothing is written.
+// As many entries of the words of a schedule as fit into the lent buffer, from entry k on; the bytes behind them stay. 2 where the image is "UQP",
+// which has no words; 16 where there is no entry k, 17 where not even that one fits, which a buffer of 64 bytes never meets. On a refusal nothing
+// is written.
 pub fn spell_lines(s: &[u8], k: u64, b: &mut [u8]) -> Spelled
     ensures answers { λ r. ⌜ told (r .answer) ≡ told (spellAnswer (now (s .entry)) k (length (now (b .entry)))) ⌝ }
     ensures entries { λ r. ⌜ r .entries ≡ spellTaken (now (s .entry)) k (length (now (b .entry))) ⌝ }
@@ -42,6 +43,9 @@ pub fn spell_lines(s: &[u8], k: u64, b: &mut [u8]) -> Spelled
     }
     let d = o.schedule;
     let g = d.image;
+    if g.form == 4 {
+        return no_entries(Answer::Mark);
+    }
     let to = 3 + (g.n as usize) + (d.count as usize);
     if (to as u64) <= k {
         return no_entries(Answer::NoEnding);

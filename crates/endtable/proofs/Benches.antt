@@ -12,7 +12,9 @@ use Rattle.lists.proofs.TabLaws as tabs
 use Rattle.answer.specs.Answers.{accepted}
 use Rattle.answer.specs.declared.Answer.the-variants.{Taken}
 use Rattle.image.specs.declared.Content.{Content}
-use Rattle.machine.specs.Line.{lineCount, lineAt, cachedAt}
+use Rattle.image.specs.Form.{headLines}
+use Rattle.image.specs.declared.Shape.{Shape}
+use Rattle.machine.specs.Line.{shapeOf, lineCount, lineAt, cachedAt}
 use Rattle.machine.specs.Start.{startWith}
 use Rattle.machine.specs.Event.{Deed, crashes, deedOf, done, eventAt}
 use Rattle.machine.specs.declared.Machine.{Machine}
@@ -30,12 +32,12 @@ use Rattle.endtable.proofs.TableLaws as tables
 
 -- ---- what the code holds
 
-pub stands-begin : (m : Machine) → m .n ≤ 64 → Stands (begins m) m (openedTable m (lineCount (m .n))) (openedCounts m (lineCount (m .n)))
-stands-begin m h = record { machine = refl; small = h; timed = moments.timed-begins m; tables = tables.tables-begin m h }
+pub stands-begin : (m : Machine) → m .n ≤ 64 → headLines (shapeOf m) ≤ 8 → Stands (begins m) m (openedTable m (lineCount (shapeOf m))) (openedCounts m (lineCount (shapeOf m)))
+stands-begin m h few = record { machine = refl; small = h; few = few; timed = moments.timed-begins m; tables = tables.tables-begin m h few }
 
 -- the machine is the bench's own
 pub stands-now : (b : Bench) (m : Machine) (t : List (List Content)) (cs : List ℕ) → Stands b m t cs → Stands b (b .machine) t cs
-stands-now b m t cs h = record { machine = refl; small = h .small; timed = h .timed; tables = h .tables }
+stands-now b m t cs h = record { machine = refl; small = h .small; few = h .few; timed = h .timed; tables = h .tables }
 
 module _ (p : ℕ) (b : Bench) (e : Event) (t : List (List Content)) (cs : List ℕ) (h : Stands b (b .machine) t cs) (taken : accepted (eventAt p (b .machine) e .answer) ≡ true) where
   abbrev m′ : Machine
@@ -43,34 +45,42 @@ module _ (p : ℕ) (b : Bench) (e : Event) (t : List (List Content)) (cs : List 
 
   -- the row that it changes
   abbrev w′ : Touched
-  w′ = touchedRow (m′ .n) (eventAt p (b .machine) e .touch)
+  w′ = touchedRow (shapeOf m′) (eventAt p (b .machine) e .touch)
 
   -- an event that is no crash
   pub stands-event : Even (b .machine) → (deedOf (e .kind) ≡ crashes → ⊥)
       → Stands (forward p b e) (eventAt p (b .machine) e .machine)
-      (tableAfter t cs w′ (cachedAt m′ (lineAt (m′ .n) (w′ .line)))) (countsAfter t cs w′ (cachedAt m′ (lineAt (m′ .n) (w′ .line))))
+      (tableAfter t cs w′ (cachedAt m′ (lineAt (shapeOf m′) (w′ .line)))) (countsAfter t cs w′ (cachedAt m′ (lineAt (shapeOf m′) (w′ .line))))
   stands-event k ne = record {
     machine = same;
-    small = subst (λ (x : Machine). x .n ≤ 64) same (omega (arith, events.frame-event p (b .machine) e k taken ne .size, h .small));
+    small = subst (λ (x : Machine). x .n ≤ 64) same (subst (λ (z : Shape). z .n ≤ 64) (sym shape) (h .small));
+    few = subst (λ (x : Machine). headLines (shapeOf x) ≤ 8) same (subst (λ (z : Shape). headLines z ≤ 8) (sym shape) (h .few));
     timed = tables.timed-event p b e taken ne (h .timed);
-    tables = tables.tables-event p b e taken ne (h .timed) (h .small) k t cs (h .tables);
+    tables = tables.tables-event p b e taken ne (h .timed) (h .small) (h .few) k t cs (h .tables);
   }
     where
+      shape : shapeOf m′ ≡ shapeOf (b .machine)
+      shape = events.frame-event p (b .machine) e k taken ne .shape
+
       same : m′ ≡ forward p b e .machine
       same = sym (ap (λ (x : Bench). x .machine) (events.turned-on p b e taken ne))
 
   -- a crash
-  crash-size : deedOf (e .kind) ≡ crashes → m′ .n ≡ b .machine .n
+  crash-shape : deedOf (e .kind) ≡ crashes → shapeOf m′ ≡ shapeOf (b .machine)
   unfolding startWith
-  crash-size q = ap (λ o. o .machine .n) (events.event-done p (b .machine) e taken) ∙ ap (λ (d : Deed). done (b .machine) e d .machine .n) q
+  crash-shape q = ap (λ o. shapeOf (o .machine)) (events.event-done p (b .machine) e taken) ∙ ap (λ (d : Deed). shapeOf (done (b .machine) e d .machine)) q
+
+  crash-small : deedOf (e .kind) ≡ crashes → (m′ .n ≤ 64) × (headLines (shapeOf m′) ≤ 8)
+  crash-small q = (subst (λ (z : Shape). z .n ≤ 64) (sym (crash-shape q)) (h .small), subst (λ (z : Shape). headLines z ≤ 8) (sym (crash-shape q)) (h .few))
 
   pub stands-crash : deedOf (e .kind) ≡ crashes
-      → Stands (forward p b e) (eventAt p (b .machine) e .machine) (openedTable m′ (lineCount (m′ .n))) (openedCounts m′ (lineCount (m′ .n)))
+      → Stands (forward p b e) (eventAt p (b .machine) e .machine) (openedTable m′ (lineCount (shapeOf m′))) (openedCounts m′ (lineCount (shapeOf m′)))
   stands-crash q = record {
     machine = rw q;
-    small = rw q (omega (arith, crash-size q, h .small));
+    small = rw q (crash-small q .0);
+    few = rw q (crash-small q .1);
     timed = tables.timed-crash b (eventAt p (b .machine) e) e q;
-    tables = tables.tables-crash b (eventAt p (b .machine) e) e q (omega (arith, crash-size q, h .small));
+    tables = tables.tables-crash b (eventAt p (b .machine) e) e q (crash-small q .0) (crash-small q .1);
   }
 
 -- ---- the run

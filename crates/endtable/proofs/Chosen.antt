@@ -8,7 +8,9 @@ use lib.ListN.{length, getD, take, drop, List·getD-append}
 use lib.Seq.{getD-at, take-suc, take-all}
 use Rattle.lists.specs.Tab.{tab}
 use Rattle.lists.proofs.TabLaws as tabs
-use Rattle.image.specs.Layout.{noContent, noContents, contentAt, headLines}
+use Rattle.image.specs.Layout.{noContent, noContents, contentAt}
+use Rattle.image.specs.Form.{headLines, ownThreads}
+use Rattle.image.specs.declared.Shape.{Shape}
 use Rattle.image.specs.declared.Content.{Content}
 use Rattle.image.specs.declared.Image.{Image}
 use Rattle.machine.specs.Line.{lineCount}
@@ -82,8 +84,8 @@ pub record Fits (lists : List (List Content)) : Type 0 where
   pub some : (l : ℕ) → l < length lists → 0 < length (getD lists l [])
   pub few : (l : ℕ) → l < length lists → length (getD lists l []) ≤ 16
 
-abbrev made : ℕ → List ℕ → List Content → Image
-made n x y = record { form = 1; n = n; heads = x; nodes = y }
+abbrev made : Shape → List ℕ → List Content → Image
+made z x y = record { form = z .form; n = z .n; t = ownThreads z; heads = x; nodes = y }
 
 module _ (t : List (List Content)) (cs : List ℕ) (lists : List (List Content)) (h : Tables t cs lists) where
   -- then the counts are the lengths, and the endings can be picked
@@ -103,16 +105,16 @@ module _ (t : List (List Content)) (cs : List ℕ) (lists : List (List Content))
       ap (contentAt (getD t l [])) (List·getD-append (digits cs (length lists) k) rest 0 l (omega (arith, digits.length-digits cs (length lists) k)))
       ∙ h .held l p .same d (omega (arith, ready f .1 l p)) (omega (arith, lengths f l p))
 
-  pub ending-is : (n k : ℕ) → length lists ≡ lineCount n → Fits lists → k < product lists → endingFrom t cs n k ≡ ending n lists k
+  pub ending-is : (z : Shape) (k : ℕ) → length lists ≡ lineCount z → Fits lists → k < product lists → endingFrom t cs z k ≡ ending z lists k
   unfolding endingFrom picksOf pickedImage ending imageOf
-  ending-is n k e f p =
-      ap₂ (made n) (heads-same n (λ j. pickedAt t ps j .index) (λ j. contentAt (getD (choices lists) k []) j .index) (λ j h. ap (λ (x : Content). x .index) (at j (omega arith))))
-      (tabs.front-same (pickedNode t ps n) (λ i. contentAt (getD (choices lists) k []) (headLines n + i)) n noContents (λ i q. at (headLines n + i) (omega arith)))
+  ending-is z k e f p =
+      ap₂ (made z) (heads-same z (λ j. pickedAt t ps j .index) (λ j. contentAt (getD (choices lists) k []) j .index) (λ j h. ap (λ (x : Content). x .index) (at j (omega arith))))
+      (tabs.front-same (pickedNode t ps z) (λ i. contentAt (getD (choices lists) k []) (headLines z + i)) (z .n) noContents (λ i q. at (headLines z + i) (omega arith)))
     where
       ps : List ℕ
-      ps = digits cs (lineCount n) k ++ drop (lineCount n) blankCounts
+      ps = digits cs (lineCount z) k ++ drop (lineCount z) blankCounts
 
-      at : (l : ℕ) → l < lineCount n → pickedAt t ps l ≡ contentAt (getD (choices lists) k []) l
+      at : (l : ℕ) → l < lineCount z → pickedAt t ps l ≡ contentAt (getD (choices lists) k []) l
       at l q =
           ap (λ (x : ℕ). pickedAt t (digits cs x k ++ drop x blankCounts) l) (sym e)
           ∙ picked-table f k (drop (length lists) blankCounts) l (omega arith)

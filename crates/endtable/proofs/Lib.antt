@@ -2,6 +2,7 @@ pub mod Digits
 pub mod Turns
 pub mod RowLaws
 pub mod TouchedLaws
+pub mod OwnLaws
 pub mod Openings
 pub mod TableLaws
 pub mod Chosen

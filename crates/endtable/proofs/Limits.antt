@@ -11,7 +11,7 @@ use lib.Dec.{ltb}
 use borrow.Author.Tests.{lt-ltb, le-ltb, ltb-false}
 use Rattle.lists.proofs.FindLaws as find
 use Rattle.image.specs.declared.Content.{Content}
-use Rattle.machine.specs.Line.{lineAt, cachedAt, persistedAt}
+use Rattle.machine.specs.Line.{shapeOf, lineAt, cachedAt, persistedAt}
 use Rattle.machine.specs.declared.Line.{Line}
 use Rattle.schedule.specs.Run.{Bench}
 use Rattle.page.specs.Contents.{joins, gathered, contentsOf, tableOf}
@@ -37,7 +37,7 @@ unfolding contentsOf
 contents-some b l = omega (arith, gathered-length (persistedAt (b .machine) l ∷ []) (map (λ m. cachedAt m l) (drop (b .from l) (b .past))))
 
 pub table-some : (b : Bench) (l : ℕ) → l < length (tableOf b) → 0 < length (getD (tableOf b) l [])
-table-some b l h = rw (moments.table-at b l (omega (arith, moments.table-length b))) (contents-some b (lineAt (b .machine .n) l))
+table-some b l h = rw (moments.table-at b l (omega (arith, moments.table-length b))) (contents-some b (lineAt (shapeOf (b .machine)) l))
 
 -- ---- 14
 

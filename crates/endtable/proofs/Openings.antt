@@ -1,27 +1,29 @@
 -- One turn of each loop that fills the table, the counts or an image from the front.
-use Prim.Native.Nat.{ℕ, _+_, _-_, _<_}
-use mathlib.Core.Path.{_≡_, refl, ap, _∙_}
+use Prim.Native.Nat.{ℕ, _+_, _-_, _≤_, _<_}
+use mathlib.Core.Path.{_≡_, refl, sym, ap, _∙_}
 use mathlib.Core.List.{List, []}
-use lib.ListN.{length, getD, set}
+use lib.ListN.{length, getD, set, List·getD-eq-default}
 use native.Mathlib.Omega.{arith}
-use native.Mathlib.Nat.{pos-of-ne-zero}
 use Rattle.lists.specs.Tab.{front}
 use Rattle.lists.proofs.TabLaws as tabs
-use Rattle.image.specs.Layout.{noContents, contentAt, headLines}
+use Rattle.image.specs.Layout.{noContents, contentAt, noHeads}
+use Rattle.image.specs.Form.{headLines}
+use Rattle.image.specs.declared.Shape.{Shape}
 use Rattle.image.specs.declared.Content.{Content}
-use Rattle.machine.specs.Record.{node, kept, headAt, keptHead, contentOf}
-use Rattle.machine.specs.Line.{headContent, lineAt, cachedAt}
+use Rattle.machine.specs.Record.{zeroNode, node, kept, headAt, keptHead, contentOf}
+use Rattle.machine.specs.Line.{shapeOf, headContent, lineAt, cachedAt}
 use Rattle.machine.specs.declared.Machine.{Machine}
-use Rattle.image.proofs.HeadLaws.{one-head}
-use Rattle.machine.proofs.LineLaws.{line-zero, line-next, line-before}
+use Rattle.machine.specs.declared.Node.{Node}
+use Rattle.image.proofs.HeadLaws.{length-no-heads}
+use Rattle.machine.proofs.LineLaws.{line-head, line-node, line-behind}
 use Rattle.endtable.specs.Opened.{blankTable, blankCounts, openedRow, openedCount, lineOpened, lineCounted, openedTable, openedCounts}
-use Rattle.endtable.specs.Picks.{pickedAt, pickedNode}
+use Rattle.endtable.specs.Picks.{pickedAt, pickedHead, pickedNode}
 
-pub length-blank-table : length blankTable ≡ 65
+pub length-blank-table : length blankTable ≡ 72
 unfolding blankTable
 length-blank-table = refl
 
-pub length-blank-counts : length blankCounts ≡ 65
+pub length-blank-counts : length blankCounts ≡ 72
 unfolding blankCounts
 length-blank-counts = refl
 
@@ -30,46 +32,70 @@ unfolding noContents
 length-no-contents = refl
 
 module _ (m : Machine) where
-  pub table-first : set blankTable 0 (openedRow (headContent (keptHead m 0)) (headContent (headAt m 0))) ≡ openedTable m (0 + 1)
+  abbrev z : Shape
+  z = shapeOf m
+
+  -- a head line, then a node's
+  pub table-head : (k : ℕ) → k < headLines (shapeOf m) → headLines (shapeOf m) ≤ 8
+      → set (openedTable m k) k (openedRow (headContent (keptHead m k)) (headContent (headAt m k))) ≡ openedTable m (k + 1)
   unfolding openedTable
-  table-first =
-      let e : openedRow (headContent (keptHead m 0)) (headContent (headAt m 0)) ≡ lineOpened m 0 = rw (line-zero (m .n)) in
-      ap (set blankTable 0) e
-      ∙ ap (λ (l : List (List Content)). set l 0 (lineOpened m 0)) (tabs.front-none (lineOpened m) blankTable)
-      ∙ tabs.front-next (lineOpened m) 0 blankTable (omega (arith, length-blank-table))
+  table-head k h f =
+      let e : openedRow (headContent (keptHead m k)) (headContent (headAt m k)) ≡ lineOpened m k = rw (line-head z k h) in
+      ap (set (front (lineOpened m) k blankTable) k) e ∙ tabs.front-next (lineOpened m) k blankTable (omega (arith, length-blank-table))
 
-  pub table-next : (i : ℕ) → i < 64 → set (openedTable m (i + 1)) (i + 1) (openedRow (kept m i) (contentOf (node m i))) ≡ openedTable m (i + 1 + 1)
+  pub table-next : (lines i : ℕ) → lines ≡ headLines (shapeOf m) → i < 64 → headLines (shapeOf m) ≤ 8
+      → set (openedTable m (lines + i)) (lines + i) (openedRow (kept m i) (contentOf (node m i))) ≡ openedTable m (lines + (i + 1))
   unfolding openedTable
-  table-next i h =
-      let e : openedRow (kept m i) (contentOf (node m i)) ≡ lineOpened m (i + 1) = rw (line-next (m .n) i) in
-      ap (set (front (lineOpened m) (i + 1) blankTable) (i + 1)) e ∙ tabs.front-next (lineOpened m) (i + 1) blankTable (omega (arith, length-blank-table))
+  table-next lines i q h f =
+      let e : openedRow (kept m i) (contentOf (node m i)) ≡ lineOpened m (lines + i) = rw (q, line-node z i) in
+      ap (set (front (lineOpened m) (lines + i) blankTable) (lines + i)) e
+      ∙ tabs.front-next (lineOpened m) (lines + i) blankTable (omega (arith, length-blank-table))
+      ∙ ap (λ k. front (lineOpened m) k blankTable) (omega arith)
 
-  pub counts-first : set blankCounts 0 (openedCount (headContent (keptHead m 0)) (headContent (headAt m 0))) ≡ openedCounts m (0 + 1)
+  pub table-none : blankTable ≡ openedTable m 0
+  unfolding openedTable
+  table-none = tabs.front-none (lineOpened m) blankTable
+
+  pub counts-head : (k : ℕ) → k < headLines (shapeOf m) → headLines (shapeOf m) ≤ 8
+      → set (openedCounts m k) k (openedCount (headContent (keptHead m k)) (headContent (headAt m k))) ≡ openedCounts m (k + 1)
   unfolding openedCounts
-  counts-first =
-      let e : openedCount (headContent (keptHead m 0)) (headContent (headAt m 0)) ≡ lineCounted m 0 = rw (line-zero (m .n)) in
-      ap (set blankCounts 0) e
-      ∙ ap (λ (l : List ℕ). set l 0 (lineCounted m 0)) (tabs.front-none (lineCounted m) blankCounts)
-      ∙ tabs.front-next (lineCounted m) 0 blankCounts (omega (arith, length-blank-counts))
+  counts-head k h f =
+      let e : openedCount (headContent (keptHead m k)) (headContent (headAt m k)) ≡ lineCounted m k = rw (line-head z k h) in
+      ap (set (front (lineCounted m) k blankCounts) k) e ∙ tabs.front-next (lineCounted m) k blankCounts (omega (arith, length-blank-counts))
 
-  pub counts-next : (i : ℕ) → i < 64 → set (openedCounts m (i + 1)) (i + 1) (openedCount (kept m i) (contentOf (node m i))) ≡ openedCounts m (i + 1 + 1)
+  pub counts-next : (lines i : ℕ) → lines ≡ headLines (shapeOf m) → i < 64 → headLines (shapeOf m) ≤ 8
+      → set (openedCounts m (lines + i)) (lines + i) (openedCount (kept m i) (contentOf (node m i))) ≡ openedCounts m (lines + (i + 1))
   unfolding openedCounts
-  counts-next i h =
-      let e : openedCount (kept m i) (contentOf (node m i)) ≡ lineCounted m (i + 1) = rw (line-next (m .n) i) in
-      ap (set (front (lineCounted m) (i + 1) blankCounts) (i + 1)) e ∙ tabs.front-next (lineCounted m) (i + 1) blankCounts (omega (arith, length-blank-counts))
+  counts-next lines i q h f =
+      let e : openedCount (kept m i) (contentOf (node m i)) ≡ lineCounted m (lines + i) = rw (q, line-node z i) in
+      ap (set (front (lineCounted m) (lines + i) blankCounts) (lines + i)) e
+      ∙ tabs.front-next (lineCounted m) (lines + i) blankCounts (omega (arith, length-blank-counts))
+      ∙ ap (λ k. front (lineCounted m) k blankCounts) (omega arith)
 
--- one node more of the picked image
-pub picked-next : (t : List (List Content)) (ps : List ℕ) (n i : ℕ) → i < 64
-    → set (front (pickedNode t ps n) i noContents) i (contentAt (getD t (i + 1) []) (getD ps (i + 1) 0)) ≡ front (pickedNode t ps n) (i + 1) noContents
+  pub counts-none : blankCounts ≡ openedCounts m 0
+  unfolding openedCounts
+  counts-none = tabs.front-none (lineCounted m) blankCounts
+
+-- one node more of the picked image, one head line more
+pub picked-next : (t : List (List Content)) (ps : List ℕ) (z : Shape) (lines i : ℕ) → lines ≡ headLines z → i < 64
+    → set (front (pickedNode t ps z) i noContents) i (contentAt (getD t (lines + i) []) (getD ps (lines + i) 0)) ≡ front (pickedNode t ps z) (i + 1) noContents
 unfolding pickedAt
-picked-next t ps n i h =
-    let z : i + 1 ≡ headLines n + i = omega (arith, one-head n) in
-    ap (set (front (pickedNode t ps n) i noContents) i) (ap (λ l. contentAt (getD t l []) (getD ps l 0)) z)
-    ∙ tabs.front-next (pickedNode t ps n) i noContents (omega (arith, length-no-contents))
+picked-next t ps z lines i q h =
+    ap (set (front (pickedNode t ps z) i noContents) i) (ap (λ l. contentAt (getD t (l + i) []) (getD ps (l + i) 0)) q)
+    ∙ tabs.front-next (pickedNode t ps z) i noContents (omega (arith, length-no-contents))
+
+pub picked-head : (t : List (List Content)) (ps : List ℕ) (k : ℕ) → k < 8
+    → set (front (pickedHead t ps) k noHeads) k (contentAt (getD t k []) (getD ps k 0) .index) ≡ front (pickedHead t ps) (k + 1) noHeads
+unfolding pickedAt
+picked-head t ps k h = tabs.front-next (pickedHead t ps) k noHeads (omega (arith, length-no-heads))
 
 -- a line by its number
-pub cached-head : (m : Machine) (l : ℕ) → l ≡ 0 → headContent (headAt m 0) ≡ cachedAt m (lineAt (m .n) l)
-cached-head m l e = rw (e, line-zero (m .n))
+pub cached-head : (m : Machine) (l : ℕ) → l < headLines (shapeOf m) → headContent (headAt m l) ≡ cachedAt m (lineAt (shapeOf m) l)
+cached-head m l h = rw (line-head (shapeOf m) l h)
 
-pub cached-node : (m : Machine) (l : ℕ) → (l ≡ 0 → ⊥) → contentOf (node m (l - 1)) ≡ cachedAt m (lineAt (m .n) l)
-cached-node m l ne = rw (line-before (m .n) l (pos-of-ne-zero ne))
+pub cached-node : (m : Machine) (l : ℕ) → headLines (shapeOf m) ≤ l → contentOf (node m (l - headLines (shapeOf m))) ≡ cachedAt m (lineAt (shapeOf m) l)
+cached-node m l h = rw (line-behind (shapeOf m) l h)
+
+-- beyond the nodes the line is blank
+pub held-none : (l : List Node) (i : ℕ) → length l ≤ i → headContent 0 ≡ contentOf (getD l i zeroNode)
+held-none l i h = sym (ap contentOf (List·getD-eq-default l zeroNode {n = i} h))

@@ -10,7 +10,7 @@ use borrow.Author.Tests.{ltb-false}
 use Rattle.answer.specs.Answers.{check, accepted}
 use Rattle.answer.specs.declared.Answer.the-variants.{Taken, Contents, Endings}
 use Rattle.image.specs.declared.Content.{Content}
-use Rattle.machine.specs.Line.{lineCount}
+use Rattle.machine.specs.Line.{shapeOf, lineCount}
 use Rattle.schedule.specs.Run.{Bench}
 use Rattle.page.specs.Contents.{tableOf}
 use Rattle.page.specs.Endings.{product, ending}
@@ -30,14 +30,14 @@ passed false true l e = absurd (let z : _≡_ {A = ℕ} 0 1 = cc in omega arith)
 passed false false l e = (refl, refl)
 
 module _ (b : Bench) (t : List (List Content)) (cs : List ℕ) (h : Tables t cs (tableOf b)) where
-  size : length (tableOf b) ≡ lineCount (b .machine .n)
+  size : length (tableOf b) ≡ lineCount (shapeOf (b .machine))
   size = moments.table-length b
 
-  pub bench-counted : Counted cs (lineCount (b .machine .n))
+  pub bench-counted : Counted cs (lineCount (shapeOf (b .machine)))
   bench-counted = subst (Counted cs) size (limits.counted t cs (tableOf b) h (limits.table-some b))
 
   -- 14 and 15
-  pub bench-answer : countsAnswer cs (lineCount (b .machine .n)) ≡ tableAnswer (tableOf b)
+  pub bench-answer : countsAnswer cs (lineCount (shapeOf (b .machine))) ≡ tableAnswer (tableOf b)
   bench-answer = ap (countsAnswer cs) (sym size) ∙ limits.answer-is t cs (tableOf b) h (limits.table-some b)
 
   module _ (taken : accepted (tableAnswer (tableOf b)) ≡ true) where
@@ -51,21 +51,21 @@ module _ (b : Bench) (t : List (List Content)) (cs : List ℕ) (h : Tables t cs 
         (omega (arith, limits.crowded-is t cs (tableOf b) h, ltb-false (firstCrowded (tableOf b)) (length (tableOf b)) (tests .0)))
 
     -- what picking an ending asks
-    pub bench-ready : Ready cs (lineCount (b .machine .n))
+    pub bench-ready : Ready cs (lineCount (shapeOf (b .machine)))
     bench-ready = subst (Ready cs) size (chosen.ready t cs (tableOf b) h bench-fits)
 
     -- the picks are within the rows
-    pub bench-filled : (k : ℕ) → Filled (picksOf cs (b .machine .n) k) (lineCount (b .machine .n))
+    pub bench-filled : (k : ℕ) → Filled (picksOf cs (shapeOf (b .machine)) k) (lineCount (shapeOf (b .machine)))
     unfolding picksOf
-    bench-filled k = digits.digits-front cs (lineCount (b .machine .n)) k (drop (lineCount (b .machine .n)) blankCounts) bench-ready
+    bench-filled k = digits.digits-front cs (lineCount (shapeOf (b .machine))) k (drop (lineCount (shapeOf (b .machine))) blankCounts) bench-ready
 
     -- the count is that of the endings
-    pub bench-count : capped (prod cs (lineCount (b .machine .n))) ≡ product (tableOf b)
+    pub bench-count : capped (prod cs (lineCount (shapeOf (b .machine)))) ≡ product (tableOf b)
     bench-count =
         ap (λ (n : ℕ). capped (prod cs n)) (sym size)
         ∙ ap capped (limits.prod-is t cs (tableOf b) h bench-fits)
         ∙ digits.capped-below (product (tableOf b)) (tests .1)
 
     -- ending k is ending k
-    pub bench-ending : (k : ℕ) → k < product (tableOf b) → endingFrom t cs (b .machine .n) k ≡ ending (b .machine .n) (tableOf b) k
-    bench-ending k p = chosen.ending-is t cs (tableOf b) h (b .machine .n) k size bench-fits p
+    pub bench-ending : (k : ℕ) → k < product (tableOf b) → endingFrom t cs (shapeOf (b .machine)) k ≡ ending (shapeOf (b .machine)) (tableOf b) k
+    bench-ending k p = chosen.ending-is t cs (tableOf b) h (shapeOf (b .machine)) k size bench-fits p

@@ -9,6 +9,7 @@ use native.Mathlib.Numerals.{add-one}
 use borrow.Author.Tests.{lt-ltb, le-ltb}
 use lib.ListN.{getD, set, drop}
 use lib.Seq.{getD-at, set-at}
+use Rattle.image.specs.declared.Shape.{Shape}
 use Rattle.machine.specs.Line.{lineCount}
 use Rattle.endtable.specs.Opened.{blankCounts}
 use Rattle.endtable.specs.Picks.{digits, picksOf, turnedOf, Counted}
@@ -108,8 +109,8 @@ turn-digits cs (suc n) k rest p =
     (λ r. turn-digits cs n (k / getD cs n 0) r (λ l h. p l (omega arith)))
 
 -- from the choices of ending k to those of ending k + 1
-pub turn-picks : (cs : List ℕ) (n k : ℕ) → Counted cs (lineCount n) → turnedOf cs (lineCount n) (picksOf cs n k) ≡ picksOf cs n (k + 1)
+pub turn-picks : (cs : List ℕ) (z : Shape) (k : ℕ) → Counted cs (lineCount z) → turnedOf cs (lineCount z) (picksOf cs z k) ≡ picksOf cs z (k + 1)
 unfolding picksOf
-turn-picks cs n k p =
-    turn-digits cs (lineCount n) k (drop (lineCount n) blankCounts) p
-    ∙ ap (λ x. digits cs (lineCount n) x ++ drop (lineCount n) blankCounts) (sym (add-one k))
+turn-picks cs z k p =
+    turn-digits cs (lineCount z) k (drop (lineCount z) blankCounts) p
+    ∙ ap (λ x. digits cs (lineCount z) x ++ drop (lineCount z) blankCounts) (sym (add-one k))

@@ -3,6 +3,8 @@ use Prim.Native.Nat.{ℕ, _≤_}
 use mathlib.Core.Path.{_≡_}
 use mathlib.Core.List.{List}
 use Rattle.image.specs.declared.Content.{Content}
+use Rattle.image.specs.Form.{headLines}
+use Rattle.machine.specs.Line.{shapeOf}
 use Rattle.machine.specs.declared.Machine.{Machine}
 use Rattle.schedule.specs.Run.{Bench}
 use Rattle.page.specs.Contents.{tableOf}
@@ -13,5 +15,6 @@ use Rattle.moments.specs.Moments.{Timed}
 pub record Stands (b : Bench) (m : Machine) (t : List (List Content)) (cs : List ℕ) : Type 0 where
   pub machine : m ≡ b .machine
   pub small : b .machine .n ≤ 64
+  pub few : headLines (shapeOf (b .machine)) ≤ 8
   pub timed : Timed b
   pub tables : Tables t cs (tableOf b)

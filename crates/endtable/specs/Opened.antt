@@ -6,14 +6,14 @@ use Rattle.lists.specs.Find.{pick}
 use Rattle.lists.specs.Tab.{front}
 use Rattle.image.specs.Layout.{noContent, sameContent}
 use Rattle.image.specs.declared.Content.{Content}
-use Rattle.machine.specs.Line.{lineAt, cachedAt, persistedAt}
+use Rattle.machine.specs.Line.{shapeOf, lineAt, cachedAt, persistedAt}
 use Rattle.machine.specs.declared.Machine.{Machine}
 
 unfoldable pub blankTable : List (List Content)
-blankTable = replicate 65 (replicate 16 noContent)
+blankTable = replicate 72 (replicate 16 noContent)
 
 unfoldable pub blankCounts : List ℕ
-blankCounts = replicate 65 0
+blankCounts = replicate 72 0
 
 unfoldable pub openedRow : Content → Content → List Content
 openedRow p c = p ∷ c ∷ replicate 14 noContent
@@ -23,10 +23,10 @@ unfoldable pub openedCount : Content → Content → ℕ
 openedCount p c = pick (sameContent p c) 1 2
 
 abbrev pub lineOpened : Machine → ℕ → List Content
-lineOpened m l = let L = lineAt (m .n) l in openedRow (persistedAt m L) (cachedAt m L)
+lineOpened m l = let L = lineAt (shapeOf m) l in openedRow (persistedAt m L) (cachedAt m L)
 
 abbrev pub lineCounted : Machine → ℕ → ℕ
-lineCounted m l = let L = lineAt (m .n) l in openedCount (persistedAt m L) (cachedAt m L)
+lineCounted m l = let L = lineAt (shapeOf m) l in openedCount (persistedAt m L) (cachedAt m L)
 
 -- the first k lines opened
 unfoldable pub openedTable : Machine → ℕ → List (List Content)

@@ -12,8 +12,10 @@ use Rattle.answer.specs.declared.Answer.the-variants.{Taken, Contents, Endings}
 use Rattle.image.specs.Layout.{contentAt, noContents, headsOf}
 use Rattle.image.specs.declared.Content.{Content}
 use Rattle.image.specs.declared.Image.{Image}
+use Rattle.image.specs.declared.Shape.{Shape}
+use Rattle.image.specs.Form.{ownThreads}
 use Rattle.machine.specs.Line.{lineCount, numberOf}
-use Rattle.machine.specs.declared.Line.the-variants.{OfHead as ofHead, OfNode as ofNode}
+use Rattle.machine.specs.declared.Line.the-variants.{OfNode as ofNode}
 use Rattle.endtable.specs.Opened.{blankCounts}
 
 -- ---- how many
@@ -68,21 +70,25 @@ turnedOf cs (suc n) ps = elim (ltb (suc (getD ps n 0)) (getD cs n 0)) [
 unfoldable pub pickedAt : List (List Content) → List ℕ → ℕ → Content
 pickedAt t ps l = contentAt (getD t l []) (getD ps l 0)
 
-abbrev pub pickedNode : List (List Content) → List ℕ → ℕ → ℕ → Content
-pickedNode t ps n i = pickedAt t ps (numberOf n (ofNode i))
+abbrev pub pickedNode : List (List Content) → List ℕ → Shape → ℕ → Content
+pickedNode t ps z i = pickedAt t ps (numberOf z (ofNode i))
 
--- one entry a line, as an image of n nodes in the first form
-unfoldable pub pickedImage : List (List Content) → List ℕ → ℕ → Image
-pickedImage t ps n = record {
-  form = 1;
-  n = n;
-  heads = headsOf n (λ k. pickedAt t ps (numberOf n (ofHead k)) .index);
-  nodes = front (pickedNode t ps n) n noContents;
+abbrev pub pickedHead : List (List Content) → List ℕ → ℕ → ℕ
+pickedHead t ps k = pickedAt t ps k .index
+
+-- one entry a line, as an image of shape z
+unfoldable pub pickedImage : List (List Content) → List ℕ → Shape → Image
+pickedImage t ps z = record {
+  form = z .form;
+  n = z .n;
+  t = ownThreads z;
+  heads = headsOf z (pickedHead t ps);
+  nodes = front (pickedNode t ps z) (z .n) noContents;
 }
 
--- the choices of all lines in ending k of n nodes, and the ending picked by them
-unfoldable pub picksOf : List ℕ → ℕ → ℕ → List ℕ
-picksOf cs n k = digits cs (lineCount n) k ++ drop (lineCount n) blankCounts
+-- the choices of all lines in ending k, and the ending picked by them
+unfoldable pub picksOf : List ℕ → Shape → ℕ → List ℕ
+picksOf cs z k = digits cs (lineCount z) k ++ drop (lineCount z) blankCounts
 
-unfoldable pub endingFrom : List (List Content) → List ℕ → ℕ → ℕ → Image
-endingFrom t cs n k = pickedImage t (picksOf cs n k) n
+unfoldable pub endingFrom : List (List Content) → List ℕ → Shape → ℕ → Image
+endingFrom t cs z k = pickedImage t (picksOf cs z k) z

@@ -18,16 +18,16 @@ pub record Held (row : List Content) (n : ℕ) (l : List Content) : Type 0 where
 
 -- the table and the counts stand for the lists of the lines, line 0 first
 pub record Tables (t : List (List Content)) (cs : List ℕ) (lists : List (List Content)) : Type 0 where
-  pub tall : length t ≡ 65
-  pub long : length cs ≡ 65
+  pub tall : length t ≡ 72
+  pub long : length cs ≡ 72
   pub held : (l : ℕ) → l < length lists → Held (getD t l []) (getD cs l 0) (getD lists l [])
 
 -- ---- the table and the counts after an event that touched w and left that line with the cached content c
 
 unfoldable pub tableAfter : List (List Content) → List ℕ → Touched → Content → List (List Content)
 tableAfter t cs w c =
-    pick (ltb (w .line) 65) (set t (w .line) (rowAfter (getD t (w .line) []) (getD cs (w .line) 0) c (w .persisted))) t
+    pick (ltb (w .line) 72) (set t (w .line) (rowAfter (getD t (w .line) []) (getD cs (w .line) 0) c (w .persisted))) t
 
 unfoldable pub countsAfter : List (List Content) → List ℕ → Touched → Content → List ℕ
 countsAfter t cs w c =
-    pick (ltb (w .line) 65) (set cs (w .line) (countAfter (getD t (w .line) []) (getD cs (w .line) 0) c (w .persisted))) cs
+    pick (ltb (w .line) 72) (set cs (w .line) (countAfter (getD t (w .line) []) (getD cs (w .line) 0) c (w .persisted))) cs

@@ -1,4 +1,5 @@
 pub mod ByAnswer
+pub mod OwnLaws
 pub mod Refused
 pub mod Unique
 pub mod Kept

@@ -8,9 +8,9 @@ use Rattle.lists.specs.Find.{pick, both}
 use Rattle.answer.specs.Answers.{accepted}
 use Rattle.answer.specs.declared.Answer.{Answer}
 use Rattle.answer.specs.declared.Answer.the-variants.{Full, WornOut, Record}
-use Rattle.image.specs.Form.{topOf}
-use Rattle.machine.specs.Record.{none, node, thread, ownNode, withNext, withIndex, putNode, putHead, headAt}
-use Rattle.machine.specs.Stage.{Stage, noStep, A1, A2, A3, A4, A5, A6, A7, A8, A9, A10, A11, A12, D1, D2, D3, D4, D5, D6, D7, stage}
+use Rattle.image.specs.Form.{topOf, perDesk}
+use Rattle.machine.specs.Record.{none, node, thread, ownNode, withNext, withIndex, putNode, putHead, putHeadNode, headAt}
+use Rattle.machine.specs.Stage.{Stage, noStep, A1, A2, A3, A4, A5, A6, A7, A8, A9, A10, A11, A12, D1, D2, D3, D4, D5, D6, D7, S3, S6, stage}
 use Rattle.machine.specs.Retire.{out, quiet, moving, going, answering, storing, nextFree, handOut, freed}
 use Rattle.machine.specs.Event.{Deed, unknown, enqueues, dequeues, steps, writesBack, crashes, deedOf, eventAnswer, done, stepped, eventAt, handed, eventOn}
 use Rattle.machine.specs.Range.{inRange}
@@ -56,11 +56,16 @@ step-taken m k D2 = refl
 step-taken m k D3 = refl
 step-taken m k D4 =
     let x = thread m k .next in
-    pick-fine (both (eqb (m .head) (thread m k .head)) (eqb (headAt m 0) (thread m k .index))) (storing (ofHead 0) (going (putHead m x (node m x .index)) k 17))
-    (going m k 13) refl refl
+    let d = perDesk (m .form) in
+    let desk = going (putHeadNode m x) k 17 in
+    let pair = storing (ofHead 0) (going (putHead m x (node m x .index)) k 17) in
+    pick-fine (both (eqb (m .head) (thread m k .head)) (pick d true (eqb (headAt m 0) (thread m k .index)))) (pick d desk pair) (going m k 13)
+    (pick-fine d desk pair refl refl) refl
 step-taken m k D5 = refl
 step-taken m k D6 = refl
 step-taken m k D7 = refl
+step-taken m k S3 = refl
+step-taken m k S6 = refl
 
 pub done-taken : (m : Machine) (e : Event) (d : Deed) → accepted (done m e d .answer) ≡ true
 done-taken m e unknown = refl

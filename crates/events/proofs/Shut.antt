@@ -12,8 +12,8 @@ use Rattle.answer.specs.Answers.{told, accepted, replied}
 use Rattle.answer.specs.declared.Answer.{Answer}
 use Rattle.answer.specs.declared.Told.{Told}
 use Rattle.image.specs.declared.Content.{Content}
-use Rattle.image.specs.Form.{known, topOf, widthOf}
-use Rattle.image.specs.Layout.{noContent, noContents, noHeads, headLines, headsOf}
+use Rattle.image.specs.Form.{known, topOf, widthOf, headLines, ownThreads, perDesk}
+use Rattle.image.specs.Layout.{noContent, noContents, noHeads, headsOf}
 use Rattle.image.specs.Recovered.{largest, headOf, recovered, twins, hasTwin, firstTwin, dummyOf}
 use Rattle.image.specs.Refusals.{startable}
 use Rattle.machine.specs.Record.{node, blankNodes, idleThreads}
@@ -40,7 +40,7 @@ pub record Facts (c : Point) : Type 0 where
   pub answer : told (eventOn (given c) step .answer) ≡ replied (reply c) 0
 
 pub facts : (c : Point) → Facts c
-unfolding leaves least around any count tab joined over front has with without wordOf noContents noHeads headLines headsOf largest headOf recovered twins hasTwin firstTwin dummyOf startable
+unfolding leaves least around any count tab joined over front has with without wordOf noContents noHeads headLines ownThreads perDesk headsOf largest headOf recovered twins hasTwin firstTwin dummyOf startable
     blankNodes idleThreads insert risen behind lastOf startWith nextFree releasedAt released others retired rangesFit headFits indexFits formFits known topOf widthOf inRange nodeFits threadFits eventAt eventOn
 facts P1 = record { old = refl; new = refl; answer = refl }
 facts P2 = record { old = refl; new = refl; answer = refl }
@@ -86,12 +86,12 @@ firstStep = after (enqueue 7 ∷ step ∷ [])
 
 -- memory after it, and after P2's events: the persisted copy of line 2 is (1, 1, 7)
 not-yet : lineTwo firstStep ≡ noContent
-unfolding leaves least around any count tab joined over front has with without wordOf noContents noHeads headLines headsOf largest headOf recovered twins hasTwin firstTwin dummyOf startable
+unfolding leaves least around any count tab joined over front has with without wordOf noContents noHeads headLines ownThreads perDesk headsOf largest headOf recovered twins hasTwin firstTwin dummyOf startable
     blankNodes idleThreads insert risen behind lastOf startWith nextFree releasedAt released others retired rangesFit headFits indexFits formFits known topOf widthOf inRange nodeFits threadFits eventAt eventOn lineAt
 not-yet = refl
 
 there : lineTwo (after (before P2 ++ (step ∷ []))) ≡ record { linked = 1; index = 1; item = 7 }
-unfolding leaves least around any count tab joined over front has with without wordOf noContents noHeads headLines headsOf largest headOf recovered twins hasTwin firstTwin dummyOf startable
+unfolding leaves least around any count tab joined over front has with without wordOf noContents noHeads headLines ownThreads perDesk headsOf largest headOf recovered twins hasTwin firstTwin dummyOf startable
     blankNodes idleThreads insert risen behind lastOf startWith nextFree releasedAt released others retired rangesFit headFits indexFits formFits known topOf widthOf inRange nodeFits threadFits eventAt eventOn lineAt
 there = refl
 
@@ -108,12 +108,12 @@ only-claims b h e = omega (arith, ap (λ (c : Content). c .item) (sym (persists-
 
 -- and already where it first only claims: at the second step, A2, it leaves node 1 as it is
 old-item : node firstStep 1 .item ≡ 0
-unfolding leaves least around any count tab joined over front has with without wordOf noContents noHeads headLines headsOf largest headOf recovered twins hasTwin firstTwin dummyOf startable
+unfolding leaves least around any count tab joined over front has with without wordOf noContents noHeads headLines ownThreads perDesk headsOf largest headOf recovered twins hasTwin firstTwin dummyOf startable
     blankNodes idleThreads insert risen behind lastOf startWith nextFree releasedAt released others retired rangesFit headFits indexFits formFits known topOf widthOf inRange nodeFits threadFits eventAt eventOn lineAt
 old-item = refl
 
 new-item : node (eventOn firstStep step .machine) 1 .item ≡ 7
-unfolding leaves least around any count tab joined over front has with without wordOf noContents noHeads headLines headsOf largest headOf recovered twins hasTwin firstTwin dummyOf startable
+unfolding leaves least around any count tab joined over front has with without wordOf noContents noHeads headLines ownThreads perDesk headsOf largest headOf recovered twins hasTwin firstTwin dummyOf startable
     blankNodes idleThreads insert risen behind lastOf startWith nextFree releasedAt released others retired rangesFit headFits indexFits formFits known topOf widthOf inRange nodeFits threadFits eventAt eventOn lineAt
 new-item = refl
 

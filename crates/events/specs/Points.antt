@@ -4,7 +4,7 @@ use mathlib.Core.List.{List, [], _∷_, _++_}
 use lib.ListN.{replicate}
 use Rattle.image.specs.declared.Content.{Content}
 use Rattle.machine.specs.Record.{thread}
-use Rattle.machine.specs.Line.{lineAt, persistedAt}
+use Rattle.machine.specs.Line.{shapeOf, lineAt, persistedAt}
 use Rattle.machine.specs.Start.{freshOf}
 use Rattle.machine.specs.Event.{eventOn}
 use Rattle.machine.specs.declared.Machine.{Machine}
@@ -70,4 +70,4 @@ stepNumber m = thread m 0 .step
 
 -- what is persisted of line 2
 abbrev pub lineTwo : Machine → Content
-lineTwo m = persistedAt m (lineAt 2 2)
+lineTwo m = persistedAt m (lineAt (shapeOf m) 2)

@@ -1,6 +1,7 @@
 // An event on a record that is within its ranges. p is the place that a refusal names.
 ghost use mathlib.Core.Path.{_≡_};
 ghost use mathlib.Core.Bool.{true};
+ghost use Rattle.image.specs.Form.{ownThreads};
 ghost use Rattle.machine.specs.Event.{enqueues, dequeues, steps, writesBack, crashes, eventAt};
 ghost use Rattle.machine.specs.Line.{persisted};
 ghost use Rattle.machine.specs.Range.{inRange};
@@ -9,11 +10,23 @@ use crate::clean::is_clean;
 use answer::Answer;
 use hands::persisting::persist_line;
 use image::Image;
+use image::Shape;
+use image::head_lines;
 use machine::Acted;
 use machine::Event;
 use machine::Machine;
 use machine::Touch;
 use machine::lines::line_at;
+
+// T as an image of this shape holds it.
+fn held_threads(z: Shape) -> u8
+    ensures { λ r. ⌜ r ≡ ownThreads z ⌝ }
+{
+    if z.form == 4 {
+        return z.t;
+    }
+    0
+}
 
 // The persisted copies, as an image.
 pub fn kept_image(m: Machine) -> Image
@@ -21,11 +34,17 @@ pub fn kept_image(m: Machine) -> Image
 {
     let heads = m.kept_heads;
     let nodes = m.kept;
+    let t = held_threads(Shape {
+        form: m.form,
+        n: m.n,
+        t: m.t,
+    });
     Image {
         heads,
         nodes,
         form: m.form,
         n: m.n,
+        t,
     }
 }
 
@@ -133,7 +152,13 @@ fn write_back(p: u32, m: Machine, e: Event) -> Acted
     requires { ⌜ inRange m ≡ true ⌝ }
     ensures { λ r. ⌜ r ≡ eventBy p m e writesBack ⌝ }
 {
-    if m.n < e.number {
+    let z = Shape {
+        form: m.form,
+        n: m.n,
+        t: m.t,
+    };
+    let lines = head_lines(z) + m.n as usize;
+    if lines <= e.number as usize {
         return Acted {
             answer: Answer::Number(p),
             machine: m,
@@ -147,7 +172,7 @@ fn write_back(p: u32, m: Machine, e: Event) -> Acted
             touch: Touch::Nothing,
         };
     }
-    let line = line_at(m.n, e.number);
+    let line = line_at(z, e.number);
     if is_clean(m, line) {
         return Acted {
             answer: Answer::Clean(p),

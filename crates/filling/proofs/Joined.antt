@@ -9,8 +9,9 @@ use native.Mathlib.Nat.{add-zero}
 use lib.ListN.{length, getD}
 use Rattle.answer.specs.Answers.{told, accepted}
 use Rattle.image.specs.declared.Image.{Image}
+use Rattle.image.specs.declared.Shape.{Shape}
 use Rattle.machine.specs.declared.Machine.{Machine}
-use Rattle.schedule.specs.Layout.{threadsIn, nodesIn, countIn}
+use Rattle.schedule.specs.Layout.{threadsIn, nodesIn, countIn, scheduleShape}
 use Rattle.schedule.specs.Run.{Bench, Ran, ran}
 use Rattle.page.specs.Endings.{endings, ending, imageOf, product}
 use Rattle.page.specs.Printed.{firstLine, endingLine, linesFrom, refusedLine, printed}
@@ -20,7 +21,6 @@ use Rattle.lawful.specs.Demand3.{Bytes}
 use Rattle.printing.specs.Bounds.{lineRoom}
 use Rattle.printing.specs.Lines.{refusedText}
 use Rattle.printing.proofs.Fittings as fits
-use Rattle.printing.proofs.ItemLaws as lines
 use Rattle.printing.proofs.PageLaws as pages
 use Rattle.pageproof.proofs.Holds as holds
 use Rattle.filling.specs.Pieces.{piecesFrom, pieces}
@@ -30,16 +30,15 @@ use Rattle.filling.proofs.Wide as wide
 
 module _ (s : List ℕ) (a : accepted (pageAnswer s) ≡ true) where
   abbrev all : List Image
-  all = endings (nodesIn s) (tableIn s)
+  all = endings (scheduleShape s) (tableIn s)
 
   abbrev lineOf : ℕ → List ℕ
   lineOf k = endingLine k (endingIn s k)
 
-  line-is : (j k : ℕ) → endingLine j (endingIn s k) ≡ endingLine j (getD all k (imageOf (nodesIn s) []))
+  line-is : (j k : ℕ) → endingLine j (endingIn s k) ≡ endingLine j (getD all k (imageOf (scheduleShape s) []))
   unfolding endingIn
   line-is j k =
-      lines.line-form j (ran s .bench .machine .form) (ending (ran s .bench .machine .n) (tableIn s) k)
-      ∙ ap (endingLine j) (ap (λ (n : ℕ). ending n (tableIn s) k) (numbers.ran-nodes s (holds.page-ran s a)) ∙ sym (pages.ending-at (nodesIn s) (tableIn s) k))
+      ap (endingLine j) (ap (λ (z : Shape). ending z (tableIn s) k) (numbers.ran-shape s (holds.page-ran s a)) ∙ sym (pages.ending-at (scheduleShape s) (tableIn s) k))
 
   behind : (i : ℕ) → pageLine s (1 + i) ≡ lineOf (0 + i)
   unfolding pageLine
@@ -52,8 +51,8 @@ module _ (s : List ℕ) (a : accepted (pageAnswer s) ≡ true) where
   unfolding endingCount
   endings-are =
       fits.on-same (pageLine s) lineOf (endingCount s) 1 0 (λ i q. behind i)
-      ∙ ap (linesOn lineOf 0) (sym (pages.endings-length (nodesIn s) (tableIn s)))
-      ∙ pages.lines-are lineOf (imageOf (nodesIn s) []) all 0
+      ∙ ap (linesOn lineOf 0) (sym (pages.endings-length (scheduleShape s) (tableIn s)))
+      ∙ pages.lines-are lineOf (imageOf (scheduleShape s) []) all 0
       (λ i q. let z : 0 + i ≡ i = omega arith in ap (λ k. endingLine (0 + i) (endingIn s k)) z ∙ line-is (0 + i) i)
 
   -- all lines

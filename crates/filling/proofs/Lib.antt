@@ -1,5 +1,4 @@
 pub mod Lined
-pub mod Told
 pub mod Numbers
 pub mod Answers
 pub mod Tables

@@ -9,13 +9,13 @@ use lib.ListN.{length, length-append}
 use Rattle.lists.specs.Tab.{over}
 use Rattle.lists.specs.Text.{text, decimal}
 use Rattle.image.specs.declared.Content.{Content}
+use Rattle.image.specs.declared.Shape.{Shape}
 use Rattle.page.specs.Printed.{firstLine, newline}
 use Rattle.page.specs.Filled.{linesOn, fitting}
 use Rattle.printing.specs.Lines.{lineFrom}
 use Rattle.printing.proofs.Written.{Put, then}
 use Rattle.printing.proofs.Fittings as fits
-use Rattle.sheet.specs.Sheet.{lineTold}
-use Rattle.filling.specs.Lines.{tableLine, toldLine}
+use Rattle.filling.specs.Lines.{tableLine}
 
 -- of the lines from `from` on and below `to`, those that fit into `room` bytes stand from place `at` on in what was b and is m; n is the
 -- first that does not, and p the place behind them
@@ -87,19 +87,13 @@ lined-goes f b from to room m n p x h = by (decLt room (length (f from)))
 
 -- ---- the lines of a table
 
-module _ (t : List (List Content)) (cs : List ℕ) (n threads events count : ℕ) where
+module _ (t : List (List Content)) (cs : List ℕ) (z : Shape) (threads events count : ℕ) where
   abbrev line : ℕ → List ℕ
-  line = tableLine t cs n threads events count
+  line = tableLine t cs z threads events count
 
-  pub line-behind : (k : ℕ) → line (suc k) ≡ lineFrom t cs n k
+  pub line-behind : (k : ℕ) → line (suc k) ≡ lineFrom t cs z k
   unfolding tableLine
   line-behind k = refl
-
--- told by a sheet
-pub told-behind : (ranks items slots : List ℕ) (c : ℕ) (cs : List ℕ) (n threads events count k : ℕ)
-    → toldLine ranks items slots c cs n threads events count (suc k) ≡ lineTold ranks items slots c cs n k
-unfolding toldLine
-told-behind ranks items slots c cs n threads events count k = refl
 
 -- no first line is empty
 pub first-some : (threads n events count : ℕ) → 0 < length (firstLine threads n events count)

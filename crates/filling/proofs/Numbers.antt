@@ -10,12 +10,14 @@ use borrow.Author.Tests.{ltb-false}
 use Rattle.answer.specs.Answers.{accepted}
 use Rattle.answer.specs.declared.Answer.{Answer}
 use Rattle.answer.specs.declared.Answer.the-variants.{Contents, Endings, Taken}
-use Rattle.image.specs.Layout.{imageIn}
+use Rattle.image.specs.Layout.{shapeIn, imageIn}
+use Rattle.image.specs.declared.Shape.{Shape}
+use Rattle.machine.specs.Line.{shapeOf, lineCount}
 use Rattle.image.specs.declared.Content.{Content}
 use Rattle.machine.specs.Start.{startOf, startWith}
 use Rattle.machine.specs.declared.Machine.{Machine}
-use Rattle.machine.proofs.AnswerLaws as starts
-use Rattle.schedule.specs.Layout.{scheduleAnswer, scheduleIn, readSchedule, threadsIn, countIn, nodesIn, eventsIn}
+use Rattle.image.proofs.ShapeLaws as shapes
+use Rattle.schedule.specs.Layout.{scheduleAnswer, scheduleIn, readSchedule, threadsIn, countIn, nodesIn, eventsIn, scheduleShape}
 use Rattle.schedule.specs.Run.{Bench, Ran, ran, begins}
 use Rattle.schedule.specs.declared.Schedule.{Schedule}
 use Rattle.schedule.specs.declared.Opened.{Opened}
@@ -65,21 +67,24 @@ pub opened-limits : (s : List ℕ) (o : Opened) → o ≡ readSchedule s → acc
 opened-limits s o e h =
     let n = opened-numbers s o e h in
     let k = codec.schedule-taken s h in
-    (omega (arith, n .0, starts.threads-range (threadsIn s) (k .threads) .1), omega (arith, n .1, k .count))
+    (omega (arith, n .0, shapes.threads-range (threadsIn s) (k .threads) .1), omega (arith, n .1, k .count))
 
--- N stays what it was
+-- the shape stays what it was
 abbrev first : List ℕ → Machine
 first s = startOf (scheduleIn s .image) (scheduleIn s .t)
 
-first-nodes : (s : List ℕ) → first s .n ≡ nodesIn s
-unfolding scheduleIn imageIn startWith
-first-nodes s = refl
+first-shape : (s : List ℕ) → shapeOf (first s) ≡ scheduleShape s
+unfolding scheduleIn imageIn shapeIn startWith
+first-shape s = refl
+
+pub ran-shape : (s : List ℕ) → accepted (ran s .answer) ≡ true → shapeOf (ran s .bench .machine) ≡ scheduleShape s
+unfolding ran
+ran-shape s h =
+    runs.run-size (eventsIn s) 0 (begins (first s)) (record { timed = moments.timed-begins (first s); even = evens.even-start (scheduleIn s .image) (scheduleIn s .t) }) h
+    ∙ first-shape s
 
 pub ran-nodes : (s : List ℕ) → accepted (ran s .answer) ≡ true → ran s .bench .machine .n ≡ nodesIn s
-unfolding ran
-ran-nodes s h =
-    runs.run-size (eventsIn s) 0 (begins (first s)) (record { timed = moments.timed-begins (first s); even = evens.even-start (scheduleIn s .image) (scheduleIn s .t) }) h
-    ∙ first-nodes s
+ran-nodes s h = ap (λ (z : Shape). z .n) (ran-shape s h)
 
 module _ (s : List ℕ) (r : Run) (p : PageIs s r) (a : accepted (r .answer) ≡ true) where
   pub page-yes : accepted (pageAnswer s) ≡ true
@@ -88,7 +93,7 @@ module _ (s : List ℕ) (r : Run) (p : PageIs s r) (a : accepted (r .answer) ≡
   pub schedule-yes : accepted (scheduleAnswer s) ≡ true
   schedule-yes = schedule-first s page-yes
 
-  pub count-limit : capped (prod (countsOf (r .rows)) (r .machine .n + 1)) ≤ 65536
+  pub count-limit : capped (prod (countsOf (r .rows)) (lineCount (shapeOf (r .machine)))) ≤ 65536
   unfolding endingCount
   count-limit = subst (λ (x : ℕ). x ≤ 65536) (sym (laws.page-count s r p a)) (limit (tableIn s) (p .taken a .limits))
 

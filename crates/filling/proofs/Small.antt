@@ -12,16 +12,17 @@ use borrow.Author.Tests.{leb-false}
 use Rattle.lists.specs.Find.{pick, both}
 use Rattle.lists.specs.Tab.{tab, front}
 use Rattle.lists.proofs.TabLaws as tabs
-use Rattle.image.specs.Layout.{noContent, noContents, contentAt, headLines, noHeads, headIn, headsOf}
+use Rattle.image.specs.Layout.{noContent, noContents, contentAt, imageShape, noHeads, headIn, headsOf}
 use Rattle.image.specs.Recovered.{headOf}
-use Rattle.image.proofs.HeadLaws.{head-one}
+use Rattle.image.proofs.HeadLaws.{head-within}
 use Rattle.image.specs.declared.Content.{Content}
 use Rattle.image.specs.declared.Image.{Image}
-use Rattle.image.specs.Form.{topOf}
+use Rattle.image.specs.Form.{topOf, perDesk, headLines}
+use Rattle.image.specs.declared.Shape.{Shape}
 use Rattle.image.proofs.FormLaws.{top-small}
-use Rattle.machine.specs.Record.{none, node, thread, kept, headAt, keptHead, contentOf, zeroNode, zeroThread, blankNodes, idleThread, idleThreads, withIndex, atStep, putNode, putThread, putFree, putTail, putHead}
-use Rattle.machine.specs.Stage.{Stage, noStep, A1, A2, A3, A4, A5, A6, A7, A8, A9, A10, A11, A12, D1, D2, D3, D4, D5, D6, D7, stage}
-use Rattle.machine.specs.Line.{lineAt, persist, persisted}
+use Rattle.machine.specs.Record.{none, node, thread, kept, headAt, keptHead, contentOf, zeroNode, zeroThread, blankNodes, idleThread, idleThreads, withIndex, atStep, putNode, putThread, putFree, putTail, putHead, putHeadNode, putHeadAt}
+use Rattle.machine.specs.Stage.{Stage, noStep, A1, A2, A3, A4, A5, A6, A7, A8, A9, A10, A11, A12, D1, D2, D3, D4, D5, D6, D7, S3, S6, stage}
+use Rattle.machine.specs.Line.{shapeOf, lineAt, ownHead, persist, persisted}
 use Rattle.machine.specs.declared.Line.{Line}
 use Rattle.machine.specs.declared.Line.the-variants.{OfHead as ofHead, OfNode as ofNode}
 use Rattle.machine.specs.Retire.{left, nextFree, handOut, freed, released, releasedAt, retired, retiredHeld, going, answering, storing}
@@ -100,6 +101,12 @@ small-tail m x s = record { cached = s .cached; saved = s .saved; mark = s .mark
 
 small-head : (m : Machine) (h x : ℕ) → Small m → x < 18446744073709551616 → Small (putHead m h x)
 small-head m h x s l = record { cached = s .cached; saved = s .saved; mark = set-all (λ y. y < 18446744073709551616) (m .heads) 0 x (s .mark) l 0; savedMark = s .savedMark; items = s .items }
+
+small-head-node : (m : Machine) (x : ℕ) → Small m → Small (putHeadNode m x)
+small-head-node m x s = record { cached = s .cached; saved = s .saved; mark = s .mark; savedMark = s .savedMark; items = s .items }
+
+small-head-at : (m : Machine) (k x : ℕ) → Small m → x < 18446744073709551616 → Small (putHeadAt m k x)
+small-head-at m k x s l = record { cached = s .cached; saved = s .saved; mark = set-all (λ y. y < 18446744073709551616) (m .heads) 0 x (s .mark) l k; savedMark = s .savedMark; items = s .items }
 
 small-persist : (m : Machine) (l : Line) → Small m → Small (persist m l)
 small-persist m (ofHead k) s = record {
@@ -183,13 +190,16 @@ module _ (m : Machine) (k : ℕ) (s : Small m) where
       (small-passed m (eqb (m .tail) (thread m k .tail)) (node m (thread m k .tail) .next) s)
   small-step D1 = small-thread m s k _ (s .items k)
   small-step D2 = small-thread m s k _ (s .items k)
-  small-step D3 = small-left (persist m (ofHead 0)) k _ (small-persist m (ofHead 0) s)
+  small-step D3 = small-left (persist m (ofHead (ownHead m k))) k _ (small-persist m (ofHead (ownHead m k)) s)
   small-step D4 =
-      small-pick (both (eqb (m .head) (thread m k .head)) (eqb (headAt m 0) (thread m k .index))) _ _
-      (small-going _ k 17 (small-head m (thread m k .next) _ s (s .cached (thread m k .next) .0))) (small-going m k 13 s)
+      small-pick (both (eqb (m .head) (thread m k .head)) (pick (perDesk (m .form)) true (eqb (headAt m 0) (thread m k .index)))) _ _
+      (small-pick (perDesk (m .form)) _ _ (small-going _ k 17 (small-head-node m (thread m k .next) s))
+      (small-going _ k 17 (small-head m (thread m k .next) _ s (s .cached (thread m k .next) .0)))) (small-going m k 13 s)
   small-step D5 = small-thread m s k _ (s .cached (thread m k .next) .1)
-  small-step D6 = small-going _ k 19 (small-persist m (ofHead 0) s)
+  small-step D6 = small-going _ k 19 (small-persist m (ofHead (ownHead m k)) s)
   small-step D7 = small-left (retiredHeld m k) k (thread m k .head) (small-held m k s)
+  small-step S3 = small-going _ k 15 (small-head-at m k _ s (s .cached (thread m k .head) .0))
+  small-step S6 = small-going _ k 18 (small-head-at m k _ s (s .cached (thread m k .next) .0))
 
 -- ---- starts and events
 
@@ -205,18 +215,18 @@ pub no-content : (i : ℕ) → Little (contentAt noContents i)
 unfolding noContents
 no-content i = same-all Little 64 noContent noContent (omega arith, omega arith) (omega arith, omega arith) i
 
-pub heads-small : (n : ℕ) (x : ℕ → ℕ) → ((k : ℕ) → x k < 18446744073709551616) → (k : ℕ) → getD (headsOf n x) k 0 < 18446744073709551616
+pub heads-small : (z : Shape) (x : ℕ → ℕ) → ((k : ℕ) → x k < 18446744073709551616) → (k : ℕ) → getD (headsOf z x) k 0 < 18446744073709551616
 unfolding headsOf noHeads
-heads-small n x h = front-all (λ y. y < 18446744073709551616) x (headLines n) noHeads 0 (λ j p. h j) (same-all (λ y. y < 18446744073709551616) 8 0 0 (omega arith) (omega arith))
+heads-small z x h = front-all (λ y. y < 18446744073709551616) x (headLines z) noHeads 0 (λ j p. h j) (same-all (λ y. y < 18446744073709551616) 8 0 0 (omega arith) (omega arith))
 
 pub small-start : (g : Image) (t : ℕ) → ((i : ℕ) → Little (contentAt (g .nodes) i)) → ((k : ℕ) → headIn g k < 18446744073709551616) → Small (startOf g t)
 unfolding startWith blankNodes idleThreads
 small-start g t h l = record {
-  cached = λ i. front-all (λ n. Little (contentOf n)) (startNode g _ (queueOf g)) (g .n) blankNodes zeroNode (λ j p. start-content g _ (queueOf g) h (subst (λ x. x < 18446744073709551616) (sym (head-one g)) (l 0)) j)
+  cached = λ i. front-all (λ n. Little (contentOf n)) (startNode g _ (queueOf g)) (g .n) blankNodes zeroNode (λ j p. start-content g _ (queueOf g) h (omega (arith, head-within g 18446744073709551615 (λ k q. omega (arith, l k)))) j)
       (λ j. same-all (λ n. Little (contentOf n)) 64 _ zeroNode (omega arith, omega arith) (omega arith, omega arith) j) i;
   saved = λ i. front-all Little (contentAt (g .nodes)) (g .n) noContents noContent (λ j p. h j) no-content i;
-  mark = heads-small (g .n) (headIn g) l;
-  savedMark = heads-small (g .n) (headIn g) l;
+  mark = heads-small (imageShape g) (headIn g) l;
+  savedMark = heads-small (imageShape g) (headIn g) l;
   items = λ i. same-all (λ t. t .item < 4294967296) 8 (idleThread 255) zeroThread (omega arith) (omega arith) i;
 }
 
@@ -225,5 +235,5 @@ small-done m e unknown l s = s
 small-done m e enqueues l s = small-thread m s (e .number) _ l
 small-done m e dequeues l s = small-thread m s (e .number) _ (omega arith)
 small-done m e steps l s = small-step m (e .number) s (stage m (e .number))
-small-done m e writesBack l s = small-persist m (lineAt (m .n) (e .number)) s
+small-done m e writesBack l s = small-persist m (lineAt (shapeOf m) (e .number)) s
 small-done m e crashes l s = small-start (persisted m) (m .t) (s .saved) (s .savedMark)

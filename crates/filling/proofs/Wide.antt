@@ -11,22 +11,22 @@ use Rattle.lists.specs.Tab.{tab, front}
 use Rattle.answer.specs.Answers.{accepted}
 use Rattle.answer.specs.declared.Answer.{Answer}
 use Rattle.image.specs.Bytes.{at4, atW}
-use Rattle.image.specs.Form.{widthOf, topOf, headsAt}
+use Rattle.image.specs.Form.{widthOf, topOf, headsAt, headLines, nodePlace, ownThreads, perDesk}
+use Rattle.image.specs.declared.Shape.{Shape}
 use Rattle.image.proofs.FormLaws.{top-small}
-use Rattle.printing.proofs.ItemLaws as lines
-use Rattle.image.specs.Layout.{noContent, noContents, contentAt, formIn, readContent, readNodes, nodePlace, imageIn, sameContent, headLines, headIn, readHeads}
+use Rattle.image.specs.Layout.{noContent, noContents, contentAt, imageShape, shapeIn, readContent, readNodes, imageIn, sameContent, headIn, headsOf, readHeads}
 use Rattle.image.specs.declared.Content.{Content}
 use Rattle.image.specs.declared.Image.{Image}
-use Rattle.machine.specs.Line.{lineCount, lineAt, cachedAt, persistedAt}
+use Rattle.machine.specs.Line.{shapeOf, lineCount, lineAt, cachedAt, persistedAt}
 use Rattle.machine.specs.declared.Line.{Line}
 use Rattle.machine.specs.declared.Line.the-variants.{OfHead as ofHead, OfNode as ofNode}
 use Rattle.machine.specs.Event.{Deed, unknown, enqueues, dequeues, steps, writesBack, crashes, deedOf}
 use Rattle.machine.specs.declared.Machine.{Machine}
 use Rattle.image.proofs.ByteLaws.{at-small}
-use Rattle.image.proofs.HeadLaws.{one-head, heads-at, head-one}
+use Rattle.image.proofs.HeadLaws.{heads-at, head-within, lines-same}
 use Rattle.machine.specs.declared.Event.{Event}
 use Rattle.machine.specs.declared.Acted.{Acted}
-use Rattle.machine.proofs.AnswerLaws as starts
+use Rattle.image.proofs.ShapeLaws as shapes
 use Rattle.schedule.specs.Layout.{scheduleIn, eventIn, eventsIn, threadsIn, nodesIn, countIn}
 use Rattle.schedule.specs.Run.{Bench, Ran, run, ran, turned, opened}
 use Rattle.page.specs.Contents.{joins, gathered, contentsOf, tableOf}
@@ -36,6 +36,8 @@ use Rattle.page.specs.Refusals.{tableIn, tableAnswer, pageAnswer, endingCount, 
 use Rattle.page.specs.Filled.{pageLine}
 use Rattle.lawful.specs.Demand3.{Bytes}
 use Rattle.moments.proofs.Moments as moments
+use Rattle.endtable.proofs.OwnLaws.{own-desks}
+use borrow.Author.Tests.{eqb-true}
 use Rattle.codec.proofs.Accepted as codec
 use Rattle.pageproof.proofs.Among.{Among, choice-in}
 use Rattle.pageproof.proofs.Events.{onto}
@@ -110,15 +112,17 @@ bytes-drop s n y i = subst (λ x. x < 256) (sym (getD-drop n s i 0)) (y (n + i))
 contents-small : (s : List ℕ) → Bytes s → (i : ℕ) → Little (contentAt (imageIn s .nodes) i)
 unfolding imageIn readNodes
 contents-small s y i =
-    let f = formIn s in
-    front-all Little (λ i. readContent f s (nodePlace f i)) (getD s 5 0) noContents noContent
-    (λ j p. (index-small f s y (nodePlace f j + 1), word-small s y (nodePlace f j + 1 + widthOf f))) no-content i
+    let z = shapeIn s in
+    let f = z .form in
+    front-all Little (λ i. readContent f s (nodePlace z i)) (z .n) noContents noContent
+    (λ j p. (index-small f s y (nodePlace z j + 1), word-small s y (nodePlace z j + 1 + widthOf f))) no-content i
 
 head-small : (s : List ℕ) → Bytes s → (k : ℕ) → headIn (imageIn s) k < 18446744073709551616
 unfolding imageIn readHeads
 head-small s y =
-    let f = formIn s in
-    heads-small (getD s 5 0) (λ k. atW (widthOf f) s (headsAt f + k * widthOf f)) (λ k. index-small f s y (headsAt f + k * widthOf f))
+    let z = shapeIn s in
+    let f = z .form in
+    heads-small z (λ k. atW (widthOf f) s (headsAt f + k * widthOf f)) (λ k. index-small f s y (headsAt f + k * widthOf f))
 
 ran-small : (s : List ℕ) → Bytes s → accepted (ran s .answer) ≡ true → SmallBench (ran s .bench)
 unfolding ran eventsIn scheduleIn
@@ -177,19 +181,34 @@ module _ (b : Bench) (h : SmallBench b) (k : ℕ) (lt : k < product (tableOf b))
   abbrev chosen : List Content
   chosen = getD (choices (tableOf b)) k []
 
-  chosen-little : (j : ℕ) → j < lineCount (b .machine .n) → Little (contentAt chosen j)
+  chosen-little : (j : ℕ) → j < lineCount (shapeOf (b .machine)) → Little (contentAt chosen j)
   chosen-little j p =
-      among-little (contentsOf b (lineAt (b .machine .n) j)) (contentAt chosen j) (contents-all b h (lineAt (b .machine .n) j))
+      among-little (contentsOf b (lineAt (shapeOf (b .machine)) j)) (contentAt chosen j) (contents-all b h (lineAt (shapeOf (b .machine)) j))
       (subst (λ (x : List Content). Among (contentAt chosen j) x) (moments.table-at b j p) (choice-in (tableOf b) k lt j (omega (arith, moments.table-length b))))
 
-  ending-short : k < 65536 → b .machine .n ≤ 64 → length (endingLine k (imageOf (b .machine .n) chosen)) ≤ lineRoom 64
+  abbrev z : Shape
+  z = shapeOf (b .machine)
+
+  chosen-heads : (j : ℕ) → j < headLines z → headIn (imageOf z chosen) j < 18446744073709551616
+  unfolding imageOf
+  chosen-heads j p = subst (λ x. x < 18446744073709551616) (sym (heads-at z (λ i. contentAt chosen i .index) j p)) (chosen-little j (omega arith) .0)
+
+  chosen-nodes : (i : ℕ) → Little (contentAt (imageOf z chosen .nodes) i)
+  unfolding imageOf
+  chosen-nodes i =
+      front-all Little (λ i. contentAt chosen (headLines z + i)) (z .n) noContents noContent (λ j p. chosen-little (headLines z + j) (omega arith)) no-content i
+
+  -- its head lines are as many as the machine's
+  image-heads : headLines (imageShape (imageOf z chosen)) ≡ headLines z
+  unfolding imageOf perDesk
+  image-heads = lines-same (z .form) (z .n) (ownThreads z) (z .n) (z .t) (λ d. sym (own-desks z (eqb-true (z .form) 4 d)))
+
+  ending-short : k < 65536 → b .machine .n ≤ 64 → length (endingLine k (imageOf z chosen)) ≤ lineRoom 64
   unfolding imageOf
   ending-short q n =
-      let first : 0 < headLines (b .machine .n) = omega (arith, one-head (b .machine .n)) in
-      short.image-short 64 k _ (omega arith) q (subst (λ x. x < 18446744073709551616) (sym (head-one (imageOf (b .machine .n) chosen) ∙ heads-at (b .machine .n) (λ j. contentAt chosen j .index) 0 first))
-      (chosen-little 0 (omega arith) .0))
-      (short.items-small _ (λ i. front-all Little (λ i. contentAt chosen (headLines (b .machine .n) + i)) (b .machine .n) noContents noContent
-      (λ j p. chosen-little (headLines (b .machine .n) + j) (omega arith)) no-content i .1))
+      short.image-short 64 k _ (omega arith) q
+      (omega (arith, head-within (imageOf z chosen) 18446744073709551615 (λ j p. omega (arith, chosen-heads j (subst (λ x. j < x) image-heads p)))))
+      (short.items-small _ (λ i. chosen-nodes i .1))
       n
 
 -- ---- a line
@@ -200,12 +219,12 @@ module _ (s : List ℕ) (y : Bytes s) (a : accepted (pageAnswer s) ≡ true) whe
 
   nodes-few : ran s .bench .machine .n ≤ 64
   nodes-few =
-      omega (arith, numbers.ran-nodes s (holds.page-ran s a), starts.nodes-range (nodesIn s) (schedule-yes .part .nodes) .1)
+      omega (arith, numbers.ran-nodes s (holds.page-ran s a), shapes.nodes-range (nodesIn s) (schedule-yes .part .nodes) .1)
 
   first-fits : length (firstLine (threadsIn s) (nodesIn s) (countIn s) (endingCount s)) ≤ lineRoom 64
   first-fits =
-      let n = starts.nodes-range (nodesIn s) (schedule-yes .part .nodes) in
-      let t = starts.threads-range (threadsIn s) (schedule-yes .threads) in
+      let n = shapes.nodes-range (nodesIn s) (schedule-yes .part .nodes) in
+      let t = shapes.threads-range (threadsIn s) (schedule-yes .threads) in
       omega (
         arith,
         short.first-short (threadsIn s) (nodesIn s) (countIn s) (endingCount s) (omega (arith, t .1)) (omega (arith, n .1))
@@ -215,8 +234,7 @@ module _ (s : List ℕ) (y : Bytes s) (a : accepted (pageAnswer s) ≡ true) whe
   line-fits : (k : ℕ) → k < endingCount s → length (endingLine k (endingIn s k)) ≤ lineRoom 64
   unfolding endingIn ending tableIn endingCount
   line-fits k h =
-      subst (λ (l : List ℕ). length l ≤ lineRoom 64) (sym (lines.line-form k (ran s .bench .machine .form) (ending (ran s .bench .machine .n) (tableIn s) k)))
-      (ending-short (ran s .bench) (ran-small s y (holds.page-ran s a)) k h (omega (arith, numbers.count-few s a)) nodes-few)
+      ending-short (ran s .bench) (ran-small s y (holds.page-ran s a)) k h (omega (arith, numbers.count-few s a)) nodes-few
 
   pub lines-short : (k : ℕ) → k ≤ endingCount s → length (pageLine s k) ≤ lineRoom 64
   unfolding pageLine
@@ -224,18 +242,10 @@ module _ (s : List ℕ) (y : Bytes s) (a : accepted (pageAnswer s) ≡ true) whe
   lines-short (suc k) h = line-fits k (omega arith)
 
   -- the indices of an ending are of 64 bits, its items of 32
-  pub ending-head : (k : ℕ) → k < endingCount s → (j : ℕ) → j < headLines (endingIn s k .n) → headIn (endingIn s k) j < 18446744073709551616
-  unfolding endingIn ending tableIn endingCount imageOf
-  ending-head k h j p =
-      let n = ran s .bench .machine .n in
-      let c = getD (choices (tableOf (ran s .bench))) k [] in
-      subst (λ x. x < 18446744073709551616) (sym (heads-at n (λ i. contentAt c i .index) j p))
-      (chosen-little (ran s .bench) (ran-small s y (holds.page-ran s a)) k h j (omega arith) .0)
+  pub ending-head : (k : ℕ) → k < endingCount s → (j : ℕ) → j < headLines (shapeOf (ran s .bench .machine)) → headIn (endingIn s k) j < 18446744073709551616
+  unfolding endingIn ending tableIn endingCount
+  ending-head k h j p = chosen-heads (ran s .bench) (ran-small s y (holds.page-ran s a)) k h j p
 
   pub ending-little : (k : ℕ) → k < endingCount s → (i : ℕ) → Little (contentAt (endingIn s k .nodes) i)
-  unfolding endingIn ending tableIn endingCount imageOf
-  ending-little k h i =
-      let n = ran s .bench .machine .n in
-      let c = getD (choices (tableOf (ran s .bench))) k [] in
-      front-all Little (λ i. contentAt c (headLines n + i)) n noContents noContent
-      (λ j p. chosen-little (ran s .bench) (ran-small s y (holds.page-ran s a)) k h (headLines n + j) (omega arith)) no-content i
+  unfolding endingIn ending tableIn endingCount
+  ending-little k h i = chosen-nodes (ran s .bench) (ran-small s y (holds.page-ran s a)) k h i

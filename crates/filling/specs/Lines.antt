@@ -1,5 +1,5 @@
 -- The page's lines from the table that the code keeps, and the line of a refusal.
-use Prim.Native.Nat.{ℕ, zero, suc, _≤_, _<_}
+use Prim.Native.Nat.{ℕ, zero, suc, _≤_}
 use mathlib.Core.Path.{_≡_}
 use mathlib.Core.Bool.{true}
 use mathlib.Core.List.{List}
@@ -10,25 +10,16 @@ use Rattle.answer.specs.Answers.{told, check, accepted}
 use Rattle.answer.specs.declared.Answer.{Answer}
 use Rattle.answer.specs.declared.Answer.the-variants.{Taken, Room}
 use Rattle.image.specs.declared.Content.{Content}
+use Rattle.image.specs.declared.Shape.{Shape}
 use Rattle.page.specs.Printed.{firstLine}
 use Rattle.page.specs.Refusals.{pageAnswer, endingCount}
 use Rattle.printing.specs.Bounds.{lineRoom}
 use Rattle.printing.specs.Lines.{lineFrom, refusedText, ifFits}
-use Rattle.sheet.specs.Sheet.{lineTold}
 
--- line 0 is the first line, line k + 1 is that of ending k: the table t with its counts, N, T, the event count and the ending count
-unfoldable pub tableLine : List (List Content) → List ℕ → ℕ → ℕ → ℕ → ℕ → ℕ → List ℕ
-tableLine t cs n threads events count zero = firstLine threads n events count
-tableLine t cs n threads events count (suc k) = lineFrom t cs n k
-
--- the same lines, told by the first c slots of a sheet
-unfoldable pub toldLine : List ℕ → List ℕ → List ℕ → ℕ → List ℕ → ℕ → ℕ → ℕ → ℕ → ℕ → List ℕ
-toldLine ranks items slots c cs n threads events count zero = firstLine threads n events count
-toldLine ranks items slots c cs n threads events count (suc k) = lineTold ranks items slots c cs n k
-
--- none of an ending is longer than the longest line
-abbrev pub Shorts : List ℕ → List ℕ → List ℕ → ℕ → List ℕ → ℕ → Type 0
-Shorts ranks items slots c cs n = (k : ℕ) → k < 65536 → length (lineTold ranks items slots c cs n k) ≤ lineRoom 64
+-- line 0 is the first line, line k + 1 is that of ending k: the table t with its counts, the shape, T, the event count and the ending count
+unfoldable pub tableLine : List (List Content) → List ℕ → Shape → ℕ → ℕ → ℕ → ℕ → List ℕ
+tableLine t cs z threads events count zero = firstLine threads (z .n) events count
+tableLine t cs z threads events count (suc k) = lineFrom t cs z k
 
 -- a buffer with room for the longest line takes line k, where the page is not refused and has that line
 abbrev pub TakesOne : List ℕ → ℕ → ℕ → Answer → Type 0

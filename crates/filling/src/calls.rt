@@ -6,7 +6,9 @@ ghost use Rattle.page.specs.Filled.{linesAnswer, linesTaken, linesBytes, linesW
 ghost use Rattle.filling.specs.Lines.{TakesOne, refusalAnswer, refusalBytes, refusalWritten};
 use crate::table::fill;
 use answer::Answer;
+use image::Shape;
 use printing::fitting::fit_number_place;
+use runs::paging::lines_of;
 use runs::paging::page_of;
 use runs::tables::counts_of;
 use runs::tables::table_of;
@@ -43,10 +45,14 @@ pub fn page_lines(s: &[u8], k: u64, b: &mut [u8]) -> Lines
         return no_lines(a);
     }
     let m = r.machine;
-    let n = m.n;
+    let z = Shape {
+        form: m.form,
+        n: m.n,
+        t: m.t,
+    };
     let rows = r.rows;
     let counts = counts_of(rows);
-    let count = endtable::ending::ending_count(counts, n as usize + 1);
+    let count = endtable::ending::ending_count(counts, lines_of(z));
     if (count as u64) < k {
         return no_lines(Answer::NoEnding);
     }
@@ -54,7 +60,7 @@ pub fn page_lines(s: &[u8], k: u64, b: &mut [u8]) -> Lines
     let d = o.schedule;
     let t = table_of(rows);
     let from = k as u32;
-    let w = fill(t, counts, n, d.t, d.count, count, from, b);
+    let w = fill(t, counts, z, d.t, d.count, count, from, b);
     if w.next == from {
         return no_lines(Answer::Room);
     }

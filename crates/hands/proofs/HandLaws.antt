@@ -12,7 +12,8 @@ use Rattle.machine.specs.declared.Line.{Line}
 use Rattle.machine.specs.declared.Line.the-variants.{OfHead as ofHead, OfNode as ofNode}
 use Rattle.machine.specs.Retire.{others, lastWait, releasedAt, released}
 use Rattle.machine.specs.declared.Machine.{Machine}
-use Rattle.image.proofs.HeadLaws.{one-head}
+use Rattle.image.specs.Form.{headLines}
+use Rattle.image.specs.declared.Shape.{Shape}
 use Rattle.machine.proofs.LineLaws.{LineIn}
 use Rattle.hands.specs.Others.{isOther, joined, othersBelow}
 use Rattle.hands.specs.Places.{HasPlace}
@@ -62,6 +63,6 @@ pub place-node : (l : Line) (i : ℕ) → l ≡ ofNode i → HasPlace l → i < 
 place-node l i e h = rw e at h
 
 -- every line that there is
-pub place-in : (n : ℕ) (l : Line) → n ≤ 64 → LineIn n l → HasPlace l
-place-in n (ofHead k) h i = omega (arith, one-head n)
-place-in n (ofNode i) h j = omega arith
+pub place-in : (z : Shape) (l : Line) → z .n ≤ 64 → headLines z ≤ 8 → LineIn z l → HasPlace l
+place-in z (ofHead k) h g i = omega arith
+place-in z (ofNode i) h g j = omega arith

@@ -6,17 +6,20 @@ use mathlib.Core.List.{List}
 use mathlib.Core.Logic.{_≢_, _⊎_, inl, inr}
 use native.Mathlib.Omega.{arith}
 use native.Mathlib.Nat.{add-mul, one-mul, mul-le-mul-right}
-use borrow.Author.Tests.{ltb-true, ltb-false, lt-ltb, le-ltb, eqb-true, ne-eqb}
-use lib.Dec.{ltb, eqb}
+use borrow.Author.Tests.{leb-true, eqb-true, eq-eqb, ne-eqb}
+use lib.Dec.{leb, ltb, eqb}
+use lib.ListN.{getD}
 use Rattle.lists.specs.Find.{pick, both, least, any}
 use Rattle.lists.proofs.BoolLaws.{no-way, both-true}
 use Rattle.lists.proofs.FindLaws as find
-use Rattle.image.specs.Form.{Form, plain, wide, pair, desks, formOf, known, width, widthOf, topOf, headsAt, nodeSize, headerSize}
+use Rattle.image.specs.Form.{Form, plain, wide, pair, desks, formOf, known, width, headsPlace, letter, version}
+use Rattle.image.specs.Form.{widthOf, topOf, headsAt, nodeSize, headLines, headerSize, nodePlace, imageSize, perDesk}
 use Rattle.image.specs.Bytes.{at1}
-use Rattle.image.specs.Layout.{contentAt, headLines, headIn, marked, formIn, isImage, nodePlace}
+use Rattle.image.specs.Layout.{contentAt, imageShape, headIn, marked, formIn, isImage}
 use Rattle.image.specs.Recovered.{tooWide, headTooWide, firstTooWide}
+use Rattle.image.specs.Refusals.{ownFit}
 use Rattle.image.specs.declared.Image.{Image}
-use Rattle.image.proofs.HeadLaws.{one-head}
+use Rattle.image.specs.declared.Shape.{Shape}
 
 -- ---- the largest index
 
@@ -50,33 +53,39 @@ top-small f = by (formOf f)
 
 -- ---- the forms that are read
 
-pub known-is : (f : ℕ) → known f ≡ true → (f ≡ 1) ⊎ (f ≡ 2)
+pub known-is : (f : ℕ) → known f ≡ true → (f ≡ 1) ⊎ (f ≡ 2) ⊎ (f ≡ 4)
 unfolding known
-known-is f = by (eqb f 1) refl
+known-is f = by (eqb f 1) (eqb f 2) refl refl
   where
-    by : (b : Bool) → eqb f 1 ≡ b → pick b true (eqb f 2) ≡ true → (f ≡ 1) ⊎ (f ≡ 2)
-    by true e h = inl (eqb-true f 1 e)
-    by false e h = inr (eqb-true f 2 h)
+    by : (b c : Bool) → eqb f 1 ≡ b → eqb f 2 ≡ c → pick b true (pick c true (eqb f 4)) ≡ true → (f ≡ 1) ⊎ (f ≡ 2) ⊎ (f ≡ 4)
+    by true c e d h = inl (eqb-true f 1 e)
+    by false true e d h = inr (inl (eqb-true f 2 d))
+    by false false e d h = inr (inr (eqb-true f 4 h))
 
 pub known-one : (f : ℕ) → f ≡ 1 → true ≡ known f
 unfolding known
 known-one f e = rw e
 
-pub known-other : (f : ℕ) → f ≢ 1 → eqb f 2 ≡ known f
+pub known-two : (f : ℕ) → f ≡ 2 → true ≡ known f
 unfolding known
-known-other f ne = rw (ne-eqb f 1 ne)
+known-two f e = rw e
+
+pub known-other : (f : ℕ) → f ≢ 1 → f ≢ 2 → eqb f 4 ≡ known f
+unfolding known
+known-other f a b = rw (ne-eqb f 1 a, ne-eqb f 2 b)
 
 -- what is so of each of them
-pub by-form : (P : ℕ → Type 0) (f : ℕ) → known f ≡ true → P 1 → P 2 → P f
-by-form P f h p q = by (known-is f h)
+pub by-form : (P : ℕ → Type 0) (f : ℕ) → known f ≡ true → P 1 → P 2 → P 4 → P f
+by-form P f h p q r = by (known-is f h)
   where
-    by : (f ≡ 1) ⊎ (f ≡ 2) → P f
+    by : (f ≡ 1) ⊎ (f ≡ 2) ⊎ (f ≡ 4) → P f
     by (inl e) = subst P (sym e) p
-    by (inr e) = subst P (sym e) q
+    by (inr (inl e)) = subst P (sym e) q
+    by (inr (inr e)) = subst P (sym e) r
 
--- version 1, or version 2
-pub form-plain : (f : ℕ) → known f ≡ true → f ≢ 2 → f ≡ 1
-form-plain f h = by-form (λ f. f ≢ 2 → f ≡ 1) f h (λ ne. refl) (λ ne. absurd (ne refl))
+-- "UQI" version 1
+pub form-plain : (f : ℕ) → known f ≡ true → f ≢ 2 → f ≢ 4 → f ≡ 1
+form-plain f h = by-form (λ f. f ≢ 2 → f ≢ 4 → f ≡ 1) f h (λ a b. refl) (λ a b. absurd (a refl)) (λ a b. absurd (b refl))
 
 pub width-wide : (f : ℕ) → f ≡ 2 → widthOf f ≡ 8
 unfolding widthOf
@@ -84,90 +93,127 @@ width-wide f e = rw e
 
 pub width-plain : (f : ℕ) → known f ≡ true → f ≢ 2 → widthOf f ≡ 4
 unfolding widthOf
-width-plain f h ne = rw (form-plain f h ne)
+width-plain f h = by-form (λ f. f ≢ 2 → widthOf f ≡ 4) f h (λ a. refl) (λ a. absurd (a refl)) (λ a. refl)
 
-pub place-wide : (f i : ℕ) → f ≡ 2 → nodePlace f i ≡ 14 + i * 13
-unfolding nodePlace headerSize nodeSize headsAt widthOf
-place-wide f i e = rw e
+pub place-wide : (z : Shape) (i : ℕ) → z .form ≡ 2 → nodePlace z i ≡ 14 + i * 13
+unfolding nodePlace headerSize nodeSize headsAt widthOf headLines
+place-wide z i e = rw e
 
-pub place-plain : (f i : ℕ) → known f ≡ true → f ≢ 2 → nodePlace f i ≡ 10 + i * 9
-unfolding nodePlace headerSize nodeSize headsAt widthOf
-place-plain f i h ne = rw (form-plain f h ne)
+pub place-desks : (z : Shape) (i : ℕ) → z .form ≡ 4 → nodePlace z i ≡ 7 + z .t * 4 + i * 9
+unfolding nodePlace headerSize nodeSize headsAt widthOf headLines
+place-desks z i e = rw e
+
+pub place-plain : (z : Shape) (i : ℕ) → known (z .form) ≡ true → z .form ≢ 2 → z .form ≢ 4 → nodePlace z i ≡ 10 + i * 9
+unfolding nodePlace headerSize nodeSize headsAt widthOf headLines
+place-plain z i h a b = rw (form-plain (z .form) h a b)
 
 pub size-is : (f : ℕ) → known f ≡ true → nodeSize f ≡ 1 + widthOf f + 4
 unfolding nodeSize widthOf
-size-is f h = by-form (λ f. nodeSize f ≡ 1 + widthOf f + 4) f h refl refl
+size-is f h = by-form (λ f. nodeSize f ≡ 1 + widthOf f + 4) f h refl refl refl
 
-pub heads-six : (f : ℕ) → known f ≡ true → headsAt f ≡ 6
+-- the indices of the head lines stand behind what is in front of them
+pub heads-few : (f : ℕ) → (6 ≤ headsAt f) × (headsAt f ≤ 7)
 unfolding headsAt
-heads-six f h = by-form (λ f. headsAt f ≡ 6) f h refl refl
+heads-few f = by (formOf f)
+  where
+    by : (x : Form) → (6 ≤ headsPlace x) × (headsPlace x ≤ 7)
+    by plain = (omega arith, omega arith)
+    by wide = (omega arith, omega arith)
+    by pair = (omega arith, omega arith)
+    by desks = (omega arith, omega arith)
 
-pub header-is : (f : ℕ) → known f ≡ true → headerSize f ≡ 6 + widthOf f
+pub header-is : (z : Shape) → headerSize z ≡ headsAt (z .form) + headLines z * widthOf (z .form)
 unfolding headerSize
-header-is f h = ap (λ k. k + widthOf f) (heads-six f h)
+header-is z = refl
 
 pub width-few : (f : ℕ) → known f ≡ true → (4 ≤ widthOf f) × (widthOf f ≤ 8)
 unfolding widthOf
-width-few f h = by-form (λ f. (4 ≤ widthOf f) × (widthOf f ≤ 8)) f h (omega arith, omega arith) (omega arith, omega arith)
+width-few f h = by-form (λ f. (4 ≤ widthOf f) × (widthOf f ≤ 8)) f h (omega arith, omega arith) (omega arith, omega arith) (omega arith, omega arith)
 
--- an image has 10 to 846 bytes
-pub place-most : (f n : ℕ) → known f ≡ true → n ≤ 64 → (10 ≤ nodePlace f n) × (nodePlace f n ≤ 846)
-unfolding nodePlace headerSize nodeSize headsAt widthOf
-place-most f n h l = by-form (λ f. (10 ≤ nodePlace f n) × (nodePlace f n ≤ 846)) f h (omega arith, omega arith) (omega arith, omega arith)
+-- an image has at least 10 bytes where T is 1 at least, and at most 846 where it is at most 8
+pub place-most : (z : Shape) (n : ℕ) → known (z .form) ≡ true → n ≤ 64 → ownFit z ≡ true → (10 ≤ nodePlace z n) × (nodePlace z n ≤ 846)
+unfolding perDesk
+place-most z n h l o = by (known-is (z .form) h)
+  where
+    by : (z .form ≡ 1) ⊎ (z .form ≡ 2) ⊎ (z .form ≡ 4) → (10 ≤ nodePlace z n) × (nodePlace z n ≤ 846)
+    by (inl e) = let p = place-plain z n h (λ q. omega (arith, e, q)) (λ q. omega (arith, e, q)) in (omega (arith, p), omega (arith, p))
+    by (inr (inl e)) = let p = place-wide z n e in (omega (arith, p), omega (arith, p))
+    by (inr (inr e)) =
+        let p = place-desks z n e in
+        let t = both-true (leb 1 (z .t)) (leb (z .t) 8) (rw (eq-eqb (z .form) 4 e) at o) in
+        (omega (arith, p, leb-true 1 (z .t) (t .0)), omega (arith, p, leb-true (z .t) 8 (t .1)))
 
-pub place-zero : (f : ℕ) → nodePlace f 0 ≡ headerSize f
+pub place-zero : (z : Shape) → nodePlace z 0 ≡ headerSize z
 unfolding nodePlace
-place-zero f = omega arith
+place-zero z = omega arith
 
-pub place-from : (f i : ℕ) → nodePlace f i ≡ headerSize f + i * nodeSize f
+pub place-from : (z : Shape) (i : ℕ) → nodePlace z i ≡ headerSize z + i * nodeSize (z .form)
 unfolding nodePlace
-place-from f i = refl
+place-from z i = refl
+
+pub size-at : (z : Shape) → nodePlace z (z .n) ≡ imageSize z
+unfolding imageSize
+size-at z = refl
 
 -- ---- the form that bytes have
 
--- the version's byte
-marked-version : (f : ℕ) (s : List ℕ) → marked 85 81 73 f s ≡ true → at1 s 3 ≡ f
+-- the letter and the version of a mark
+marked-bytes : (c v : ℕ) (s : List ℕ) → marked 85 81 c v s ≡ true → (at1 s 2 ≡ c) × (at1 s 3 ≡ v)
 unfolding marked
-marked-version f s h =
-    let a = both-true (eqb (at1 s 0) 85) (both (eqb (at1 s 1) 81) (both (eqb (at1 s 2) 73) (both (eqb (at1 s 3) f) (eqb (at1 s 4) 0)))) h in
-    let b = both-true (eqb (at1 s 1) 81) (both (eqb (at1 s 2) 73) (both (eqb (at1 s 3) f) (eqb (at1 s 4) 0))) (a .1) in
-    let c = both-true (eqb (at1 s 2) 73) (both (eqb (at1 s 3) f) (eqb (at1 s 4) 0)) (b .1) in
-    let d = both-true (eqb (at1 s 3) f) (eqb (at1 s 4) 0) (c .1) in
-    eqb-true (at1 s 3) f (d .0)
+marked-bytes x v s h =
+    let a = both-true (eqb (at1 s 0) 85) (both (eqb (at1 s 1) 81) (both (eqb (at1 s 2) x) (both (eqb (at1 s 3) v) (eqb (at1 s 4) 0)))) h in
+    let b = both-true (eqb (at1 s 1) 81) (both (eqb (at1 s 2) x) (both (eqb (at1 s 3) v) (eqb (at1 s 4) 0))) (a .1) in
+    let c = both-true (eqb (at1 s 2) x) (both (eqb (at1 s 3) v) (eqb (at1 s 4) 0)) (b .1) in
+    let d = both-true (eqb (at1 s 3) v) (eqb (at1 s 4) 0) (c .1) in
+    (eqb-true (at1 s 2) x (c .0), eqb-true (at1 s 3) v (d .0))
 
-pub form-marked : (s : List ℕ) → isImage s ≡ true → marked 85 81 73 (formIn s) s ≡ true
+-- the bytes have the mark of form f
+abbrev pub hasMark : ℕ → List ℕ → Bool
+hasMark f s = marked 85 81 (letter (formOf f)) (version (formOf f)) s
+
+pub form-marked : (s : List ℕ) → isImage s ≡ true → hasMark (formIn s) s ≡ true
 unfolding formIn known
-form-marked s = by (marked 85 81 73 1 s) (marked 85 81 73 2 s) refl refl
+form-marked s = by (marked 85 81 73 1 s) (marked 85 81 73 2 s) (marked 85 81 80 1 s) refl refl refl
   where
-    by : (a b : Bool) → marked 85 81 73 1 s ≡ a → marked 85 81 73 2 s ≡ b → known (pick a 1 (pick b 2 0)) ≡ true → marked 85 81 73 (pick a 1 (pick b 2 0)) s ≡ true
-    by true b e g h = e
-    by false true e g h = g
-    by false false e g h = no-way (sym h)
+    by : (a b c : Bool) → marked 85 81 73 1 s ≡ a → marked 85 81 73 2 s ≡ b → marked 85 81 80 1 s ≡ c
+        → known (pick a 1 (pick b 2 (pick c 4 0))) ≡ true → hasMark (pick a 1 (pick b 2 (pick c 4 0))) s ≡ true
+    by true b c e g i h = e
+    by false true c e g i h = g
+    by false false true e g i h = i
+    by false false false e g i h = no-way (sym h)
 
--- bytes of version 2 are not of version 1
-not-both : (s : List ℕ) → marked 85 81 73 2 s ≡ true → marked 85 81 73 1 s ≡ false
-not-both s h = by (marked 85 81 73 1 s) refl
+-- bytes of one form are not of another
+not-one : (s : List ℕ) (c v : ℕ) → marked 85 81 c v s ≡ true → (d w : ℕ) → (c ≢ d) ⊎ (v ≢ w) → marked 85 81 d w s ≡ false
+not-one s c v h d w ne = by (marked 85 81 d w s) refl ne
   where
-    by : (b : Bool) → marked 85 81 73 1 s ≡ b → b ≡ false
-    by false e = refl
-    by true e = absurd (omega (arith, marked-version 1 s e, marked-version 2 s h))
+    by : (b : Bool) → marked 85 81 d w s ≡ b → (c ≢ d) ⊎ (v ≢ w) → b ≡ false
+    by false e n = refl
+    by true e (inl n) = absurd (n (sym (marked-bytes c v s h .0) ∙ marked-bytes d w s e .0))
+    by true e (inr n) = absurd (n (sym (marked-bytes c v s h .1) ∙ marked-bytes d w s e .1))
 
-pub marked-form : (f : ℕ) (s : List ℕ) → known f ≡ true → marked 85 81 73 f s ≡ true → formIn s ≡ f
+pub marked-form : (f : ℕ) (s : List ℕ) → known f ≡ true → hasMark f s ≡ true → formIn s ≡ f
 unfolding formIn
-marked-form f s h = by-form (λ f. marked 85 81 73 f s ≡ true → formIn s ≡ f) f h (λ m. rw m) (λ m. rw (not-both s m, m))
-
-pub form-byte : (s : List ℕ) → isImage s ≡ true → formIn s ≡ at1 s 3
-form-byte s h = sym (marked-version (formIn s) s (form-marked s h))
+marked-form f s h =
+    by-form
+    (λ f. hasMark f s ≡ true → formIn s ≡ f)
+    f
+    h
+    (λ m. rw m)
+    (λ m. rw (not-one s 73 2 m 73 1 (inr (λ e. omega (arith, e))), m))
+    (λ m. rw (not-one s 80 1 m 73 1 (inl (λ e. omega (arith, e))), not-one s 80 1 m 73 2 (inl (λ e. omega (arith, e))), m))
 
 -- ---- the places of nodes, linear for whoever uses them
 
-pub place-next : (f i : ℕ) → nodePlace f (i + 1) ≡ nodePlace f i + nodeSize f
+pub place-next : (z : Shape) (i : ℕ) → nodePlace z (i + 1) ≡ nodePlace z i + nodeSize (z .form)
 unfolding nodePlace
-place-next f i = omega (arith, add-mul i 1 (nodeSize f), one-mul (nodeSize f))
+place-next z i = let k = nodeSize (z .form) in omega (arith, add-mul i 1 k, one-mul k)
 
-pub place-within : (f i n : ℕ) → i < n → nodePlace f i + nodeSize f ≤ nodePlace f n
+pub place-within : (z : Shape) (i n : ℕ) → i < n → nodePlace z i + nodeSize (z .form) ≤ nodePlace z n
 unfolding nodePlace
-place-within f i n h = let e : (i + 1) * nodeSize f ≤ n * nodeSize f = mul-le-mul-right (nodeSize f) (omega arith) in omega (arith, add-mul i 1 (nodeSize f), one-mul (nodeSize f), e)
+place-within z i n h =
+    let k = nodeSize (z .form) in
+    let e : (i + 1) * k ≤ n * k = mul-le-mul-right k (omega arith) in
+    omega (arith, add-mul i 1 k, one-mul k, e)
 
 -- ---- the searches
 
@@ -179,11 +225,8 @@ pub too-wide-is : (g : Image) → firstTooWide g ≡ least (wideAt g) (g .n) 0
 unfolding firstTooWide wideAt
 too-wide-is g = refl
 
--- of the one head line
-pub head-wide : (g : Image) → headTooWide g ≡ tooWide g (headIn g 0)
-unfolding headTooWide any
-head-wide g = ap (any (λ k. tooWide g (headIn g k))) (one-head (g .n)) ∙ by (tooWide g (headIn g 0)) refl
-  where
-    by : (b : Bool) → tooWide g (headIn g 0) ≡ b → any (λ k. tooWide g (headIn g k)) 1 ≡ b
-    by true e = rw e
-    by false e = rw e
+-- of the head lines, by the numbers that the code asks with
+pub head-wide-by : (g : Image) (top lines : ℕ) (r : Bool) → top ≡ topOf (g .form) → lines ≡ headLines (imageShape g)
+    → r ≡ any (λ k. ltb top (getD (g .heads) k 0)) lines → r ≡ headTooWide g
+unfolding headTooWide
+head-wide-by g top lines r e l h = h ∙ rw (e, l)

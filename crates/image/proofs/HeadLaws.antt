@@ -1,24 +1,94 @@
 -- Laws of the head lines' indices.
 use Prim.Native.Nat.{ℕ, zero, suc, _+_, _≤_, _<_}
 use mathlib.Core.Path.{_≡_, refl, sym, ap, _∙_}
+use mathlib.Core.Logic.{_≢_}
+use native.Mathlib.Decide.{decLt, ℕ-discrete}
 use mathlib.Core.Bool.{Bool, true, false}
 use mathlib.Core.List.{List, [], _∷_}
 use native.Mathlib.Omega.{arith}
 use native.Mathlib.Numerals.{add-one}
 use lib.ListN.{length, getD, set}
-use lib.Dec.{ltb}
-use borrow.Author.Tests.{lt-ltb, le-ltb}
+use lib.Dec.{eqb, leb, ltb}
+use borrow.Author.Tests.{lt-ltb, le-ltb, leb-true, eq-eqb}
 use Rattle.lists.specs.Find.{pick}
 use Rattle.lists.specs.Tab.{front}
 use Rattle.lists.proofs.TabLaws as tabs
-use Rattle.image.specs.Layout.{contentAt, headLines, noHeads, headIn, headsOf}
+use Rattle.lists.proofs.BoolLaws.{both-true}
+use Rattle.image.specs.Form.{Form, plain, wide, pair, desks, formOf, headCount, headLines, perDesk}
+use Rattle.image.specs.Layout.{contentAt, imageShape, noHeads, headIn, headsOf}
 use Rattle.image.specs.Recovered.{largest, headOf, recovered, recoveredAt}
+use Rattle.image.specs.Refusals.{ownFit}
 use Rattle.image.specs.declared.Image.{Image}
+use Rattle.image.specs.declared.Shape.{Shape}
 
--- there is one head line
-pub one-head : (n : ℕ) → headLines n ≡ 1
+-- ---- how many head lines there are
+
+pub lines-desks : (z : Shape) → z .form ≡ 4 → z .t ≡ headLines z
 unfolding headLines
-one-head n = refl
+lines-desks z e = rw e
+
+pub lines-pair : (z : Shape) → z .form ≡ 3 → 2 ≡ headLines z
+unfolding headLines
+lines-pair z e = rw e
+
+pub lines-one : (z : Shape) → z .form ≢ 4 → z .form ≢ 3 → 1 ≡ headLines z
+unfolding headLines
+lines-one z a b = by (z .form) a b
+  where
+    by : (f : ℕ) → f ≢ 4 → f ≢ 3 → 1 ≡ headCount (formOf f) (z .t)
+    by zero a b = refl
+    by (suc zero) a b = refl
+    by (suc (suc zero)) a b = refl
+    by (suc (suc (suc zero))) a b = absurd (b refl)
+    by (suc (suc (suc (suc zero)))) a b = absurd (a refl)
+    by (suc (suc (suc (suc (suc f))))) a b = refl
+
+-- they go by the form, and by T where each desk has one
+pub lines-same : (f n t m u : ℕ) → (perDesk f ≡ true → t ≡ u) → headLines (record { form = f; n = n; t = t }) ≡ headLines (record { form = f; n = m; t = u })
+unfolding headLines perDesk
+lines-same f n t m u h = by f h
+  where
+    by : (f : ℕ) → (eqb f 4 ≡ true → t ≡ u) → headCount (formOf f) t ≡ headCount (formOf f) u
+    by zero h = refl
+    by (suc zero) h = refl
+    by (suc (suc zero)) h = refl
+    by (suc (suc (suc zero))) h = refl
+    by (suc (suc (suc (suc zero)))) h = h refl
+    by (suc (suc (suc (suc (suc f))))) h = refl
+
+-- they are at most eight where T is, and where T is tested if an image holds it
+pub lines-few : (z : Shape) → z .t ≤ 8 → headLines z ≤ 8
+unfolding headLines
+lines-few z h = by (formOf (z .form))
+  where
+    by : (f : Form) → headCount f (z .t) ≤ 8
+    by plain = omega arith
+    by wide = omega arith
+    by pair = omega arith
+    by desks = h
+
+pub own-few : (z : Shape) → ownFit z ≡ true → headLines z ≤ 8
+unfolding perDesk
+own-few z = by (ℕ-discrete (z .form) 4)
+  where
+    by : Dec (z .form ≡ 4) → ownFit z ≡ true → headLines z ≤ 8
+    by (yes e) h = lines-few z (leb-true (z .t) 8 (both-true (leb 1 (z .t)) (leb (z .t) 8) (rw (eq-eqb (z .form) 4 e) at h) .1))
+    by (no ne) h = other (ℕ-discrete (z .form) 3)
+      where
+        other : Dec (z .form ≡ 3) → headLines z ≤ 8
+        other (yes e) = omega (arith, lines-pair z e)
+        other (no w) = omega (arith, lines-one z ne w)
+
+-- there is one at least, where T is one at least
+pub lines-some : (z : Shape) → 1 ≤ z .t → 1 ≤ headLines z
+unfolding headLines
+lines-some z h = by (formOf (z .form))
+  where
+    by : (f : Form) → 1 ≤ headCount f (z .t)
+    by plain = omega arith
+    by wide = omega arith
+    by pair = omega arith
+    by desks = h
 
 pub length-no-heads : length noHeads ≡ 8
 unfolding noHeads
@@ -26,22 +96,17 @@ length-no-heads = refl
 
 -- ---- a table of indices
 
-pub heads-at : (n : ℕ) (x : ℕ → ℕ) (k : ℕ) → k < headLines n → getD (headsOf n x) k 0 ≡ x k
+pub heads-at : (z : Shape) (x : ℕ → ℕ) (k : ℕ) → k < headLines z → getD (headsOf z x) k 0 ≡ x k
 unfolding headsOf
-heads-at n x k h = tabs.front-at x (headLines n) noHeads k 0 h
+heads-at z x k h = tabs.front-at x (headLines z) noHeads k 0 h
 
-pub heads-length : (n : ℕ) (x : ℕ → ℕ) → length (headsOf n x) ≡ 8
+pub heads-length : (z : Shape) (x : ℕ → ℕ) → headLines z ≤ 8 → length (headsOf z x) ≡ 8
 unfolding headsOf
-heads-length n x = tabs.front-size x (headLines n) noHeads (omega (arith, one-head n, length-no-heads)) ∙ length-no-heads
+heads-length z x h = tabs.front-size x (headLines z) noHeads (omega (arith, h, length-no-heads)) ∙ length-no-heads
 
-pub heads-same : (n : ℕ) (x y : ℕ → ℕ) → ((k : ℕ) → k < headLines n → x k ≡ y k) → headsOf n x ≡ headsOf n y
+pub heads-same : (z : Shape) (x y : ℕ → ℕ) → ((k : ℕ) → k < headLines z → x k ≡ y k) → headsOf z x ≡ headsOf z y
 unfolding headsOf
-heads-same n x y h = tabs.front-same x y (headLines n) noHeads h
-
--- of the one head line, at the code's numbers
-pub heads-one : (n : ℕ) (x : ℕ → ℕ) → set noHeads 0 (x 0) ≡ headsOf n x
-unfolding headsOf headLines
-heads-one n x = ap (λ l. set l 0 (x 0)) (tabs.front-none x noHeads) ∙ tabs.front-next x 0 noHeads (omega (arith, length-no-heads))
+heads-same z x y h = tabs.front-same x y (headLines z) noHeads h
 
 -- ---- the largest
 
@@ -53,26 +118,50 @@ pub largest-still : (l : List ℕ) (k r : ℕ) → r ≡ largest l k → getD l 
 unfolding largest
 largest-still l k r e h = rw (add-one, ← e, le-ltb r (getD l k 0) h)
 
-largest-one : (l : List ℕ) → largest l 1 ≡ getD l 0 0
+-- the largest of as many goes by those alone
+pub largest-same : (l m : List ℕ) (k : ℕ) → ((j : ℕ) → j < k → getD l j 0 ≡ getD m j 0) → largest l k ≡ largest m k
 unfolding largest
-largest-one l = by (getD l 0 0)
+largest-same l m zero h = refl
+largest-same l m (suc k) h =
+    let e = largest-same l m k (λ j q. h j (omega arith)) in
+    rw (e, h k (omega arith))
+
+-- none of them is above it
+pub largest-most : (l : List ℕ) (k j : ℕ) → j < k → getD l j 0 ≤ largest l k
+unfolding largest
+largest-most l zero j h = absurd (omega arith)
+largest-most l (suc k) j h = by (largest-most l k j) (decLt j k) (decLt (largest l k) (getD l k 0))
   where
-    by : (x : ℕ) → pick (ltb 0 x) x 0 ≡ x
-    by zero = refl
-    by (suc x) = rw (lt-ltb 0 (suc x) (omega arith))
+    by : (j < k → getD l j 0 ≤ largest l k) → Dec (j < k) → Dec (largest l k < getD l k 0)
+        → getD l j 0 ≤ pick (ltb (largest l k) (getD l k 0)) (getD l k 0) (largest l k)
+    by r (yes p) (yes q) = rw (lt-ltb (largest l k) (getD l k 0) q) (omega (arith, r p))
+    by r (yes p) (no q) = rw (le-ltb (largest l k) (getD l k 0) (omega arith)) (r p)
+    by r (no p) (yes q) = rw (lt-ltb (largest l k) (getD l k 0) q) (let e : j ≡ k = omega arith in rw e (omega arith))
+    by r (no p) (no q) = rw (le-ltb (largest l k) (getD l k 0) (omega arith)) (let e : j ≡ k = omega arith in rw e (omega arith))
 
--- the largest of one is that one
-pub head-one : (g : Image) → headOf g ≡ headIn g 0
+-- it is one of them, or there is none
+pub largest-within : (l : List ℕ) (k b : ℕ) → ((j : ℕ) → j < k → getD l j 0 ≤ b) → largest l k ≤ b
+unfolding largest
+largest-within l zero b h = omega arith
+largest-within l (suc k) b h = by (decLt (largest l k) (getD l k 0)) (largest-within l k b (λ j q. h j (omega arith)))
+  where
+    by : Dec (largest l k < getD l k 0) → largest l k ≤ b → pick (ltb (largest l k) (getD l k 0)) (getD l k 0) (largest l k) ≤ b
+    by (yes q) r = rw (lt-ltb (largest l k) (getD l k 0) q) (h k (omega arith))
+    by (no q) r = rw (le-ltb (largest l k) (getD l k 0) (omega arith)) r
+
+pub head-within : (g : Image) (b : ℕ) → ((k : ℕ) → k < headLines (imageShape g) → headIn g k ≤ b) → headOf g ≤ b
 unfolding headOf
-head-one g = ap (largest (g .heads)) (one-head (g .n)) ∙ largest-one (g .heads)
+head-within g b h = largest-within (g .heads) (headLines (imageShape g)) b h
 
-pub head-largest : (g : Image) → largest (g .heads) 1 ≡ headOf g
+pub recovered-by : (g : Image) (i : ℕ) → recoveredAt g i ≡ recovered (largest (g .heads) (headLines (imageShape g))) (contentAt (g .nodes) i)
 unfolding headOf
-head-largest g = ap (largest (g .heads)) (sym (one-head (g .n)))
+recovered-by g i = refl
 
-pub recovered-by : (g : Image) (i : ℕ) → recoveredAt g i ≡ recovered (largest (g .heads) 1) (contentAt (g .nodes) i)
-recovered-by g i = ap (λ h. recovered h (contentAt (g .nodes) i)) (sym (head-largest g))
+pub head-is : (g : Image) → largest (g .heads) (headLines (imageShape g)) ≡ headOf g
+unfolding headOf
+head-is g = refl
 
--- it goes by the head lines alone
-pub head-same : (g g′ : Image) → g .n ≡ g′ .n → ((k : ℕ) → k < headLines (g .n) → headIn g k ≡ headIn g′ k) → headOf g ≡ headOf g′
-head-same g g′ e h = head-one g ∙ h 0 (omega (arith, one-head (g .n))) ∙ sym (head-one g′)
+-- the head index goes by the head lines alone
+pub head-same : (g g′ : Image) → headLines (imageShape g) ≡ headLines (imageShape g′) → ((k : ℕ) → k < headLines (imageShape g) → headIn g k ≡ headIn g′ k) → headOf g ≡ headOf g′
+unfolding headOf
+head-same g g′ e h = largest-same (g .heads) (g′ .heads) (headLines (imageShape g)) h ∙ ap (largest (g′ .heads)) e

@@ -12,11 +12,10 @@ use Rattle.answer.specs.Answers.{check, accepted}
 use Rattle.answer.specs.declared.Answer.{Answer}
 use Rattle.answer.specs.declared.Answer.the-variants.{Taken, Linked, Twin, NoDummy, Narrow}
 use Rattle.image.specs.declared.Image.{Image}
-use Rattle.image.specs.Form.{topOf}
-use Rattle.image.specs.Layout.{contentAt, headIn}
+use Rattle.image.specs.Form.{topOf, headLines}
+use Rattle.image.specs.Layout.{contentAt, imageShape, headIn}
 use Rattle.image.specs.Recovered.{firstUnclear, firstTwin, dummyOf, tooWide, headTooWide, firstTooWide}
 use Rattle.image.specs.Refusals.{startable, sound, fitting, whole}
-use Rattle.image.proofs.FormLaws.{head-wide}
 
 sound-by : (x y z : Bool) (i j : ℕ) (rest : Answer) → accepted (check x (Linked i) (check y (Twin j) (check z NoDummy Taken))) ≡ true
     → check x (Linked i) (check y (Twin j) (check z NoDummy rest)) ≡ rest
@@ -64,24 +63,24 @@ fitting-else g rest h = narrow-by (headTooWide g) (ltb (firstTooWide g) (g .n)) 
 
 -- every index is at most the largest of the form
 pub record Fitting (g : Image) : Type 0 where
-  pub head : headIn g 0 ≤ topOf (g .form)
+  pub head : (k : ℕ) → k < headLines (imageShape g) → headIn g k ≤ topOf (g .form)
   pub at : (i : ℕ) → i < g .n → contentAt (g .nodes) i .index ≤ topOf (g .form)
 
 pub fitting-is : (g : Image) → accepted (fitting g Taken) ≡ true → Fitting g
-unfolding fitting firstTooWide
+unfolding fitting firstTooWide headTooWide
 fitting-is g h =
     let r = fitting-by (headTooWide g) (ltb (firstTooWide g) (g .n)) (g .n) (firstTooWide g) Taken h in
     let all = ltb-false (firstTooWide g) (g .n) (r .1) in
     record {
-      head = ltb-false (topOf (g .form)) (headIn g 0) (sym (head-wide g) ∙ r .0);
+      head = λ k a. ltb-false (topOf (g .form)) (headIn g k) (find.any-clear (λ k. tooWide g (headIn g k)) (headLines (imageShape g)) k (r .0) a);
       at = λ i a. ltb-false (topOf (g .form)) (contentAt (g .nodes) i .index) (find.least-clear (λ i. tooWide g (contentAt (g .nodes) i .index)) (g .n) 0 (omega arith) i (omega arith) (omega arith));
     }
 
 -- and where they are, nothing is refused by 20
 pub is-fitting : (g : Image) (rest : Answer) → Fitting g → fitting g rest ≡ rest
-unfolding fitting firstTooWide
+unfolding fitting firstTooWide headTooWide
 is-fitting g rest f =
-    let a : headTooWide g ≡ false = head-wide g ∙ le-ltb (topOf (g .form)) (headIn g 0) (f .head) in
+    let a = find.any-none (λ k. tooWide g (headIn g k)) (headLines (imageShape g)) (λ k l. le-ltb (topOf (g .form)) (headIn g k) (f .head k l)) in
     let b = find.least-none (λ i. tooWide g (contentAt (g .nodes) i .index)) (g .n) 0 (λ i l h. le-ltb (topOf (g .form)) (contentAt (g .nodes) i .index) (f .at i (omega arith))) in
     rw (a, le-ltb (least (λ i. tooWide g (contentAt (g .nodes) i .index)) (g .n) 0) (g .n) (omega (arith, b)))
 

@@ -5,8 +5,8 @@ use mathlib.Core.List.{List}
 use lib.ListN.{getD}
 use lib.Dec.{eqb, ltb}
 use Rattle.lists.specs.Find.{pick, both, least, any}
-use Rattle.image.specs.Form.{topOf}
-use Rattle.image.specs.Layout.{contentAt, headLines, headIn}
+use Rattle.image.specs.Form.{topOf, headLines}
+use Rattle.image.specs.Layout.{contentAt, imageShape, headIn}
 use Rattle.image.specs.declared.Content.{Content}
 use Rattle.image.specs.declared.Image.{Image}
 
@@ -15,9 +15,9 @@ unfoldable pub largest : List ℕ → ℕ → ℕ
 largest l zero = 0
 largest l (suc k) = let r = largest l k in pick (ltb r (getD l k 0)) (getD l k 0) r
 
--- the head index that a start takes from an image: the largest of its head lines
+-- the head index that a start takes from an image; #101: "Recovery takes the largest thread index"
 unfoldable pub headOf : Image → ℕ
-headOf g = largest (g .heads) (headLines (g .n))
+headOf g = largest (g .heads) (headLines (imageShape g))
 
 -- "A node is recovered when its linked flag is 1 and its index is above the head index."
 unfoldable pub recovered : ℕ → Content → Bool
@@ -52,7 +52,7 @@ tooWide g x = ltb (topOf (g .form)) x
 
 -- a head line's is
 unfoldable pub headTooWide : Image → Bool
-headTooWide g = any (λ k. tooWide g (headIn g k)) (headLines (g .n))
+headTooWide g = any (λ k. tooWide g (headIn g k)) (headLines (imageShape g))
 
 -- the first node, recovered or not, whose index is; N where none is
 unfoldable pub firstTooWide : Image → ℕ

@@ -35,5 +35,6 @@ pub fn blank_image() -> Image
         nodes,
         form: 0,
         n: 0,
+        t: 0,
     }
 }

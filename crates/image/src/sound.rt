@@ -1,17 +1,20 @@
 // The tests on an image by value: unclear linked bytes (6), twins (7), the dummy (8).
 use super::Image;
-use super::heads::largest_of;
+use super::Shape;
+use super::heads::head_of;
 use super::recovered::are_twins;
 use super::recovered::is_recovered;
 use answer::Answer;
 ghost use mathlib.Core.Path.{_≡_};
 ghost use Prim.Native.Nat.{_≤_};
 ghost use Rattle.answer.specs.declared.Answer.the-variants.{Taken};
+ghost use Rattle.image.specs.Form.{headLines};
+ghost use Rattle.image.specs.Layout.{imageShape};
 ghost use Rattle.image.specs.Refusals.{sound};
 
 // 6, 7, 8, with no call inside that is handed the image.
 pub fn sound_of(g: Image) -> Answer
-    requires { ⌜ g .n ≤ 64 ⌝ }
+    requires { ⌜ (g .n ≤ 64) × (headLines (imageShape g) ≤ 8) ⌝ }
     ensures { λ r. ⌜ r ≡ sound g Taken ⌝ }
 {
     let n = g.n as usize;
@@ -24,7 +27,12 @@ pub fn sound_of(g: Image) -> Answer
         u += 1;
     }
     let heads = g.heads;
-    let h = largest_of(heads, 1);
+    let z = Shape {
+        form: g.form,
+        n: g.n,
+        t: g.t,
+    };
+    let h = head_of(heads, z);
     let mut i = 0;
     'pairs: while i < n {
         let mut j = 0;

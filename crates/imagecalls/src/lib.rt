@@ -1,9 +1,10 @@
-// An image made another: in the other version, or mended.
+// An image made another: in the other version, from and to "UQP", or mended.
 ghost use mathlib.Core.Path.{_≡_};
 ghost use lib.ListN.{length};
 ghost use Rattle.converting.specs.Converted.{widened, narrowed};
 ghost use Rattle.mending.specs.Bytes.{mendWritten, listWritten};
-ghost use Rattle.calls.specs.Conversions.{widenGiven, narrowGiven};
+ghost use Rattle.converting.specs.Desks.{imported, exported};
+ghost use Rattle.calls.specs.Conversions.{widenGiven, narrowGiven, importGiven, exportGiven};
 ghost use Rattle.calls.specs.Mend.{mendGiven};
 use calls::packing::packed_of;
 
@@ -23,6 +24,24 @@ pub fn narrow(image: &[u8], buffer: &mut [u8]) -> u64
 {
     let slim = converting::narrow(image, buffer);
     packed_of(slim, 0)
+}
+
+// An image with one head index per desk as one of version 1, its head the largest, into the buffer's first 10 + 9N bytes.
+pub fn import_desks(image: &[u8], buffer: &mut [u8]) -> u64
+    ensures answers { λ r. ⌜ r ≡ importGiven (now (image .entry)) (length (now (buffer .entry))) ⌝ }
+    ensures bytes { λ r. ⌜ now (buffer .exit) ≡ imported (now (image .entry)) (now (buffer .entry)) ⌝ }
+{
+    let one = converting::import_desks(image, buffer);
+    packed_of(one, 0)
+}
+
+// An image of version 1 as one for so many desks, its head written for each, into the buffer's first 7 + 4T + 9N bytes.
+pub fn export_desks(image: &[u8], threads: u8, buffer: &mut [u8]) -> u64
+    ensures answers { λ r. ⌜ r ≡ exportGiven (now (image .entry)) threads (length (now (buffer .entry))) ⌝ }
+    ensures bytes { λ r. ⌜ now (buffer .exit) ≡ exported (now (image .entry)) threads (now (buffer .entry)) ⌝ }
+{
+    let each = converting::export_desks(image, threads, buffer);
+    packed_of(each, 0)
 }
 
 // The image, mended, into the buffer's front; node and reason of each changed node, in node order, into the list's. The value is how many were changed.

@@ -10,11 +10,11 @@ use Rattle.answer.specs.declared.Answer.{Answer}
 use Rattle.image.specs.Layout.{contentAt, noContents, headIn, headsOf}
 use Rattle.image.specs.declared.Image.{Image}
 use Rattle.lists.specs.Tab.{front}
-use Rattle.machine.specs.Line.{lineCount, persisted}
+use Rattle.machine.specs.Line.{shapeOf, lineCount, persisted}
 use Rattle.machine.specs.Start.{startAnswer, startOf, blankMachine}
 use Rattle.machine.specs.declared.Machine.{Machine}
 use Rattle.machine.specs.declared.Event.{Event}
-use Rattle.schedule.specs.Layout.{scheduleIn, eventsIn, threadsIn, nodesIn}
+use Rattle.schedule.specs.Layout.{scheduleIn, eventsIn, threadsIn, scheduleShape}
 use Rattle.schedule.specs.Run.{Bench, Ran, run, ran, opened}
 use Rattle.page.specs.Refusals.{pageAnswer, endingCount, endingIn}
 use Rattle.lawful.specs.Operation.{operations}
@@ -35,7 +35,8 @@ abbrev pub imageLeft : Machine → Image
 imageLeft m = record {
   form = m .form;
   n = m .n;
-  heads = headsOf (m .n) (headIn (persisted m));
+  t = persisted m .t;
+  heads = headsOf (shapeOf m) (headIn (persisted m));
   nodes = front (contentAt (persisted m .nodes)) (m .n) noContents;
 }
 
@@ -45,7 +46,7 @@ imageLeft m = record {
 pub record Leaves (s : List ℕ) (g : Image) : Type 0 where
   pub events : List Event
   pub taken : accepted (runOf s events .answer) ≡ true
-  pub added : AddsLate (lineCount (nodesIn s)) (eventsIn s) (ran s .replies) events (runOf s events .replies)
+  pub added : AddsLate (lineCount (scheduleShape s)) (eventsIn s) (ran s .replies) events (runOf s events .replies)
   pub left : imageLeft (runOf s events .bench .machine) ≡ g
 
 -- the first half: a page that is not refused holds each image that a crash can leave, once, and no other

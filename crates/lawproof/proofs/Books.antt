@@ -7,12 +7,12 @@ use lib.ListN.{getD}
 use Rattle.lists.proofs.BoolLaws.{no-way}
 use Rattle.answer.specs.Answers.{accepted}
 use Rattle.image.specs.declared.Image.{Image}
-use Rattle.machine.specs.Line.{persisted}
+use Rattle.machine.specs.Line.{shapeOf, persisted}
 use Rattle.machine.specs.Start.{startOf, startAnswer, blankMachine}
 use Rattle.machine.specs.Event as machine
 use Rattle.machine.specs.Event.{Deed, unknown, enqueues, dequeues, steps, writesBack, crashes, deedOf, eventAnswer}
 use Rattle.machine.specs.Record.{thread}
-use Rattle.machine.specs.Stage.{stage, Stage, noStep, A1, A2, A3, A4, A5, A6, A7, A8, A9, A10, A11, A12, D1, D2, D3, D4, D5, D6, D7}
+use Rattle.machine.specs.Stage.{stage, Stage, noStep, A1, A2, A3, A4, A5, A6, A7, A8, A9, A10, A11, A12, D1, D2, D3, D4, D5, D6, D7, S3, S6}
 use Rattle.machine.specs.declared.Thread.{Thread}
 use Rattle.machine.specs.declared.Machine.{Machine}
 use Rattle.machine.specs.declared.Event.{Event}
@@ -29,7 +29,7 @@ use Rattle.model.specs.Bench.{Bench, closes, noteMove, turn, bench, opening}
 use Rattle.model.proofs.Basics.{upd-same, upd-other}
 use Rattle.tied.specs.Shown.{threadOf, imageShown, Narrow, answerOf, eventBy, eventShown}
 use Rattle.tied.proofs.Accepted.{sound-is, shownT, fit-of}
-use Rattle.tied.proofs.Begins.{size-is}
+use Rattle.tied.proofs.Begins.{shapeAt, shape-is}
 use Rattle.tied.proofs.Bench.{BenchT}
 use Rattle.tied.proofs.Changes.{count-t}
 use Rattle.tied.proofs.Turn as tied
@@ -48,27 +48,29 @@ unfolding start′
 start-idle m u = refl
 
 -- no thread of the record is elsewhere
-acts-of : (s : Stage) (v : Thread) → busy (threadOf s v) ≡ true → acts (threadOf s v) ≡ true
-acts-of noStep v b = b
-acts-of A1 v b = b
-acts-of A2 v b = b
-acts-of A3 v b = b
-acts-of A4 v b = b
-acts-of A5 v b = b
-acts-of A6 v b = b
-acts-of A7 v b = b
-acts-of A8 v b = b
-acts-of A9 v b = b
-acts-of A10 v b = b
-acts-of A11 v b = b
-acts-of A12 v b = b
-acts-of D1 v b = b
-acts-of D2 v b = b
-acts-of D3 v b = b
-acts-of D4 v b = b
-acts-of D5 v b = b
-acts-of D6 v b = b
-acts-of D7 v b = b
+acts-of : (s : Stage) (v : Thread) (i : ℕ) → busy (threadOf s v i) ≡ true → acts (threadOf s v i) ≡ true
+acts-of noStep v i b = b
+acts-of A1 v i b = b
+acts-of A2 v i b = b
+acts-of A3 v i b = b
+acts-of A4 v i b = b
+acts-of A5 v i b = b
+acts-of A6 v i b = b
+acts-of A7 v i b = b
+acts-of A8 v i b = b
+acts-of A9 v i b = b
+acts-of A10 v i b = b
+acts-of A11 v i b = b
+acts-of A12 v i b = b
+acts-of D1 v i b = b
+acts-of D2 v i b = b
+acts-of D3 v i b = b
+acts-of D4 v i b = b
+acts-of D5 v i b = b
+acts-of D6 v i b = b
+acts-of D7 v i b = b
+acts-of S3 v i b = b
+acts-of S6 v i b = b
 
 -- ---- one event
 
@@ -83,7 +85,7 @@ module _ (b : schedule.Bench) (B : Bench) (r : BenchT b B) (ops : List Operation
   working u b =
       let h : u < m .t = subst (λ t. u < t) (count-t _ m c (r .tied)) (r .kept .all .inv .alive .range u b) in
       let e = r .tied .threads .at u h .stage in
-      ap acts e ∙ acts-of (stage m u) (thread m u) (ap busy (sym e) ∙ b)
+      ap acts e ∙ acts-of (stage m u) (thread m u) (r .tied .threads .at u h .seen) (ap busy (sym e) ∙ b)
 
   lt : (u : ℕ) → busy (c .thr u) ≡ true → B .book .cur u < B .book .count
   lt u b = r .kept .all .curs .lt u (working u b)
@@ -118,7 +120,7 @@ module _ (b : schedule.Bench) (B : Bench) (r : BenchT b B) (ops : List Operation
         by (core.item v) f = said (gave v) refl
 
     pub turnBook : (δ : Deed) → accepted (eventAnswer (B .now) m e δ) ≡ true
-        → BookT (turned b (machine.done m e δ) δ) (turn B (eventBy (m .n) δ e)) (noted (B .now) e (machine.done m e δ .answer) ops δ)
+        → BookT (turned b (machine.done m e δ) δ) (turn B (eventBy (shapeOf m) δ e)) (noted (B .now) e (machine.done m e δ .answer) ops δ)
     turnBook unknown a = no-way (sym a)
     turnBook enqueues a = record {
       book = beginT ops (B .book) (c .thr) _ t (k .book) (λ u ne. upd-other (c .thr) t (a1 (e .item)) ne) lt (B .now) (puts (e .item))
@@ -144,15 +146,15 @@ module _ (b : schedule.Bench) (B : Bench) (r : BenchT b B) (ops : List Operation
 -- ---- the run; the number of its first event is the bench's
 
 pub runBook : (l : List Event) (b : schedule.Bench) (B : Bench) → BenchT b B → (ops : List Operation) → BookT b B ops → accepted (run (B .now) b l .answer) ≡ true
-    → BookT (run (B .now) b l .bench) (bench B (map (eventShown (b .machine .n)) l)) (operations (B .now) l (run (B .now) b l .replies) ops)
+    → BookT (run (B .now) b l .bench) (bench B (map (eventShown (shapeOf (b .machine))) l)) (operations (B .now) l (run (B .now) b l .replies) ops)
 unfolding run bench operations
 runBook [] b B r ops k a = k
 runBook (e ∷ l) b B r ops k a =
-    subst (λ (R : Ran). BookT (R .bench) (bench B (map (eventShown (b .machine .n)) (e ∷ l))) (operations (B .now) (e ∷ l) (R .replies) ops)) (sym is)
-    (subst (λ n. BookT (run (suc (B .now)) b′ l .bench) (bench (turn B (eventShown (b .machine .n) e)) (map (eventShown n) l))
+    subst (λ (R : Ran). BookT (R .bench) (bench B (map (eventShown (shapeOf (b .machine))) (e ∷ l))) (operations (B .now) (e ∷ l) (R .replies) ops)) (sym is)
+    (subst (λ z. BookT (run (suc (B .now)) b′ l .bench) (bench (turn B (eventShown (shapeOf (b .machine)) e)) (map (eventShown z) l))
     (operations (suc (B .now)) l (run (suc (B .now)) b′ l .replies) (noted (B .now) e (machine.done (b .machine) e (deedOf (e .kind)) .answer) ops (deedOf (e .kind)))))
-    (tied.turned-size b B r (B .now) e (deedOf (e .kind)) f)
-    (runBook l b′ (turn B (eventShown (b .machine .n) e)) (tied.turns b B r (B .now) e (deedOf (e .kind)) f) _ (turnBook b B r ops k e (deedOf (e .kind)) f)
+    (tied.turned-shape b B r (B .now) e (deedOf (e .kind)) f)
+    (runBook l b′ (turn B (eventShown (shapeOf (b .machine)) e)) (tied.turns b B r (B .now) e (deedOf (e .kind)) f) _ (turnBook b B r ops k e (deedOf (e .kind)) f)
     (subst (λ (R : Ran). accepted (R .answer) ≡ true) is a)))
   where
     b′ : schedule.Bench
@@ -176,7 +178,7 @@ module _ (g : Image) (t : ℕ) (a : accepted (startAnswer g t) ≡ true) (w : Na
       record { book = emptyT _ (λ u. refl); first = queue-shown g t (imageShown g t) i (fit-of g t (imageShown g t) i s) }
 
   pub startBook : (l : List Event) → accepted (run 0 (begins (startOf g t)) l .answer) ≡ true
-      → BookT (run 0 (begins (startOf g t)) l .bench) (bench (opening (imageShown g t)) (map (eventShown (g .n)) l)) (operations 0 l (run 0 (begins (startOf g t)) l .replies) [])
+      → BookT (run 0 (begins (startOf g t)) l .bench) (bench (opening (imageShown g t)) (map (eventShown (shapeAt g t)) l)) (operations 0 l (run 0 (begins (startOf g t)) l .replies) [])
   startBook l h =
-      subst (λ n. BookT (run 0 (begins (startOf g t)) l .bench) (bench (opening (imageShown g t)) (map (eventShown n) l)) (operations 0 l (run 0 (begins (startOf g t)) l .replies) []))
-      (size-is g t) (runBook l (begins (startOf g t)) (opening (imageShown g t)) (opensT g t a w) [] opensBook h)
+      subst (λ z. BookT (run 0 (begins (startOf g t)) l .bench) (bench (opening (imageShown g t)) (map (eventShown z) l)) (operations 0 l (run 0 (begins (startOf g t)) l .replies) []))
+      (shape-is g t) (runBook l (begins (startOf g t)) (opening (imageShown g t)) (opensT g t a w) [] opensBook h)

@@ -2,7 +2,7 @@
 use mathlib.Core.Path.{_≡_, refl, sym, ap, subst, _∙_}
 use mathlib.Core.Bool.{true}
 use mathlib.Core.List.{List, [], map}
-use Prim.Native.Nat.{ℕ, zero, suc, _+_, _≤_, _<_}
+use Prim.Native.Nat.{ℕ, _+_, _≤_, _<_}
 use native.Mathlib.Omega.{arith}
 use lib.ListN.{getD}
 use Rattle.lists.proofs.TabLaws.{front-at}
@@ -11,11 +11,12 @@ use Rattle.image.specs.declared.Content.{Content}
 use Rattle.image.specs.declared.Image.{Image}
 use Rattle.image.specs.Layout as layout
 use Rattle.image.specs.Layout.{noContent, noContents, contentAt}
-use Rattle.image.specs.Form.{topOf}
+use Rattle.image.specs.Form.{topOf, headLines}
+use Rattle.image.specs.Refusals.{agree}
 use Rattle.machine.specs.declared.Line as memory
 use Rattle.machine.specs.declared.Line.the-variants as line
-use Rattle.machine.specs.Line.{numberOf}
-use Rattle.image.proofs.HeadLaws.{one-head, heads-at}
+use Rattle.machine.specs.Line.{shapeOf, numberOf}
+use Rattle.image.proofs.HeadLaws.{heads-at}
 use Rattle.machine.proofs.LineLaws.{LineIn}
 use Rattle.machine.specs.Start.{startOf, startAnswer, blankMachine}
 use Rattle.machine.specs.declared.Machine.{Machine}
@@ -29,7 +30,8 @@ use Rattle.lawful.specs.Plain.{queueIn}
 use Rattle.lawful.specs.Lawful.{Lawful}
 use Rattle.model.specs.Basics.{sel}
 use Rattle.model.specs.Lines.{Line, ofHead, ofNode}
-use Rattle.model.specs.Conf.{Conf, headLines, Within}
+use Rattle.model.specs.Conf as model
+use Rattle.model.specs.Conf.{Conf, Within}
 use Rattle.model.specs.Core as core
 use Rattle.model.specs.Recovery as recovery
 use Rattle.model.specs.Recovery.{imageHas}
@@ -41,6 +43,8 @@ use Rattle.model.proofs.Basics.{lt-true}
 use Rattle.model.proofs.Demand3.ThreeB.{demand3b}
 use Rattle.tied.specs.Shown.{shownContent, lineShown, confOf, imageShown, Narrow, eventShown}
 use Rattle.tied.specs.Always.{Among}
+use Rattle.tied.proofs.Engines.{lines-shown, own-agrees, own-lines}
+use Rattle.tied.proofs.Begins.{shapeAt}
 use Rattle.tied.proofs.Images.{ImageT}
 use Rattle.tied.proofs.Contents.{Small}
 use Rattle.tied.proofs.Bench.{BenchT, top-is}
@@ -51,7 +55,7 @@ use Rattle.lawproof.proofs.Books.{startBook}
 
 -- c takes for each of the bench's lines one of its contents
 abbrev pub Chosen : schedule.Bench → List Content → Type 0
-Chosen b c = (k : memory.Line) → LineIn (b .machine .n) k → Among (contentAt c (numberOf (b .machine .n) k)) (contentsOf b k)
+Chosen b c = (k : memory.Line) → LineIn (shapeOf (b .machine)) k → Among (contentAt c (numberOf (shapeOf (b .machine)) k)) (contentsOf b k)
 
 -- ---- an image chosen from the contents of a bench
 
@@ -61,31 +65,44 @@ module _ (b : schedule.Bench) (B : Bench) (r : BenchT b B) (c : List Content) (p
 
   -- as an image, here and there
   abbrev e : Image
-  e = layout.inForm (m .form) (imageOf (m .n) c)
+  e = imageOf (shapeOf m) c
 
   abbrev E : recovery.Image
   E = imageShown e (m .t)
 
-  e-head : layout.headIn e 0 ≡ contentAt c 0 .index
+  -- its head lines are the machine's
+  e-lines : headLines (layout.imageShape e) ≡ headLines (shapeOf m)
   unfolding imageOf
-  e-head = heads-at (m .n) (λ j. contentAt c j .index) 0 (omega (arith, one-head (m .n)))
+  e-lines = sym (own-lines (shapeOf m))
+
+  e-agrees : agree (m .t) (layout.imageShape e) ≡ true
+  unfolding imageOf
+  e-agrees = own-agrees (shapeOf m)
+
+  e-head : (k : ℕ) → k < headLines (shapeOf m) → layout.headIn e k ≡ contentAt c k .index
+  unfolding imageOf
+  e-head k h = heads-at (shapeOf m) (λ j. contentAt c j .index) k h
 
   e-size : e .n ≡ m .n
   unfolding imageOf
   e-size = refl
 
-  e-at : (i : ℕ) → i < m .n → contentAt (e .nodes) i ≡ contentAt c (layout.headLines (m .n) + i)
+  e-form : e .form ≡ m .form
   unfolding imageOf
-  e-at i h = front-at (λ i. contentAt c (layout.headLines (m .n) + i)) (m .n) noContents i noContent h
+  e-form = refl
+
+  e-at : (i : ℕ) → i < m .n → contentAt (e .nodes) i ≡ contentAt c (headLines (shapeOf m) + i)
+  unfolding imageOf
+  e-at i h = front-at (λ i. contentAt c (headLines (shapeOf m) + i)) (m .n) noContents i noContent h
 
   -- the content that line k has in the ending
   abbrev at : memory.Line → Content
-  at k = contentAt c (numberOf (m .n) k)
+  at k = contentAt c (numberOf (shapeOf m) k)
 
-  small : (k : memory.Line) → LineIn (m .n) k → Small (B .mach .core .conf .top) (at k)
+  small : (k : memory.Line) → LineIn (shapeOf m) k → Small (B .mach .core .conf .top) (at k)
   small k h = r .lists .lists k h (at k) (pick k h) .0
 
-  there : (k : memory.Line) → LineIn (m .n) k → Has (B .mach) (lineShown k) (shownContent (at k))
+  there : (k : memory.Line) → LineIn (shapeOf m) k → Has (B .mach) (lineShown k) (shownContent (at k))
   there k h = r .lists .lists k h (at k) (pick k h) .1
 
   E-at : (i : ℕ) → i < m .n → E .at i ≡ shownContent (contentAt (e .nodes) i)
@@ -96,24 +113,26 @@ module _ (b : schedule.Bench) (B : Bench) (r : BenchT b B) (c : List Content) (p
   unfolding imageShown imageOf
   E-conf = refl
 
-  E-head : E .heads 0 ≡ layout.headIn e 0
+  E-head : (k : ℕ) → E .heads k ≡ layout.headIn e k
   unfolding imageShown
-  E-head = refl
+  E-head k = refl
 
   small-at : (i : ℕ) → i < m .n → Small (B .mach .core .conf .top) (contentAt (e .nodes) i)
   small-at i h = subst (Small (B .mach .core .conf .top)) (sym (e-at i h)) (small (line.OfNode i) h)
 
   e-top : B .mach .core .conf .top ≡ topOf (e .form)
-  e-top = top-is _ m (B .mach .core) (r .tied)
+  e-top = top-is _ m (B .mach .core) (r .tied) ∙ ap topOf (sym e-form)
 
   pub chosenT : ImageT e (m .t) E
   chosenT = record {
-    conf = E-conf ∙ ap (λ n. confOf (m .form) n (m .t)) (sym e-size);
-    sizes = rw e-size (r .tied .sizes);
-    head = E-head;
+    conf = E-conf ∙ ap (λ f. confOf f (m .n) (m .t)) (sym e-form) ∙ ap (λ n. confOf (e .form) n (m .t)) (sym e-size);
+    sizes = rw (e-size, e-form) (r .tied .sizes);
+    agrees = e-agrees;
+    head = λ k h. E-head k;
     at = λ i h. E-at i (omega (arith, e-size));
     flag = λ i h. small-at i (omega (arith, e-size)) .0;
-    narrow-head = subst (λ x. x ≤ topOf (e .form)) (sym e-head) (omega (arith, small (line.OfHead 0) (omega (arith, one-head (m .n))) .1, e-top));
+    narrow-head = λ k h. let z : k < headLines (shapeOf m) = subst (λ x. k < x) e-lines h in
+        subst (λ x. x ≤ topOf (e .form)) (sym (e-head k z)) (omega (arith, small (line.OfHead k) z .1, e-top));
     narrow = λ i h. omega (arith, small-at i (omega (arith, e-size)) .1, e-top);
   }
 
@@ -122,11 +141,11 @@ module _ (b : schedule.Bench) (B : Bench) (r : BenchT b B) (c : List Content) (p
   is-ending = record { conf = E-conf ∙ sym (r .tied .conf); lines = has }
     where
       has : (l : Line) → Within (B .mach .core .conf) l → Has (B .mach) l (imageHas E l)
-      has (ofHead zero) h =
-          let hn = there (line.OfHead 0) (omega (arith, one-head (m .n))) in
-          subst (Has (B .mach) (ofHead 0))
-          (r .kept .all .pinv .head .plain 0 h (shownContent (contentAt c 0)) hn ∙ ap core.hd (sym (E-head ∙ e-head))) hn
-      has (ofHead (suc k)) h = let z : suc k < 1 = subst (λ (c : Conf). suc k < headLines c) (r .tied .conf) h in absurd (omega arith)
+      has (ofHead k) h =
+          let hk : k < headLines (shapeOf m) = subst (λ x. k < x) (lines-shown (m .form) (m .n) (m .t) (r .tied .sizes .form)) (subst (λ (c : Conf). k < model.headLines c) (r .tied .conf) h) in
+          let hn = there (line.OfHead k) hk in
+          subst (Has (B .mach) (ofHead k))
+          (r .kept .all .pinv .head .plain k h (shownContent (contentAt c k)) hn ∙ ap core.hd (sym (E-head k ∙ e-head k hk))) hn
       has (ofNode i) h =
           let hi : i < m .n = subst (λ (c : Conf). i < c .nodes) (r .tied .conf) h in
           subst (Has (B .mach) (ofNode i)) (sym (E-at i hi ∙ ap shownContent (e-at i hi))) (there (line.OfNode i) hi)
@@ -141,7 +160,7 @@ module _ (g : Image) (t : ℕ) (a : accepted (startAnswer g t) ≡ true) (w : Na
   G = imageShown g t
 
   abbrev M : Bench
-  M = bench (opening G) (map (eventShown (g .n)) l)
+  M = bench (opening G) (map (eventShown (shapeAt g t)) l)
 
   -- what the two benches show in the end is the same
   ends : BenchT (R .bench) M
@@ -150,12 +169,12 @@ module _ (g : Image) (t : ℕ) (a : accepted (startAnswer g t) ≡ true) (w : Na
   module _ (c : List Content) (pick : Chosen (R .bench) c) where
     -- the ending that c is
     abbrev pub left : Image
-    left = layout.inForm (R .bench .machine .form) (imageOf (R .bench .machine .n) c)
+    left = imageOf (shapeOf (R .bench .machine)) c
 
     both-halves : Fit (imageShown left (R .bench .machine .t)) × law.Lawful (M .book .op) (M .book .count) (M .first) (recovery.itemsOf (imageShown left (R .bench .machine .t)))
-    both-halves = demand3b G (fits g t a w 0 l) (tidies g t a w 0 l) (map (eventShown (g .n)) l) (run-takes g t a w 0 l all) (imageShown left (R .bench .machine .t)) (is-ending (R .bench) M ends c pick)
+    both-halves = demand3b G (fits g t a w 0 l) (tidies g t a w 0 l) (map (eventShown (shapeAt g t)) l) (run-takes g t a w 0 l all) (imageShown left (R .bench .machine .t)) (is-ending (R .bench) M ends c pick)
 
-    -- none of 4, 3, 6, 7, 8 refuses it
+    -- none of 4, 2, 3, 4, 6, 7, 8, 20 refuses it
     pub ending-starts : accepted (startAnswer left t) ≡ true
     ending-starts = subst (λ t. accepted (startAnswer left t) ≡ true) (run-threads g t a w 0 l)
         (starts-accepted left (R .bench .machine .t) (imageShown left (R .bench .machine .t)) (chosenT (R .bench) M ends c pick) (both-halves .0))

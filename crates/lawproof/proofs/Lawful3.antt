@@ -10,8 +10,8 @@ use Rattle.lists.proofs.TabLaws.{length-tab, getD-tab}
 use Rattle.answer.specs.Answers.{accepted}
 use Rattle.answer.specs.declared.Answer.{Answer}
 use Rattle.image.specs.declared.Content.{Content}
-use Rattle.image.specs.Layout.{contentAt, inForm}
-use Rattle.machine.specs.Line.{lineCount, lineAt, numberOf}
+use Rattle.image.specs.Layout.{contentAt}
+use Rattle.machine.specs.Line.{shapeOf, lineCount, lineAt, numberOf}
 use Rattle.machine.proofs.LineLaws.{number-in, line-number}
 use Rattle.schedule.specs.Layout.{scheduleIn, scheduleAnswer, eventsIn, threadsIn}
 use Rattle.schedule.specs.Run.{Bench, Ran, ran}
@@ -44,15 +44,15 @@ page-parts s = by (accepted (scheduleAnswer s)) refl (accepted (ran s .answer)) 
 pub table-chosen : (b : Bench) (k : ℕ) → k < product (tableOf b) → Chosen b (getD (choices (tableOf b)) k [])
 unfolding tableOf
 table-chosen b k h line hl =
-    let n = b .machine .n in
-    let l = numberOf n line in
-    let f : ℕ → List Content = λ l. contentsOf b (lineAt n l) in
-    subst (Among (contentAt (getD (choices (tableOf b)) k []) l)) (getD-tab f (lineCount n) l [] (number-in n line hl) ∙ ap (contentsOf b) (line-number n line hl))
-    (choice-picks (tableOf b) k h l (omega (arith, number-in n line hl, length-tab f (lineCount n))))
+    let z = shapeOf (b .machine) in
+    let l = numberOf z line in
+    let f : ℕ → List Content = λ l. contentsOf b (lineAt z l) in
+    subst (Among (contentAt (getD (choices (tableOf b)) k []) l)) (getD-tab f (lineCount z) l [] (number-in z line hl) ∙ ap (contentsOf b) (line-number z line hl))
+    (choice-picks (tableOf b) k h l (omega (arith, number-in z line hl, length-tab f (lineCount z))))
 
 -- of the schedule alone: its bytes and its events are accepted, and the choice may be any
 module _ (s : List ℕ) (bytes : Bytes s) (a : accepted (scheduleAnswer s) ≡ true) (all : accepted (ran s .answer) ≡ true) where
-  pub chosen-recovers : (c : List Content) → Chosen (ran s .bench) c → Recovers s (inForm (ran s .bench .machine .form) (imageOf (ran s .bench .machine .n) c))
+  pub chosen-recovers : (c : List Content) → Chosen (ran s .bench) c → Recovers s (imageOf (shapeOf (ran s .bench .machine)) c)
   unfolding ran scheduleIn
   chosen-recovers c pick = record {
     starts = ending-starts (scheduleIn s .image) (scheduleIn s .t) (schedule-starts s bytes a) (schedule-narrow s bytes) (eventsIn s) all c pick;

@@ -1,21 +1,22 @@
 -- An image that is fit for the abstract machine: a start accepts it, and its queue is the abstract machine's.
-use mathlib.Core.Path.{_≡_, sym, ap, ap₂, _∙_}
+use mathlib.Core.Path.{_≡_, refl, sym, ap, ap₂, subst, _∙_}
 use mathlib.Core.Bool.{Bool, true, false, not}
 use mathlib.Core.List.{map}
 use Prim.Native.Nat.{ℕ}
 use native.Mathlib.Omega.{arith}
 use lib.Dec.{ltb}
-use Rattle.lists.specs.Find.{both}
+use Rattle.lists.specs.Find.{pick, both}
 use Rattle.lists.proofs.FindLaws.{least-none}
 use Rattle.answer.specs.Answers.{check, accepted}
 use Rattle.answer.specs.declared.Answer.{Answer}
-use Rattle.answer.specs.declared.Answer.the-variants.{Taken, Mark, Nodes, Threads, Linked}
+use Rattle.answer.specs.declared.Answer.the-variants.{Taken, Threads, Linked}
 use Rattle.image.specs.declared.Image.{Image}
-use Rattle.image.specs.Form.{known}
-use Rattle.image.specs.Layout.{contentAt}
+use Rattle.image.specs.Form.{perDesk}
+use Rattle.image.specs.Layout.{contentAt, imageShape}
 use Rattle.image.specs.Recovered.{firstUnclear}
-use Rattle.image.specs.Refusals.{nodesFit, sound}
-use Rattle.machine.specs.Start.{queueOf, startOf, startAnswer, threadsFit}
+use Rattle.image.specs.Refusals.{threadsFit, sound, whole}
+use Rattle.image.proofs.ShapeLaws.{Shaped, shape-then, agree-is}
+use Rattle.machine.specs.Start.{queueOf, startOf, startAnswer}
 use Rattle.machine.proofs.StartLaws.{queue-in}
 use Rattle.lawful.specs.Plain.{queueIn}
 use Rattle.model.specs.Core as core
@@ -42,14 +43,28 @@ module _ (g : Image) (t : ℕ) (G : recovery.Image) (r : ImageT g t G) where
   unfolding sound
   is-sound f = check-no (ltb (firstUnclear g) (g .n)) (Linked (firstUnclear g)) _ all-clear (ap accepted (startable-yes g t G r f Taken))
 
-  -- none of 4, 2, 3, 6, 7, 8, 20
+  fits : threadsFit t ≡ true
+  fits = ap₂ both (le-true 1 t (r .sizes .threads-lo)) (le-true t 8 (r .sizes .threads-hi))
+
+  shaped : Shaped t (imageShape g)
+  shaped = record {
+    form = r .sizes .form;
+    nodes = ap₂ both (le-true 2 (g .n) (r .sizes .nodes-lo)) (le-true (g .n) 64 (r .sizes .nodes-hi));
+    own = by (perDesk (g .form)) refl;
+    agrees = r .agrees;
+  }
+    where
+      by : (b : Bool) → perDesk (g .form) ≡ b → pick b (threadsFit (g .t)) true ≡ true
+      by true e = subst (λ u. threadsFit u ≡ true) (sym (agree-is t (imageShape g) (r .agrees) e)) fits
+      by false e = refl
+
+  -- none of 4, 2, 3, 4, 6, 7, 8, 20
   pub starts-accepted : Fit G → accepted (startAnswer g t) ≡ true
   unfolding startAnswer
   starts-accepted f =
-      check-no (not (threadsFit t)) Threads _ (ap not (ap₂ both (le-true 1 t (r .sizes .threads-lo)) (le-true t 8 (r .sizes .threads-hi))))
-      (check-no (not (known (g .form))) Mark _ (ap not (r .sizes .form))
-      (check-no (not (nodesFit (g .n))) Nodes _ (ap not (ap₂ both (le-true 2 (g .n) (r .sizes .nodes-lo)) (le-true (g .n) 64 (r .sizes .nodes-hi))))
-      (whole-of g (is-sound f) (record { head = r .narrow-head; at = r .narrow }))))
+      check-no (not (threadsFit t)) Threads _ (ap not fits)
+      (subst (λ a. accepted a ≡ true) (sym (shape-then t (imageShape g) (whole g Taken) shaped))
+      (whole-of g (is-sound f) (record { head = r .narrow-head; at = r .narrow })))
 
   items-is : recovery.itemsOf G ≡ map (λ i. contentAt (g .nodes) i .item) (queueOf g)
   unfolding recovery.itemsOf

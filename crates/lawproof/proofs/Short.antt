@@ -29,6 +29,7 @@ use Rattle.model.proofs.Demand3.Endings.{fit}
 use Rattle.model.proofs.Demand3.ThreeB.{stays-put}
 use Rattle.model.proofs.Always.Runs.{Kept, openKept, turnKept, conf-event, conf-starts, conf-run, bench-run}
 use Rattle.tied.specs.Shown.{imageShown, Narrow, eventShown}
+use Rattle.tied.proofs.Begins.{shapeAt}
 use Rattle.tied.proofs.Statements.{fits, tidies, run-takes}
 use Rattle.lawproof.proofs.Walk.{queue-start}
 use Rattle.lawproof.proofs.Books.{BookT, startBook}
@@ -128,7 +129,7 @@ module _ (g : Image) (t : ℕ) (a : accepted (startAnswer g t) ≡ true) (w : Na
   G = imageShown g t
 
   abbrev L : List machine.Event
-  L = map (eventShown (g .n)) l
+  L = map (eventShown (shapeAt g t)) l
 
   opened-short : Short (opening G)
   opened-short = subst (λ (c : _). length (recovery.itemsOf G) < c .nodes) (sym (conf-starts G)) (items-short G (fits g t a w 0 l))

@@ -70,7 +70,7 @@ module _ (g : Image) (t : ℕ) (ok : accepted (startAnswer g t) ≡ true) where
   pub queue-start : queueIn m ≡ map (λ i. contentAt (g .nodes) i .item) (queueOf g)
   queue-start =
       ap (λ c. itemsFrom m c (m .head)) (starts.sizes-are g t .0)
-      ∙ ap (itemsFrom m (g .n)) (starts.head-is g t .0)
+      ∙ ap (itemsFrom m (g .n)) (starts.head-is g t)
       ∙ chain-items m (g .n) (dummyOf g) (queueOf g) (length-risen g (g .n)) chain
       ∙ map-among (λ i. node m i .item) (λ i. contentAt (g .nodes) i .item) (queueOf g)
       (λ i h. ap (λ (v : Node). v .item) (starts.node-is g t i (starts.queue-in g t i h .0)))

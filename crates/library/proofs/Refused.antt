@@ -19,7 +19,7 @@ use Rattle.image.specs.Refusals.{imageAnswer, writeAnswer, written}
 use Rattle.machine.specs.Line.{persisted}
 use Rattle.machine.specs.Range.{inRange}
 use Rattle.machine.specs.Saved.{saveAnswer, saved}
-use Rattle.machine.specs.Start.{threadsFit}
+use Rattle.image.specs.Refusals.{threadsFit}
 use Rattle.machine.specs.declared.Machine.{Machine}
 use Rattle.page.specs.Refusals.{endingAnswer, endingWritten}
 use Rattle.page.specs.Filled.{linesOn, linesAnswer, linesTaken, linesBytes, linesWritten}
@@ -90,14 +90,14 @@ record-stays m b h = record-by m b (ltb (length b) recordSize) h
 start-stays : (s : List ℕ) (t : ℕ) (b : List ℕ) → accepted (startAnswered s t (length b)) ≡ false → startWritten s t b ≡ b
 start-stays s t b h = threads (threadsFit t) refl
   where
-    image : threadsFit t ≡ true → (x : Bool) → accepted (imageAnswer 0 s) ≡ x → startWritten s t b ≡ b
+    image : threadsFit t ≡ true → (x : Bool) → accepted (imageAnswer t 0 s) ≡ x → startWritten s t b ≡ b
     image f false e = laws.start-image-stays s t f b e
     image f true e =
         laws.start-written s t f b e ∙ record-stays _ b (ap accepted (sym (laws.start-room s t f (length b) e)) ∙ h)
 
     threads : (x : Bool) → threadsFit t ≡ x → startWritten s t b ≡ b
     threads false e = laws.start-threads-stay s t b e
-    threads true e = image e (accepted (imageAnswer 0 s)) refl
+    threads true e = image e (accepted (imageAnswer t 0 s)) refl
 
 pub saved-stays : (m : Machine) (b : List ℕ) (x : Bool) → inRange m ≡ x → accepted (saveAnswer m (length b)) ≡ false → saved m b ≡ b
 unfolding saved saveAnswer

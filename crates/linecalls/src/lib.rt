@@ -3,12 +3,15 @@ ghost use mathlib.Core.Path.{_≡_};
 ghost use Prim.Native.Nat.{_*_, _≤_};
 ghost use lib.ListN.{length};
 ghost use Rattle.lists.specs.Tab.{over};
+ghost use Rattle.image.specs.Form.{headLines};
 ghost use Rattle.image.specs.Layout.{bodyBytes};
+ghost use Rattle.schedule.specs.Layout.{scheduleShape};
 ghost use Rattle.calls.specs.Line.{indexBytes, partsOf, roomOf, lineGiven, lineWritten};
 use answer::Answer;
 use calls::packing::packed_of;
 use image::Content;
-use machine::Machine;
+use image::Shape;
+use image::head_lines;
 
 // The indices of the first n contents.
 fn put_indices(b: &mut [u8], contents: [Content; 16], n: usize)
@@ -57,6 +60,20 @@ fn room_of(head: bool, n: usize) -> usize
     n * 13
 }
 
+// How many head lines the machine of a schedule has.
+fn head_count(s: &[u8]) -> usize
+    requires { ⌜ 18 ≤ length (now s) ⌝ }
+    ensures { λ r. ⌜ r ≡ headLines (scheduleShape (now (s .entry))) ⌝ }
+{
+    let form = codec::form_in(&s[8..]);
+    let z = Shape {
+        form,
+        n: s[13],
+        t: s[5],
+    };
+    head_lines(z)
+}
+
 // The contents of a line, the oldest first, with indices of 64 bits, into the buffer's front. The value is how many.
 pub fn line(schedule: &[u8], line: u32, buffer: &mut [u8]) -> u64
     ensures answers { λ r. ⌜ r ≡ lineGiven (now (schedule .entry)) line (length (now (buffer .entry))) ⌝ }
@@ -69,7 +86,7 @@ pub fn line(schedule: &[u8], line: u32, buffer: &mut [u8]) -> u64
     }
     let contents = r.contents;
     let count = r.count;
-    let head = (line as usize) < Machine::HEADS;
+    let head = (line as usize) < head_count(schedule);
     let room = room_of(head, count as usize);
     if buffer.len() < room {
         return packed_of(Answer::Room, 0);

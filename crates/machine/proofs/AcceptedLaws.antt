@@ -12,25 +12,19 @@ use Rattle.lists.proofs.BoolLaws.{no-way}
 use Rattle.lists.proofs.FindLaws as find
 use Rattle.answer.specs.Answers.{check, accepted}
 use Rattle.answer.specs.declared.Answer.{Answer}
-use Rattle.answer.specs.declared.Answer.the-variants.{Taken, Mark, Nodes, Threads, Linked, Twin, NoDummy}
+use Rattle.answer.specs.declared.Answer.the-variants.{Taken, Threads, Linked, Twin, NoDummy}
 use Rattle.image.specs.declared.Image.{Image}
-use Rattle.image.specs.Layout.{contentAt}
+use Rattle.image.specs.Layout.{contentAt, imageShape}
 use Rattle.image.specs.Recovered.{recoveredAt, twins, hasTwin, firstUnclear, firstTwin, dummyOf}
 use Rattle.image.specs.Form.{known}
-use Rattle.image.specs.Refusals.{nodesFit, startable, sound, whole}
+use Rattle.image.specs.Refusals.{threadsFit, shapeAnswer, startable, sound, whole}
+use Rattle.image.proofs.ShapeLaws.{Shaped, shape-is, nodes-range, threads-range}
 use Rattle.image.proofs.SoundLaws.{Fitting, whole-then, whole-is}
-use Rattle.machine.specs.Start.{threadsFit, startAnswer}
-use Rattle.machine.proofs.AnswerLaws.{answer-whole, nodes-range, threads-range}
+use Rattle.machine.specs.Start.{startAnswer}
+use Rattle.machine.proofs.AnswerLaws.{answer-whole}
 use Rattle.machine.proofs.TableLaws.{dummy-le}
 
 -- ---- the answer is Taken
-
-fronts : (a f b : Bool) (w : Answer) → accepted (check (not a) Threads (check (not f) Mark (check (not b) Nodes w))) ≡ true
-    → (a ≡ true) × (f ≡ true) × (b ≡ true) × (accepted w ≡ true)
-fronts false f b w e = no-way (sym e)
-fronts true false b w e = no-way (sym e)
-fronts true true false w e = no-way (sym e)
-fronts true true true w e = (refl, refl, refl, e)
 
 tests : (u w z : Bool) (i j : ℕ) → accepted (check u (Linked i) (check w (Twin j) (check z NoDummy Taken))) ≡ true
     → (u ≡ false) × (w ≡ false) × (z ≡ false)
@@ -40,19 +34,25 @@ tests false false true i j e = no-way (sym e)
 tests false false false i j e = (refl, refl, refl)
 
 pub passed : (g : Image) (t : ℕ) → accepted (startAnswer g t) ≡ true
-    → (threadsFit t ≡ true) × (known (g .form) ≡ true) × (nodesFit (g .n) ≡ true) × (accepted (whole g Taken) ≡ true)
+    → (threadsFit t ≡ true) × Shaped t (imageShape g) × (accepted (whole g Taken) ≡ true)
 unfolding startAnswer
-passed g t e = fronts (threadsFit t) (known (g .form)) (nodesFit (g .n)) (whole g Taken) e
+passed g t e = by (threadsFit t) refl e
+  where
+    by : (b : Bool) → threadsFit t ≡ b → accepted (check (not b) Threads (shapeAnswer t (imageShape g) (whole g Taken))) ≡ true
+        → (threadsFit t ≡ true) × Shaped t (imageShape g) × (accepted (whole g Taken) ≡ true)
+    by false f h = no-way (sym h)
+    by true f h = let r = shape-is t (imageShape g) (whole g Taken) h in (f, r .0, r .1)
 
 -- an accepted start is Taken
 pub taken-start : (g : Image) (t : ℕ) → accepted (startAnswer g t) ≡ true → startAnswer g t ≡ Taken
-taken-start g t e = let r = passed g t e in answer-whole g t (r .0) (r .1) (r .2) ∙ whole-then g Taken (r .3)
+taken-start g t e = let r = passed g t e in answer-whole g t (r .0) (r .1) ∙ whole-then g Taken (r .2)
 
 -- in the words of the refusals: T and N in range, a form that is read, no unclear linked byte, no twins, a node for the dummy, every index
 -- within the form's width
 pub record Accepted (g : Image) (t : ℕ) : Type 0 where
   pub threads : (1 ≤ t) × (t ≤ 8)
   pub form : known (g .form) ≡ true
+  pub shaped : Shaped t (imageShape g)
   pub nodes : (2 ≤ g .n) × (g .n ≤ 64)
   pub fits : Fitting g
   pub clear : (i : ℕ) → i < g .n → contentAt (g .nodes) i .linked ≤ 1
@@ -79,13 +79,14 @@ pub accepted-start : (g : Image) (t : ℕ) → accepted (startAnswer g t) ≡ tr
 unfolding sound startable
 accepted-start g t e =
     let p = passed g t e in
-    let w = whole-is g (p .3) in
+    let w = whole-is g (p .2) in
     let r = tests (ltb (firstUnclear g) (g .n)) (ltb (firstTwin g) (g .n)) (eqb (dummyOf g) (g .n)) (firstUnclear g) (firstTwin g) (w .sound) in
     let ne = eqb-false (dummyOf g) (g .n) (r .2) in
     record {
       threads = threads-range t (p .0);
-      form = p .1;
-      nodes = nodes-range (g .n) (p .2);
+      form = p .1 .form;
+      shaped = p .1;
+      nodes = nodes-range (g .n) (p .1 .nodes);
       fits = w .fits;
       clear = clear-at g (ltb-false (firstUnclear g) (g .n) (r .0));
       single = λ i j a b. twin-free g i j (no-twins g (ltb-false (firstTwin g) (g .n) (r .1)) i j a b);

@@ -6,17 +6,15 @@ use types.Run.{OneOf, miss}
 use denote.Enum.Declared.{tagOf}
 use Rattle.answer.proofs.Answer.{the-type}
 use mathlib.Core.Bool.{Bool, true, false}
-use borrow.Author.Tests.{leb-true}
-use lib.Dec.{leb}
-use Rattle.lists.proofs.BoolLaws.{both-true}
 use Rattle.answer.specs.Answers.{accepted}
 use Rattle.answer.specs.declared.Answer.{Answer}
-use Rattle.answer.specs.declared.Answer.the-variants.{Taken, Mark, Nodes, Threads}
+use Rattle.answer.specs.declared.Answer.the-variants.{Taken, Threads}
 use Rattle.image.specs.declared.Image.{Image}
-use Rattle.image.specs.Form.{known}
-use Rattle.image.specs.Refusals.{nodesFit, whole}
+use Rattle.image.specs.Layout.{imageShape}
+use Rattle.image.specs.Refusals.{threadsFit, shapeAnswer, whole}
+use Rattle.image.proofs.ShapeLaws.{Shaped, shape-then, shape-else}
 use Rattle.image.proofs.SoundLaws.{whole-then}
-use Rattle.machine.specs.Start.{startOf, blankMachine, threadsFit, startAnswer, startFrom}
+use Rattle.machine.specs.Start.{startOf, blankMachine, startAnswer, startFrom}
 use Rattle.machine.specs.Laid.{refusedStart}
 use Rattle.machine.specs.declared.Out.{Out}
 
@@ -36,17 +34,13 @@ module _ (g : Image) (t : ℕ) where
   unfolding startAnswer
   answer-threads e = rw e
 
-  pub answer-form : threadsFit t ≡ true → known (g .form) ≡ false → startAnswer g t ≡ Mark
+  pub answer-shape : threadsFit t ≡ true → (a : Answer) → shapeAnswer t (imageShape g) Taken ≡ a → accepted a ≡ false → startAnswer g t ≡ a
   unfolding startAnswer
-  answer-form e k = rw (e, k)
+  answer-shape e a h f = rw e (shape-else t (imageShape g) (whole g Taken) (ap accepted h ∙ f) ∙ h)
 
-  pub answer-nodes : threadsFit t ≡ true → known (g .form) ≡ true → nodesFit (g .n) ≡ false → startAnswer g t ≡ Nodes
+  pub answer-whole : threadsFit t ≡ true → Shaped t (imageShape g) → startAnswer g t ≡ whole g Taken
   unfolding startAnswer
-  answer-nodes e k f = rw (e, k, f)
-
-  pub answer-whole : threadsFit t ≡ true → known (g .form) ≡ true → nodesFit (g .n) ≡ true → startAnswer g t ≡ whole g Taken
-  unfolding startAnswer
-  answer-whole e k f = rw (e, k, f)
+  answer-whole e k = rw e (shape-then t (imageShape g) (whole g Taken) k)
 
 -- contents that are not taken are refused
 pub whole-refused : (g : Image) → (whole g Taken ≡ Taken → ⊥) → accepted (whole g Taken) ≡ false
@@ -62,11 +56,3 @@ keys = 1 ∷ 2 ∷ 3 ∷ 4 ∷ 5 ∷ 6 ∷ 7 ∷ 8 ∷ 9 ∷ 10 ∷ 11 ∷ 12 �
 
 pub not-taken : (a : Answer) → OneOf keys (tagOf the-type a) → a ≡ Taken → ⊥
 not-taken a h e = miss keys 0 tt (subst (λ (x : Answer). OneOf keys (tagOf the-type x)) e h)
-
--- ---- the ranges of N and T
-
-pub nodes-range : (n : ℕ) → nodesFit n ≡ true → (2 ≤ n) × (n ≤ 64)
-nodes-range n e = let b = both-true (leb 2 n) (leb n 64) e in (leb-true 2 n (b .0), leb-true n 64 (b .1))
-
-pub threads-range : (t : ℕ) → threadsFit t ≡ true → (1 ≤ t) × (t ≤ 8)
-threads-range t e = let b = both-true (leb 1 t) (leb t 8) e in (leb-true 1 t (b .0), leb-true t 8 (b .1))

@@ -12,6 +12,7 @@ use Rattle.lists.proofs.FindLaws as find
 use Rattle.answer.specs.Answers.{accepted}
 use Rattle.answer.specs.declared.Answer.the-variants.{Taken}
 use Rattle.image.specs.declared.Content.{Content}
+use Rattle.image.specs.Form.{headLines, perDesk}
 use Rattle.image.specs.Layout.{noContent, noContents, noHeads, contentAt}
 use Rattle.image.specs.Recovered.{recovered, recoveredAt, twins, hasTwin, firstUnclear, firstTwin, dummyOf}
 use Rattle.image.specs.Form.{known, topOf}
@@ -54,15 +55,15 @@ zero-dummy zero h = absurd (omega arith)
 zero-dummy (suc n) h = rw (zero-unrecovered (suc n) 0)
 
 zero-fits : (n : ℕ) → Fitting (zeroImage n)
-unfolding noHeads
+unfolding noHeads headLines
 zero-fits n = record {
-  head = omega arith;
+  head = λ k h. let z : k ≡ 0 = omega (arith, h) in rw z (omega arith);
   at = λ i h. let e = ap (λ (c : Content). c .index) (zero-at i) in omega (arith, e);
 }
 
 -- the all-zero image of 2 to 64 nodes is taken, with 1 to 8 threads
 pub zero-taken : (n t : ℕ) → 2 ≤ n → n ≤ 64 → 1 ≤ t → t ≤ 8 → startAnswer (zeroImage n) t ≡ Taken
-unfolding startAnswer whole sound startable known
+unfolding startAnswer whole sound startable known perDesk
 zero-taken n t a b c d =
     let m = zero-dummy n (omega arith) in
     rw (

@@ -9,67 +9,56 @@ use lib.Dec.{eqb, ltb}
 use borrow.Author.Tests.{lt-ltb, le-ltb, eq-eqb, ne-eqb, eqb-true}
 use Rattle.lists.specs.Find.{pick}
 use Rattle.lists.proofs.BoolLaws.{false-true}
-use Rattle.image.specs.Layout.{headLines}
-use Rattle.image.proofs.HeadLaws.{one-head}
+use Rattle.image.specs.Form.{headLines}
+use Rattle.image.specs.declared.Shape.{Shape}
 use Rattle.machine.specs.Line.{Line, ofHead, ofNode, lineCount, lineAt, numberOf, sameLine, putLine}
 
 -- ---- numbers
 
-pub line-head : (n k : ℕ) → k < headLines n → lineAt n k ≡ ofHead k
+pub line-head : (z : Shape) (k : ℕ) → k < headLines z → lineAt z k ≡ ofHead k
 unfolding lineAt
-line-head n k h = rw (lt-ltb k (headLines n) h)
+line-head z k h = rw (lt-ltb k (headLines z) h)
 
-pub line-behind : (n l : ℕ) → headLines n ≤ l → lineAt n l ≡ ofNode (l - headLines n)
+pub line-behind : (z : Shape) (l : ℕ) → headLines z ≤ l → lineAt z l ≡ ofNode (l - headLines z)
 unfolding lineAt
-line-behind n l h = rw (le-ltb l (headLines n) h)
+line-behind z l h = rw (le-ltb l (headLines z) h)
 
-pub line-node : (n i : ℕ) → lineAt n (headLines n + i) ≡ ofNode i
-line-node n i = line-behind n (headLines n + i) (omega arith) ∙ ap ofNode (omega arith)
+pub line-node : (z : Shape) (i : ℕ) → lineAt z (headLines z + i) ≡ ofNode i
+line-node z i = line-behind z (headLines z + i) (omega arith) ∙ ap ofNode (omega arith)
 
 -- a line's number is its own
-pub number-line : (n l : ℕ) → numberOf n (lineAt n l) ≡ l
-number-line n l = by (decLt l (headLines n))
+pub number-line : (z : Shape) (l : ℕ) → numberOf z (lineAt z l) ≡ l
+number-line z l = by (decLt l (headLines z))
   where
-    by : Dec (l < headLines n) → numberOf n (lineAt n l) ≡ l
-    by (yes h) = ap (numberOf n) (line-head n l h)
-    by (no h) = ap (numberOf n) (line-behind n l (omega arith)) ∙ omega arith
+    by : Dec (l < headLines z) → numberOf z (lineAt z l) ≡ l
+    by (yes h) = ap (numberOf z) (line-head z l h)
+    by (no h) = ap (numberOf z) (line-behind z l (omega arith)) ∙ omega arith
 
-pub line-one : (n i j : ℕ) → lineAt n i ≡ lineAt n j → i ≡ j
-line-one n i j e = sym (number-line n i) ∙ ap (numberOf n) e ∙ number-line n j
+pub line-one : (z : Shape) (i j : ℕ) → lineAt z i ≡ lineAt z j → i ≡ j
+line-one z i j e = sym (number-line z i) ∙ ap (numberOf z) e ∙ number-line z j
 
--- there is a head line
-pub line-zero : (n : ℕ) → lineAt n 0 ≡ ofHead 0
-line-zero n = line-head n 0 (omega (arith, one-head n))
-
--- and but one: the nodes' lines at the code's numbers
-pub line-next : (n i : ℕ) → lineAt n (i + 1) ≡ ofNode i
-line-next n i = ap (lineAt n) (omega (arith, one-head n)) ∙ line-node n i
-
-pub line-before : (n l : ℕ) → 0 < l → lineAt n l ≡ ofNode (l - 1)
-line-before n l h = ap (lineAt n) (omega arith) ∙ line-next n (l - 1)
-
-pub number-node : (n i : ℕ) (l : Line) → l ≡ ofNode i → 1 + i ≡ numberOf n l
-number-node n i l e = ap (λ h. h + i) (sym (one-head n)) ∙ sym (ap (numberOf n) e)
+pub number-node : (z : Shape) (h i : ℕ) (l : Line) → h ≡ headLines z → l ≡ ofNode i → h + i ≡ numberOf z l
+number-node z h i l e f = ap (λ k. k + i) e ∙ sym (ap (numberOf z) f)
 
 -- the lines that there are
-abbrev pub LineIn : ℕ → Line → Type 0
-LineIn n (ofHead k) = k < headLines n
-LineIn n (ofNode i) = i < n
+abbrev pub LineIn : Shape → Line → Type 0
+LineIn z (ofHead k) = k < headLines z
+LineIn z (ofNode i) = i < z .n
 
-pub line-in : (n l : ℕ) → l < lineCount n → LineIn n (lineAt n l)
-line-in n l h = by (decLt l (headLines n))
+pub line-in : (z : Shape) (l : ℕ) → l < lineCount z → LineIn z (lineAt z l)
+line-in z l h = by (decLt l (headLines z))
   where
-    by : Dec (l < headLines n) → LineIn n (lineAt n l)
-    by (yes k) = rw (line-head n l k) k
-    by (no k) = rw (line-behind n l (omega arith)) (omega arith)
+    by : Dec (l < headLines z) → LineIn z (lineAt z l)
+    by (yes k) = rw (line-head z l k) k
+    by (no k) = rw (line-behind z l (omega arith)) (omega arith)
 
-pub number-in : (n : ℕ) (l : Line) → LineIn n l → numberOf n l < lineCount n
-number-in n (ofHead k) h = omega arith
-number-in n (ofNode i) h = omega arith
+pub number-in : (z : Shape) (l : Line) → LineIn z l → numberOf z l < lineCount z
+number-in z (ofHead k) h = omega arith
+number-in z (ofNode i) h = omega arith
 
-pub line-number : (n : ℕ) (l : Line) → LineIn n l → lineAt n (numberOf n l) ≡ l
-line-number n (ofHead k) h = line-head n k h
-line-number n (ofNode i) h = line-node n i
+pub line-number : (z : Shape) (l : Line) → LineIn z l → lineAt z (numberOf z l) ≡ l
+line-number z (ofHead k) h = line-head z k h
+line-number z (ofNode i) h = line-node z i
 
 -- ---- tables
 
@@ -107,12 +96,12 @@ other-line (ofNode i) (ofHead j) ne = refl
 other-line (ofNode i) (ofNode j) ne = ne-eqb i j (λ e. ne (ap ofNode e))
 
 -- lines are one where their numbers are
-pub same-number : (n i j : ℕ) → sameLine (lineAt n i) (lineAt n j) ≡ eqb i j
-same-number n i j = by (ℕ-discrete i j)
+pub same-number : (z : Shape) (i j : ℕ) → sameLine (lineAt z i) (lineAt z j) ≡ eqb i j
+same-number z i j = by (ℕ-discrete i j)
   where
-    by : Dec (i ≡ j) → sameLine (lineAt n i) (lineAt n j) ≡ eqb i j
-    by (yes e) = rw e (same-line (lineAt n j)) ∙ sym (eq-eqb i j e)
-    by (no ne) = other-line (lineAt n i) (lineAt n j) (λ e. ne (line-one n i j e)) ∙ sym (ne-eqb i j ne)
+    by : Dec (i ≡ j) → sameLine (lineAt z i) (lineAt z j) ≡ eqb i j
+    by (yes e) = rw e (same-line (lineAt z j)) ∙ sym (eq-eqb i j e)
+    by (no ne) = other-line (lineAt z i) (lineAt z j) (λ e. ne (line-one z i j e)) ∙ sym (ne-eqb i j ne)
 
 module _ {A : Type 0} (f : Line → A) (l : Line) (a : A) where
   pub put-same : putLine f l a l ≡ a

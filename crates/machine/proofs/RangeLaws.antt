@@ -13,11 +13,13 @@ use Rattle.lists.proofs.FindLaws.{any-none}
 use Rattle.answer.specs.Answers.{accepted}
 use Rattle.image.specs.declared.Content.{Content}
 use Rattle.image.specs.declared.Image.{Image}
-use Rattle.image.specs.Form.{known, topOf}
-use Rattle.image.specs.Layout.{contentAt, headLines, headIn}
+use Rattle.image.specs.Form.{known, topOf, headLines}
+use Rattle.image.specs.Layout.{contentAt, imageShape, headIn}
 use Rattle.image.specs.Recovered.{headOf, dummyOf}
-use Rattle.image.proofs.HeadLaws.{one-head, heads-at, head-one}
+use Rattle.image.proofs.HeadLaws.{heads-at, head-within}
 use Rattle.machine.specs.Record.{none, node, kept, thread}
+use Rattle.machine.specs.Line.{shapeOf}
+use Rattle.machine.specs.Stage.{lastStep}
 use Rattle.machine.specs.Range.{isLink, sizesFit, endsFit, freeFits, nodeFits, threadFits, rangesFit, isIndex, headFits, indexFits, formFits, inRange}
 use Rattle.machine.specs.Start.{queueOf, behind, startWith, startOf, startAnswer, spare}
 use Rattle.machine.specs.Rising.{among}
@@ -98,7 +100,7 @@ module _ (g : Image) (t : ℕ) (ok : accepted (startAnswer g t) ≡ true) where
 
   thread-fits : (k : ℕ) → k < 8 → threadFits (startOf g t) k ≡ true
   unfolding threadFits
-  thread-fits k h = rw (starts.thread-is g t k h)
+  thread-fits k h = rw (starts.thread-is g t k h) (rw (le-leb 0 (lastStep (startOf g t)) (omega arith)))
 
   start-ranges : rangesFit (startOf g t) ≡ true
   unfolding rangesFit
@@ -120,25 +122,21 @@ module _ (g : Image) (t : ℕ) (ok : accepted (startAnswer g t) ≡ true) where
   -- ---- its form and its indices
 
   form-is : startOf g t .form ≡ g .form
-  unfolding startWith
-  form-is = refl
+  form-is = starts.form-is g t
 
   index : (i : ℕ) → i < g .n → node (startOf g t) i .index ≤ topOf (g .form)
   index i h = by (eqb i (dummyOf g)) (ap (λ (v : Node). v .index) (starts.node-is g t i h))
     where
       by : (b : Bool) → node (startOf g t) i .index ≡ pick b (headOf g) (contentAt (g .nodes) i .index) → node (startOf g t) i .index ≤ topOf (g .form)
-      by true e = omega (arith, e, head-one g, fit .fits .head)
+      by true e = omega (arith, e, head-within g (topOf (g .form)) (fit .fits .head))
       by false e = omega (arith, e, fit .fits .at i h)
 
   kept-index : (i : ℕ) → i < g .n → kept (startOf g t) i .index ≤ topOf (g .form)
   kept-index i h = let e = ap (λ (v : Content). v .index) (starts.kept-is g t i h) in omega (arith, e, fit .fits .at i h)
 
-  head-index : (k : ℕ) → k < headLines (g .n) → headIn g k ≤ topOf (g .form)
-  head-index k h = let z : k ≡ 0 = omega (arith, one-head (g .n)) in rw z (fit .fits .head)
-
-  head-fits : (k : ℕ) → k < headLines (g .n) → headFits (startOf g t) k ≡ true
+  head-fits : (k : ℕ) → k < headLines (imageShape g) → headFits (startOf g t) k ≡ true
   unfolding startWith headFits
-  head-fits k h = rw (heads-at (g .n) (headIn g) k h, le-leb (headIn g k) (topOf (g .form)) (head-index k h))
+  head-fits k h = rw (heads-at (imageShape g) (headIn g) k h, le-leb (headIn g k) (topOf (g .form)) (fit .fits .head k h))
 
   index-fits : (i : ℕ) → i < g .n → indexFits (startOf g t) i ≡ true
   unfolding indexFits
@@ -153,12 +151,12 @@ module _ (g : Image) (t : ℕ) (ok : accepted (startAnswer g t) ≡ true) where
   unfolding formFits
   start-form =
       let n = starts.sizes-are g t .0 in
-      let heads = any-none (λ k. not (headFits (startOf g t) k)) (headLines (startOf g t .n)) (λ k h. ap not (head-fits k (omega (arith, ap headLines n)))) in
+      let heads = any-none (λ k. not (headFits (startOf g t) k)) (headLines (shapeOf (startOf g t))) (λ k h. ap not (head-fits k (omega (arith, starts.lines-are g t (fit .shaped .agrees))))) in
       let nodes = any-none (λ i. not (indexFits (startOf g t) i)) (startOf g t .n) (λ i h. ap not (index-fits i (omega (arith, n)))) in
       let threads = any-none (λ k. not (isIndex (startOf g t) (thread (startOf g t) k .index))) (startOf g t .t) (λ k h. ap not (thread-index k (omega (arith, starts.sizes-are g t .1, fit .threads .1)))) in
       four
       (known (startOf g t .form))
-      (not (any (λ k. not (headFits (startOf g t) k)) (headLines (startOf g t .n))))
+      (not (any (λ k. not (headFits (startOf g t) k)) (headLines (shapeOf (startOf g t)))))
       (not (any (λ i. not (indexFits (startOf g t) i)) (startOf g t .n)))
       (not (any (λ k. not (isIndex (startOf g t) (thread (startOf g t) k .index))) (startOf g t .t)))
       (rw form-is (fit .form))

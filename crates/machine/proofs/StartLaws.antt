@@ -17,11 +17,16 @@ use Rattle.answer.specs.Answers.{accepted}
 use Rattle.answer.specs.declared.Answer.the-variants.{Taken}
 use Rattle.image.specs.declared.Content.{Content}
 use Rattle.image.specs.declared.Image.{Image}
-use Rattle.image.specs.Layout.{noContent, noContents, contentAt, headLines, headIn}
+use Rattle.image.specs.Form.{headLines}
+use Rattle.image.specs.Layout.{noContent, noContents, contentAt, imageShape, headIn}
 use Rattle.image.specs.Recovered.{headOf, recovered, recoveredAt, dummyOf}
-use Rattle.image.proofs.HeadLaws.{one-head, heads-at, head-one}
+use Rattle.image.proofs.HeadLaws.{heads-at}
 use Rattle.machine.specs.Record.{none, node, thread, kept, headAt, keptHead, contentOf, zeroNode, zeroThread, blankNodes, idleThread, idleThreads}
-use Rattle.machine.specs.Line.{persisted}
+use Rattle.image.specs.Form.{ownThreads}
+use Rattle.image.specs.Refusals.{agree}
+use Rattle.image.proofs.HeadLaws.{lines-same}
+use Rattle.image.proofs.ShapeLaws.{agree-is}
+use Rattle.machine.specs.Line.{shapeOf, persisted}
 use Rattle.machine.specs.Stage.{busy}
 use Rattle.machine.specs.Start.{queueOf, startHeads, startNode, startWith, startOf, startAnswer, startFrom, spare}
 use Rattle.machine.specs.Rising.{among, Rising}
@@ -45,24 +50,39 @@ module _ (g : Image) (t : ℕ) where
   kept-is i h = tabs.front-at (contentAt (g .nodes)) (g .n) noContents i noContent h
 
   -- as an image they are the one that was read, where that holds nothing from N on
-  pub persisted-is : g .n ≤ length (g .nodes) → drop (g .n) (g .nodes) ≡ drop (g .n) noContents → startHeads g ≡ g .heads → persisted (startOf g t) ≡ g
+  pub persisted-is : g .n ≤ length (g .nodes) → drop (g .n) (g .nodes) ≡ drop (g .n) noContents → startHeads g ≡ g .heads
+      → ownThreads (shapeOf (startOf g t)) ≡ g .t → persisted (startOf g t) ≡ g
   unfolding startWith front
-  persisted-is h e i =
+  persisted-is h e i o =
       let same : tab (contentAt (g .nodes)) (g .n) ≡ take (g .n) (g .nodes) = sym (tabs.take-drop-tab (g .nodes) noContent 0 (g .n) (omega arith) ∙ tabs.tab-same _ (contentAt (g .nodes)) (g .n) (λ i p. ap (contentAt (g .nodes)) (omega arith))) in
-      ap₂ (λ (x : List ℕ) (l : List Content). record { form = g .form; n = g .n; heads = x; nodes = l }) i (ap₂ (λ (a b : List Content). a ++ b) same (sym e) ∙ take-append-drop (g .n) (g .nodes))
+      rw o
+      (ap₂ (λ (x : List ℕ) (l : List Content). record { form = g .form; n = g .n; t = g .t; heads = x; nodes = l }) i (ap₂ (λ (a b : List Content). a ++ b) same (sym e) ∙ take-append-drop (g .n) (g .nodes)))
 
-  pub kept-head-is : (k : ℕ) → k < headLines (g .n) → keptHead (startOf g t) k ≡ headIn g k
+  pub kept-head-is : (k : ℕ) → k < headLines (imageShape g) → keptHead (startOf g t) k ≡ headIn g k
   unfolding startWith
-  kept-head-is k h = heads-at (g .n) (headIn g) k h
+  kept-head-is k h = heads-at (imageShape g) (headIn g) k h
 
   pub sizes-are : (startOf g t .n ≡ g .n) × (startOf g t .t ≡ t)
   unfolding startWith
   sizes-are = (refl, refl)
 
-  -- "Head points at it with the head index unchanged"
-  pub head-is : (startOf g t .head ≡ dummyOf g) × (headAt (startOf g t) 0 ≡ headOf g)
+  pub form-is : startOf g t .form ≡ g .form
   unfolding startWith
-  head-is = (refl, heads-at (g .n) (headIn g) 0 (omega (arith, one-head (g .n))) ∙ sym (head-one g))
+  form-is = refl
+
+  -- "Head points at it with the head index unchanged"; #101: "and alters none"
+  pub head-is : startOf g t .head ≡ dummyOf g
+  unfolding startWith
+  head-is = refl
+
+  pub heads-are : (k : ℕ) → k < headLines (imageShape g) → headAt (startOf g t) k ≡ headIn g k
+  unfolding startWith
+  heads-are k h = heads-at (imageShape g) (headIn g) k h
+
+  -- the lines of a start are those of its image
+  pub lines-are : agree t (imageShape g) ≡ true → headLines (shapeOf (startOf g t)) ≡ headLines (imageShape g)
+  unfolding startWith
+  lines-are a = lines-same (g .form) (g .n) t (g .n) (g .t) (λ d. sym (agree-is t (imageShape g) a d))
 
   -- "Tail is the last node"
   pub tail-is : startOf g t .tail ≡ getD (dummyOf g ∷ queueOf g) (length (queueOf g)) 0

@@ -11,12 +11,12 @@ use Rattle.answer.specs.declared.Answer.the-variants.{Taken, Kind, Number, Busy
 use Rattle.image.specs.Layout.{sameContent}
 use Rattle.image.specs.Refusals.{startable}
 use Rattle.machine.specs.Record.{thread, putThread}
-use Rattle.machine.specs.Stage.{Stage, noStep, A1, A2, A3, A4, A5, A6, A7, A8, A9, A10, A11, A12, D1, D2, D3, D4, D5, D6, D7, number, stage, busy}
-use Rattle.machine.specs.Line.{Line, lineCount, lineAt, cachedAt, persistedAt, persist, persisted}
+use Rattle.machine.specs.Stage.{Stage, noStep, A1, A2, A3, A4, A5, A6, A7, A8, A9, A10, A11, A12, D1, D2, D3, D4, D5, D6, D7, S3, S6, number, stage, busy}
+use Rattle.machine.specs.Line.{Line, shapeOf, lineCount, lineAt, cachedAt, persistedAt, persist, persisted}
 use Rattle.machine.specs.Start.{startOf}
 use Rattle.machine.specs.Retire.{out, quiet, persisting}
 use Rattle.machine.specs.Enqueue.{stepA1, stepA2, stepA3, stepA4, stepA5, stepA6, stepA7, stepA8, stepA9, stepA10, stepA11, stepA12}
-use Rattle.machine.specs.Dequeue.{stepD1, stepD2, stepD3, stepD4, stepD5, stepD6, stepD7}
+use Rattle.machine.specs.Dequeue.{stepD1, stepD2, stepD3, stepD4, stepD5, stepD6, stepD7, stepS3, stepS6}
 use Rattle.machine.specs.Range.{inRange}
 use Rattle.machine.specs.declared.Machine.{Machine}
 use Rattle.machine.specs.declared.Thread.{Thread}
@@ -42,7 +42,7 @@ abbrev pub threadTooLarge : Machine → Event → Bool
 threadTooLarge m e = leb (m .t) (e .number)
 
 abbrev pub lineTooLarge : Machine → Event → Bool
-lineTooLarge m e = leb (lineCount (m .n)) (e .number)
+lineTooLarge m e = leb (lineCount (shapeOf m)) (e .number)
 
 abbrev pub itemNotZero : Event → Bool
 itemNotZero e = not (eqb (e .item) 0)
@@ -58,7 +58,7 @@ eventAnswer p m e enqueues = check (threadTooLarge m e) (Number p) (check (busy 
 eventAnswer p m e dequeues = check (threadTooLarge m e) (Number p) (check (itemNotZero e) (NotZero p) (check (busy m (e .number)) (Busy p) Taken))
 eventAnswer p m e steps = check (threadTooLarge m e) (Number p) (check (itemNotZero e) (NotZero p) (check (not (busy m (e .number))) (Idle p) Taken))
 eventAnswer p m e writesBack =
-    check (lineTooLarge m e) (Number p) (check (itemNotZero e) (NotZero p) (check (clean m (lineAt (m .n) (e .number))) (Clean p) Taken))
+    check (lineTooLarge m e) (Number p) (check (itemNotZero e) (NotZero p) (check (clean m (lineAt (shapeOf m) (e .number))) (Clean p) Taken))
 eventAnswer p m e crashes = check (pick (eqb (e .number) 0) (itemNotZero e) true) (NotZero p) (startable (persisted m) Taken)
 
 -- ---- what is done
@@ -91,6 +91,8 @@ stepped m k D4 = stepD4 m k
 stepped m k D5 = stepD5 m k
 stepped m k D6 = stepD6 m k
 stepped m k D7 = stepD7 m k
+stepped m k S3 = stepS3 m k
+stepped m k S6 = stepS6 m k
 
 -- 1 begins an enqueue, 2 a dequeue, 3 moves the thread by one step, 4 writes back a line, 5 is a crash followed by recovery
 -- a start is no touch: it begins the moments anew
@@ -100,7 +102,7 @@ done m e enqueues = quiet Taken (begun m (e .number) (number A1) (e .item))
 done m e dequeues = quiet Taken (begun m (e .number) (number D1) 0)
 done m e steps = stepped m (e .number) (stage m (e .number))
 done m e writesBack =
-    let l = lineAt (m .n) (e .number) in
+    let l = lineAt (shapeOf m) (e .number) in
     persisting l (quiet Taken (persist m l))
 done m e crashes = quiet Taken (startOf (persisted m) (m .t))
 

@@ -3,9 +3,10 @@ use Prim.Native.Nat.{ℕ, _+_, _-_}
 use mathlib.Core.Bool.{Bool, true, false}
 use lib.Dec.{eqb, ltb}
 use Rattle.lists.specs.Find.{pick}
-use Rattle.image.specs.Layout.{headLines}
+use Rattle.image.specs.Form.{headLines, ownThreads, perDesk}
 use Rattle.image.specs.declared.Content.{Content}
 use Rattle.image.specs.declared.Image.{Image}
+use Rattle.image.specs.declared.Shape.{Shape}
 use Rattle.machine.specs.Record.{node, kept, headAt, keptHead, contentOf, putKept, putKeptHead}
 use Rattle.machine.specs.declared.Machine.{Machine}
 -- a head line or a node's line
@@ -15,19 +16,26 @@ pub use Rattle.machine.specs.declared.Line.the-variants.{OfHead as ofHea
 pub use Rattle.machine.specs.declared.Touch.{Touch}
 pub use Rattle.machine.specs.declared.Touch.the-variants.{Nothing as nothing, Store as aStore, Persist as aPersist}
 
--- ---- "Line 0 is Head, line i+1 is node i": the number of a line
+-- ---- "Line 0 is Head, line i+1 is node i"; #101: "Lines are the T thread lines, then the nodes": the number of a line, by the shape
+
+abbrev pub shapeOf : Machine → Shape
+shapeOf m = record { form = m .form; n = m .n; t = m .t }
 
 -- how many lines there are
-abbrev pub lineCount : ℕ → ℕ
-lineCount n = headLines n + n
+abbrev pub lineCount : Shape → ℕ
+lineCount z = headLines z + z .n
 
 -- the line numbered l; and back
-unfoldable pub lineAt : ℕ → ℕ → Line
-lineAt n l = pick (ltb l (headLines n)) (ofHead l) (ofNode (l - headLines n))
+unfoldable pub lineAt : Shape → ℕ → Line
+lineAt z l = pick (ltb l (headLines z)) (ofHead l) (ofNode (l - headLines z))
 
-abbrev pub numberOf : ℕ → Line → ℕ
-numberOf n (ofHead k) = k
-numberOf n (ofNode i) = headLines n + i
+abbrev pub numberOf : Shape → Line → ℕ
+numberOf z (ofHead k) = k
+numberOf z (ofNode i) = headLines z + i
+
+-- the head line that thread k persists: Head's, or its own
+abbrev pub ownHead : Machine → ℕ → ℕ
+ownHead m k = pick (perDesk (m .form)) k 0
 
 -- ---- tables over lines
 
@@ -64,4 +72,4 @@ persist m (ofNode i) = putKept m i (contentOf (node m i))
 
 -- the persisted copies, as an image
 abbrev pub persisted : Machine → Image
-persisted m = record { form = m .form; n = m .n; heads = m .«kept_heads»; nodes = m .kept }
+persisted m = record { form = m .form; n = m .n; t = ownThreads (shapeOf m); heads = m .«kept_heads»; nodes = m .kept }

@@ -3,12 +3,11 @@ use Prim.Native.Nat.{ℕ, _^_}
 use mathlib.Core.Bool.{Bool, true, false, not}
 use lib.Dec.{eqb, ltb, leb}
 use Rattle.lists.specs.Find.{pick, both, any}
-use Rattle.image.specs.Form.{known, topOf}
-use Rattle.image.specs.Layout.{headLines}
-use Rattle.image.specs.Refusals.{nodesFit}
+use Rattle.image.specs.Form.{known, topOf, headLines}
+use Rattle.image.specs.Refusals.{nodesFit, threadsFit}
 use Rattle.machine.specs.Record.{none, node, kept, headAt, keptHead, thread}
 use Rattle.machine.specs.Stage.{A12, number, lastStep, own, t, theHead, theNext, uses, stage}
-use Rattle.machine.specs.Start.{threadsFit}
+use Rattle.machine.specs.Line.{shapeOf}
 use Rattle.machine.specs.declared.Machine.{Machine}
 
 -- a node number; a node number or none
@@ -55,7 +54,7 @@ unfoldable pub threadFits : Machine → ℕ → Bool
 threadFits m k =
     let v = thread m k in
     let s = stage m k in
-    both (leb (v .step) lastStep)
+    both (leb (v .step) (lastStep m))
     (both (readFits m (uses s own) (v .node))
     (both (readFits m (uses s t) (v .tail))
     (both (readFits m (uses s theHead) (v .head))
@@ -86,7 +85,7 @@ indexFits m i = both (isIndex m (node m i .index)) (isIndex m (kept m i .index))
 unfoldable pub formFits : Machine → Bool
 formFits m =
     both (known (m .form))
-    (both (not (any (λ k. not (headFits m k)) (headLines (m .n))))
+    (both (not (any (λ k. not (headFits m k)) (headLines (shapeOf m))))
     (both (not (any (λ i. not (indexFits m i)) (m .n))) (not (any (λ k. not (isIndex m (thread m k .index))) (m .t)))))
 
 -- the whole record

@@ -100,6 +100,14 @@ putFree m x = record { form = m .form; n = m .n; t = m .t; head = m .head; heads
 abbrev pub putKeptHead : Machine → ℕ → ℕ → Machine
 putKeptHead m k x = record { form = m .form; n = m .n; t = m .t; head = m .head; heads = m .heads; tail = m .tail; free = m .free; nodes = m .nodes; «kept_heads» = set (m .«kept_heads») k x; kept = m .kept; threads = m .threads; last = m .last }
 
+-- #101: Head as a node number alone
+abbrev pub putHeadNode : Machine → ℕ → Machine
+putHeadNode m x = record { form = m .form; n = m .n; t = m .t; head = x; heads = m .heads; tail = m .tail; free = m .free; nodes = m .nodes; «kept_heads» = m .«kept_heads»; kept = m .kept; threads = m .threads; last = m .last }
+
+-- the index in head line k
+abbrev pub putHeadAt : Machine → ℕ → ℕ → Machine
+putHeadAt m k x = record { form = m .form; n = m .n; t = m .t; head = m .head; heads = set (m .heads) k x; tail = m .tail; free = m .free; nodes = m .nodes; «kept_heads» = m .«kept_heads»; kept = m .kept; threads = m .threads; last = m .last }
+
 abbrev pub putHead : Machine → ℕ → ℕ → Machine
 putHead m h x = record { form = m .form; n = m .n; t = m .t; head = h; heads = set (m .heads) 0 x; tail = m .tail; free = m .free; nodes = m .nodes; «kept_heads» = m .«kept_heads»; kept = m .kept; threads = m .threads; last = m .last }
 

@@ -24,7 +24,7 @@ pub struct Node {
     pub waits: u8,
 }
 
-// A thread: its next step (0: no operation, 1 to 12: A1 to A12, 13 to 19: D1 to D7) and what it has read.
+// A thread: its next step (0: no operation, 1 to 12: A1 to A12, 13 to 19: D1 to D7, 20 and 21: S3 and S6 of "UQP") and what it has read.
 // A node number of 255 is none.
 pub struct Thread {
     pub index: u64,
@@ -37,9 +37,9 @@ pub struct Thread {
     pub held: u8,
 }
 
-// The form of its image; N and T; Head, a node number with an index, which is that of head line 0; Tail; the free set as a word; cached and persisted copies,
-// those of the head lines apart; the threads; the node last handed out. Indices of head lines behind the first, nodes at n and beyond and threads at t and beyond
-// are not part of it.
+// The form of its image; N and T; Head, a node number with an index, which is that of head line 0 (in "UQP" a node number alone, and each thread has a head line);
+// Tail; the free set as a word; cached and persisted copies, those of the head lines apart; the threads; the node last handed out. Head lines behind those that
+// there are, nodes at n and beyond and threads at t and beyond are not part of it.
 pub struct Machine {
     pub free: u64,
     pub heads: [u64; 8],
@@ -60,12 +60,12 @@ impl Machine {
 
     pub const THREADS: usize = 8;
 
-    // Head's line, and a line for each node.
-    pub const HEADS: usize = 1;
+    // At most eight head lines, and a line for each node.
+    pub const HEADS: usize = 8;
 
     pub const LINES: usize = Machine::HEADS + Machine::NODES;
 
-    // The steps: 0 is no operation, A1 to A12 of an enqueue, D1 to D7 of a dequeue.
+    // The steps: 0 is no operation, A1 to A12 of an enqueue, D1 to D7 of a dequeue, S3 and S6 the stores before D3 and D6.
     pub const A1: u8 = 1;
 
     pub const A2: u8 = 2;
@@ -104,6 +104,10 @@ impl Machine {
 
     pub const D7: u8 = 19;
 
+    pub const S3: u8 = 20;
+
+    pub const S6: u8 = 21;
+
     // At most so many contents of a line, endings, and events of a schedule.
     pub const CONTENTS: usize = 16;
 
@@ -123,6 +127,7 @@ impl Machine {
             nodes,
             form: 1,
             n,
+            t: 0,
         };
         start_from(g, t)
     }

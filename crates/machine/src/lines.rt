@@ -1,25 +1,31 @@
 // Lines by their numbers: the head lines, then the nodes.
 use super::Line;
-use super::Machine;
+use image::Shape;
+use image::head_lines;
 ghost use mathlib.Core.Path.{_≡_};
+ghost use Prim.Native.Nat.{_≤_};
+ghost use Rattle.image.specs.Form.{headLines};
 ghost use Rattle.machine.specs.Line.{lineAt, numberOf};
 
-// The line numbered l of a machine of n nodes.
-pub fn line_at(n: u8, l: u8) -> Line
-    ensures { λ r. ⌜ r ≡ lineAt n l ⌝ }
+// The line numbered l of a machine of this shape.
+pub fn line_at(z: Shape, l: u8) -> Line
+    requires { ⌜ headLines z ≤ 255 ⌝ }
+    ensures { λ r. ⌜ r ≡ lineAt z l ⌝ }
 {
-    if (l as usize) < Machine::HEADS {
+    let lines = head_lines(z) as u8;
+    if l < lines {
         return Line::OfHead(l);
     }
-    Line::OfNode(l - 1)
+    Line::OfNode(l - lines)
 }
 
 // The number of a line.
-pub fn number_of(n: u8, l: Line) -> usize
-    ensures { λ r. ⌜ r ≡ numberOf n l ⌝ }
+pub fn number_of(z: Shape, l: Line) -> usize
+    requires { ⌜ headLines z ≤ 255 ⌝ }
+    ensures { λ r. ⌜ r ≡ numberOf z l ⌝ }
 {
     match l {
         Line::OfHead(k) => k as usize,
-        Line::OfNode(i) => Machine::HEADS + i as usize,
+        Line::OfNode(i) => head_lines(z) + i as usize,
     }
 }

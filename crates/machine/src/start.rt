@@ -13,30 +13,39 @@ use answer::Answer;
 use answer::is_taken;
 use image::Content;
 use image::Image;
+use image::Shape;
 use image::dummy_of;
 use image::fitting_of;
-use image::is_known;
-use image::largest_of;
+use image::head_lines;
+use image::head_of;
 use image::no_contents;
 use image::no_heads;
 use image::recovered_in;
+use image::shape_of;
 use image::sound_of;
+use image::threads_fit;
 ghost use mathlib.Core.Path.{_≡_};
 ghost use Prim.Native.Nat.{suc, _≤_, _<_};
 ghost use Rattle.answer.specs.Answers.{told};
-ghost use Rattle.image.specs.Refusals.{nodesFit};
-ghost use Rattle.machine.specs.Start.{queueOf, startHeads, startNode, startOf, threadsFit, startFrom};
+ghost use Rattle.image.specs.Form.{headLines};
+ghost use Rattle.image.specs.Layout.{imageShape};
+ghost use Rattle.machine.specs.Start.{queueOf, startHeads, startNode, startOf, startFrom};
 ghost use Rattle.machine.specs.Laid.{laid, refusedStart, startNodes, startKept, startFree};
 
 // Node i after a start whose dummy is d: the cached copy is read anew, the dummy's cached index becomes the head index.
 fn node_of(g: Image, d: u8, q: Queue, i: usize) -> Node
-    requires { ⌜ (g .n ≤ 64) × (i < 64) × (q ≡ laid (queueOf g)) ⌝ }
+    requires { ⌜ (g .n ≤ 64) × (headLines (imageShape g) ≤ 8) × (i < 64) × (q ≡ laid (queueOf g)) ⌝ }
     ensures { λ r. ⌜ r ≡ startNode g d (queueOf g) i ⌝ }
 {
     let v = g.nodes[i];
     let next = link_of(d, q, i);
     if i == d as usize {
-        let index = largest_of(g.heads, Machine::HEADS);
+        let z = Shape {
+            form: g.form,
+            n: g.n,
+            t: g.t,
+        };
+        let index = head_of(g.heads, z);
         return Node {
             item: v.item,
             next,
@@ -55,7 +64,7 @@ fn node_of(g: Image, d: u8, q: Queue, i: usize) -> Node
 }
 
 fn nodes_of(g: Image, d: u8, q: Queue) -> [Node; 64]
-    requires { ⌜ (g .n ≤ 64) × (q ≡ laid (queueOf g)) ⌝ }
+    requires { ⌜ (g .n ≤ 64) × (headLines (imageShape g) ≤ 8) × (q ≡ laid (queueOf g)) ⌝ }
     ensures { λ r. ⌜ r ≡ startNodes g d (queueOf g) (g .n) ⌝ }
 {
     let n = g.n as usize;
@@ -71,10 +80,21 @@ fn nodes_of(g: Image, d: u8, q: Queue) -> [Node; 64]
 
 // The indices of the head lines as read: the persisted ones stay, the cached ones are the same.
 fn heads_of(g: Image) -> [u64; 8]
+    requires { ⌜ headLines (imageShape g) ≤ 8 ⌝ }
     ensures { λ r. ⌜ r ≡ startHeads g ⌝ }
 {
+    let lines = head_lines(Shape {
+        form: g.form,
+        n: g.n,
+        t: g.t,
+    });
     let mut heads = no_heads();
-    heads[0] = g.heads[0];
+    let mut k = 0;
+    while k < lines {
+        let x = g.heads[k];
+        heads[k] = x;
+        k += 1;
+    }
     heads
 }
 
@@ -96,14 +116,19 @@ fn kept_of(g: Image) -> [Content; 64]
 
 // The free set with node i in it, where it is neither the dummy nor recovered.
 fn with_spare(g: Image, d: u8, w: u64, i: usize) -> u64
-    requires { ⌜ (i < 64) × (w ≡ startFree g d i) ⌝ }
+    requires { ⌜ (i < 64) × (headLines (imageShape g) ≤ 8) × (w ≡ startFree g d i) ⌝ }
     ensures { λ r. ⌜ r ≡ startFree g d (suc i) ⌝ }
 {
     if i == d as usize {
         return w;
     }
     let v = g.nodes[i];
-    if recovered_in(v, g.heads) {
+    let z = Shape {
+        form: g.form,
+        n: g.n,
+        t: g.t,
+    };
+    if recovered_in(v, g.heads, z) {
         return w;
     }
     let k = i as u32;
@@ -112,7 +137,7 @@ fn with_spare(g: Image, d: u8, w: u64, i: usize) -> u64
 
 // All nodes but the dummy and the recovered ones are free.
 fn free_of(g: Image, d: u8) -> u64
-    requires { ⌜ g .n ≤ 64 ⌝ }
+    requires { ⌜ (g .n ≤ 64) × (headLines (imageShape g) ≤ 8) ⌝ }
     ensures { λ r. ⌜ r ≡ startFree g d (g .n) ⌝ }
 {
     let n = g.n as usize;
@@ -128,7 +153,7 @@ fn free_of(g: Image, d: u8) -> u64
 
 // The start of an image that is sound, with T threads.
 pub fn start(g: Image, t: u8) -> Machine
-    requires { ⌜ g .n ≤ 64 ⌝ }
+    requires { ⌜ (g .n ≤ 64) × (headLines (imageShape g) ≤ 8) ⌝ }
     ensures { λ r. ⌜ r ≡ startOf g t ⌝ }
 {
     let d = dummy_of(g) as u8;
@@ -156,26 +181,6 @@ pub fn start(g: Image, t: u8) -> Machine
     }
 }
 
-// 3: N is 2 to 64.
-pub fn nodes_fit(n: u8) -> bool
-    ensures { λ r. ⌜ r ≡ nodesFit n ⌝ }
-{
-    if 2 <= n {
-        return n as usize <= Machine::NODES;
-    }
-    false
-}
-
-// 4: T is 1 to 8.
-pub fn threads_fit(t: u8) -> bool
-    ensures { λ r. ⌜ r ≡ threadsFit t ⌝ }
-{
-    if 1 <= t {
-        return t as usize <= Machine::THREADS;
-    }
-    false
-}
-
 // A refused start: its number and place, and a machine that holds nothing.
 fn refused(a: Answer) -> Out
     ensures { λ r. ⌜ r ≡ refusedStart a ⌝ }
@@ -184,7 +189,7 @@ fn refused(a: Answer) -> Out
     Out { answer: a, machine }
 }
 
-// A start from contents and T, tested for 4, 2, 3, 6, 7, 8, 20. Public: every input is answered.
+// A start from contents and T, tested for 4, 2, 3, 4, 6, 7, 8, 20. Public: every input is answered.
 pub fn start_from(g: Image, t: u8) -> Out
     ensures answered { λ r. ⌜ told (r .answer) ≡ told (startFrom g t .answer) ⌝ }
     ensures started { λ r. ⌜ r .machine ≡ startFrom g t .machine ⌝ }
@@ -192,11 +197,14 @@ pub fn start_from(g: Image, t: u8) -> Out
     if !threads_fit(t) {
         return refused(Answer::Threads);
     }
-    if !is_known(g.form) {
-        return refused(Answer::Mark);
-    }
-    if !nodes_fit(g.n) {
-        return refused(Answer::Nodes);
+    let z = Shape {
+        form: g.form,
+        n: g.n,
+        t: g.t,
+    };
+    let a = shape_of(z, t);
+    if !is_taken(a) {
+        return refused(a);
     }
     let a = sound_of(g);
     if !is_taken(a) {

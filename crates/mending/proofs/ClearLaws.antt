@@ -163,7 +163,7 @@ module _ (f : ℕ → Bool) (g : Image) where
   pub cleared-none : g .n ≤ length (g .nodes) → ((i : ℕ) → i < g .n → f i ≡ false) → cleared f g ≡ g
   unfolding cleared
   cleared-none h e =
-      ap (λ (l : List Content). record { form = g .form; n = g .n; heads = g .heads; nodes = l })
+      ap (λ (l : List Content). record { form = g .form; n = g .n; t = g .t; heads = g .heads; nodes = l })
       (tabs.front-same (λ i. unlinked (f i) (contentAt (g .nodes) i)) (λ i. contentAt (g .nodes) i) (g .n) (g .nodes) (λ i p. ap (λ b. unlinked b (contentAt (g .nodes) i)) (e i p))
       ∙ front-own noContent (g .nodes) (g .n) h)
 

@@ -327,6 +327,10 @@ module _ (g : Image) where
   mended-beyond =
       clear.cleared-beyond (spareAt g2) g2 ∙ clear.cleared-beyond (hasTwin g1) g1 ∙ clear.cleared-beyond (unclearAt g) g
 
+  pub mended-threads : mended g .t ≡ g .t
+  unfolding mended spareMended twinsMended bytesMended cleared
+  mended-threads = refl
+
   pub mended-form : mended g .form ≡ g .form
   unfolding mended spareMended twinsMended bytesMended cleared
   mended-form = refl

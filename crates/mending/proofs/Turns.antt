@@ -1,6 +1,6 @@
 -- One turn of each loop of the mender, and the parts that its list is written in. Assumes nothing.
 use Prim.Native.Nat.{ℕ, zero, suc, _+_, _*_, _≤_, _<_}
-use mathlib.Core.Path.{_≡_, refl, sym, ap, ap₂, _∙_}
+use mathlib.Core.Path.{_≡_, refl, sym, ap, ap₂, subst, _∙_}
 use mathlib.Core.Bool.{Bool, true, false, not}
 use mathlib.Core.List.{List, [], _∷_, _++_}
 use native.Mathlib.Omega.{arith}
@@ -12,8 +12,10 @@ use lib.Dec.{eqb, ltb}
 use Rattle.lists.specs.Find.{pick, both, count}
 use Rattle.lists.specs.Tab.{joined, over, front}
 use Rattle.lists.proofs.TabLaws as tabs
-use Rattle.image.specs.Bytes.{at1}
-use Rattle.image.specs.Layout.{noContent, noContents, contentAt, formIn, nodePlace, readContent, readNodes, imageIn}
+use Rattle.image.specs.Form.{nodePlace}
+use Rattle.image.specs.Layout.{noContent, noContents, contentAt, imageShape, shapeIn, readContent, readNodes, imageIn}
+use Rattle.image.specs.declared.Shape.{Shape}
+use Rattle.codec.specs.Parts.{Lies}
 use Rattle.image.specs.Recovered.{hasTwin, firstTwin, dummyOf}
 use Rattle.image.specs.declared.Content.{Content}
 use Rattle.image.specs.declared.Image.{Image}
@@ -126,18 +128,32 @@ module _ (g : Image) where
       (sym (mend.mended-beyond g))
       ∙ clear.front-own noContent (mended g .nodes) (g .n) (omega (arith, mend.mended-length g l))
 
-  pub mended-by : g .n ≤ length (g .nodes) → (l : List Content) → l ≡ nodesMended (g .n) → record { form = g .form; n = g .n; heads = g .heads; nodes = l } ≡ mended g
-  mended-by h l e = sym (λ k. record { form = mend.mended-form g k; n = mend.size3 g k; heads = mend.mended-heads g k; nodes = sym (e ∙ nodes-all h) k })
+  pub mended-by : g .n ≤ length (g .nodes) → (l : List Content) → l ≡ nodesMended (g .n) → record { form = g .form; n = g .n; t = g .t; heads = g .heads; nodes = l } ≡ mended g
+  mended-by h l e = sym (λ k. record { form = mend.mended-form g k; n = mend.size3 g k; t = mend.mended-threads g k; heads = mend.mended-heads g k; nodes = sym (e ∙ nodes-all h) k })
 
 -- ---- bytes that are an image
 
-pub form-in : (s : List ℕ) → imageIn s .form ≡ formIn s
+pub shape-own : (s : List ℕ) → imageShape (imageIn s) ≡ shapeIn s
+unfolding imageIn
+shape-own s = refl
+
+pub form-in : (s : List ℕ) → imageIn s .form ≡ shapeIn s .form
 unfolding imageIn
 form-in s = refl
 
-pub in-length : (s : List ℕ) → at1 s 5 ≤ 64 → length (imageIn s .nodes) ≡ 64
+pub nodes-in : (s : List ℕ) → imageIn s .n ≡ shapeIn s .n
+unfolding imageIn
+nodes-in s = refl
+
+pub in-length : (s : List ℕ) → shapeIn s .n ≤ 64 → length (imageIn s .nodes) ≡ 64
 unfolding imageIn readNodes noContents
-in-length s h = tabs.front-size (λ i. readContent (formIn s) s (nodePlace (formIn s) i)) (at1 s 5) noContents h
+in-length s h =
+    let z = shapeIn s in
+    tabs.front-size (λ i. readContent (z .form) s (nodePlace z i)) (z .n) noContents h
+
+-- an image of shape z that lies in the bytes
+pub lies-own : (s : List ℕ) (z : Shape) → Lies s z → Lies s (shapeIn s)
+lies-own s z l = subst (Lies s) (l .shape) l
 
 pub one-or-none : (b : Bool) → pick b 1 0 ≤ 1
 one-or-none true = omega arith

@@ -7,9 +7,9 @@ use Rattle.lists.specs.Find.{pick}
 use Rattle.lists.specs.Tab.{over}
 use Rattle.answer.specs.Answers.{check, accepted}
 use Rattle.answer.specs.declared.Answer.{Answer}
-use Rattle.answer.specs.declared.Answer.the-variants.{Taken, Room}
-use Rattle.image.specs.Bytes.{at1}
-use Rattle.image.specs.Layout.{formIn, nodePlace, imageIn, imageBytes}
+use Rattle.answer.specs.declared.Answer.the-variants.{Taken, Length, Mark, Room}
+use Rattle.image.specs.Form.{perDesk, imageSize}
+use Rattle.image.specs.Layout.{formIn, shapeIn, imageIn, imageBytes}
 use Rattle.codec.specs.Parts.{shape}
 use Rattle.mending.specs.Mended.{mended, changed, changes}
 
@@ -18,17 +18,21 @@ unfoldable pub mendBytes : List ℕ → List ℕ
 mendBytes s = imageBytes (mended (imageIn s))
 
 unfoldable pub mendList : List ℕ → List ℕ
-mendList s = changes (imageIn s) (at1 s 5)
+mendList s = changes (imageIn s) (shapeIn s .n)
 
 -- how many were changed: the list has two bytes for each
 unfoldable pub mendChanged : List ℕ → ℕ
-mendChanged s = changed (imageIn s) (at1 s 5)
+mendChanged s = changed (imageIn s) (shapeIn s .n)
 
--- "Refusals: 1, 2, 3, 1, then 17", with `room` bytes for the image and `listed` for the list
+-- "Refusals: 1, 2, 3, 1", with what follows. A mark that is none of an image with a mender is 2, "UQP" too
+unfoldable pub mendShape : List ℕ → Answer → Answer
+mendShape s rest = check (ltb (length s) 10) Length (check (perDesk (formIn s)) Mark (shape 0 0 s rest))
+
+-- "then 17", with `room` bytes for the image and `listed` for the list
 unfoldable pub mendAnswer : List ℕ → ℕ → ℕ → Answer
 mendAnswer s room listed =
-    shape 0 s
-    (check (ltb room (nodePlace (formIn s) (at1 s 5))) Room
+    mendShape s
+    (check (ltb room (imageSize (shapeIn s))) Room
     (check (ltb listed (mendChanged s * 2)) Room Taken))
 
 -- the number of changed nodes; 0 beside a refusal

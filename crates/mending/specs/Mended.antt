@@ -19,6 +19,7 @@ unfoldable pub cleared : (ℕ → Bool) → Image → Image
 cleared f g = record {
   form = g .form;
   n = g .n;
+  t = g .t;
   heads = g .heads;
   nodes = front (λ i. unlinked (f i) (contentAt (g .nodes) i)) (g .n) (g .nodes);
 }

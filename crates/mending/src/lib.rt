@@ -12,7 +12,21 @@ use answer::is_taken;
 ghost use mathlib.Core.Path.{_≡_};
 ghost use lib.ListN.{length};
 ghost use Rattle.answer.specs.Answers.{told};
-ghost use Rattle.mending.specs.Bytes.{mendAnswer, mendCount, mendWritten, listWritten};
+ghost use Rattle.answer.specs.declared.Answer.the-variants.{Taken};
+ghost use Rattle.mending.specs.Bytes.{mendShape, mendAnswer, mendCount, mendWritten, listWritten};
+
+// 1, 2, 3, 1: what is wrong with the image before its nodes are looked at. "UQP" has no mender.
+fn shape_at(s: &[u8]) -> Answer
+    ensures { λ r. ⌜ r ≡ mendShape (now (s .entry)) Taken ⌝ }
+{
+    if s.len() < 10 {
+        return Answer::Length;
+    }
+    if codec::form_in(s) == 4 {
+        return Answer::Mark;
+    }
+    codec::shape_part(s, 0, 0)
+}
 
 // What came of mending an image: how many nodes were changed, 0 beside a refusal.
 pub struct Mended {
@@ -28,7 +42,7 @@ pub fn mend_image(s: &[u8], b: &mut [u8], l: &mut [u8]) -> Mended
     ensures image { λ r. ⌜ now (b .exit) ≡ mendWritten (now (s .entry)) (now (b .entry)) (now (l .entry)) ⌝ }
     ensures list { λ r. ⌜ now (l .exit) ≡ listWritten (now (s .entry)) (now (b .entry)) (now (l .entry)) ⌝ }
 {
-    let a = codec::shape_part(s, 0);
+    let a = shape_at(s);
     if !is_taken(a) {
         return Mended {
             answer: a,
@@ -41,18 +55,19 @@ pub fn mend_image(s: &[u8], b: &mut [u8], l: &mut [u8]) -> Mended
             count: 0,
         };
     }
-    let n = s[5] as usize;
-    let spare = spare_at(s, n);
-    let count = changed_of(s, n, spare);
+    let z = codec::shape_in(s);
+    let n = z.n as usize;
+    let spare = spare_at(s, z, n);
+    let count = changed_of(s, z, n, spare);
     if l.len() < count * 2 {
         return Mended {
             answer: Answer::Room,
             count: 0,
         };
     }
-    let g = mended_of(s, n, spare);
+    let g = mended_of(s, z, n, spare);
     codec::put_image(b, g);
-    put_changes(s, n, spare, l);
+    put_changes(s, z, n, spare, l);
     Mended {
         answer: Answer::Taken,
         count: count as u8,

@@ -4,7 +4,6 @@ ghost use mathlib.Core.Bool.{not};
 ghost use Prim.Native.Nat.{_<_};
 ghost use lib.Dec.{eqb};
 ghost use Rattle.lists.specs.Find.{pick};
-ghost use Rattle.image.specs.Bytes.{at1};
 ghost use Rattle.image.specs.Layout.{imageIn};
 ghost use Rattle.image.specs.Recovered.{hasTwin};
 ghost use Rattle.codec.specs.Parts.{Lies};
@@ -15,14 +14,15 @@ use codec::sound::head_at;
 use codec::sound::index_at;
 use codec::sound::linked_at;
 use codec::sound::twins_at;
+use image::Shape;
 
 // Of nodes r and k the one with the larger index, r where the two are equal.
-fn larger_at(s: &[u8], r: usize, k: usize) -> usize
-    requires { ⌜ (r < at1 (now s) 5) × ((k < at1 (now s) 5) × Lies (now s)) ⌝ }
-    ensures { λ z. ⌜ z ≡ largerAt (imageIn (now (s .entry))) r k ⌝ }
+fn larger_at(s: &[u8], z: Shape, r: usize, k: usize) -> usize
+    requires { ⌜ (r < z .n) × ((k < z .n) × Lies (now s) z) ⌝ }
+    ensures { λ x. ⌜ x ≡ largerAt (imageIn (now (s .entry))) r k ⌝ }
 {
-    let x = index_at(s, r);
-    let y = index_at(s, k);
+    let x = index_at(s, z, r);
+    let y = index_at(s, z, k);
     if x < y {
         return k;
     }
@@ -30,43 +30,43 @@ fn larger_at(s: &[u8], r: usize, k: usize) -> usize
 }
 
 // The node with the largest index.
-fn largest_at(s: &[u8], n: usize) -> usize
-    requires { ⌜ (n ≡ at1 (now s) 5) × Lies (now s) ⌝ }
+fn largest_at(s: &[u8], z: Shape, n: usize) -> usize
+    requires { ⌜ (n ≡ z .n) × Lies (now s) z ⌝ }
     ensures { λ r. ⌜ r ≡ largestAt (imageIn (now (s .entry))) n ⌝ }
 {
     let mut r = 0;
     let mut k = 0;
     while k < n {
-        r = larger_at(s, r, k);
+        r = larger_at(s, z, r, k);
         k += 1;
     }
     r
 }
 
 // The node cleared for 8, and N where there is none.
-pub fn spare_at(s: &[u8], n: usize) -> usize
-    requires { ⌜ (n ≡ at1 (now s) 5) × Lies (now s) ⌝ }
+pub fn spare_at(s: &[u8], z: Shape, n: usize) -> usize
+    requires { ⌜ (n ≡ z .n) × Lies (now s) z ⌝ }
     ensures { λ r. ⌜ r ≡ spareOf (imageIn (now (s .entry))) ⌝ }
 {
-    let h = head_at(s);
-    if first_twin_at(s, n, h) != n {
+    let h = head_at(s, z);
+    if first_twin_at(s, z, n, h) != n {
         return n;
     }
-    if dummy_at(s, n, h) != n {
+    if dummy_at(s, z, n, h) != n {
         return n;
     }
-    largest_at(s, n)
+    largest_at(s, z, n)
 }
 
 // Node i has a lower-numbered twin.
-fn has_twin_at(s: &[u8], i: usize) -> bool
-    requires { ⌜ (i < at1 (now s) 5) × Lies (now s) ⌝ }
+fn has_twin_at(s: &[u8], z: Shape, i: usize) -> bool
+    requires { ⌜ (i < z .n) × Lies (now s) z ⌝ }
     ensures { λ r. ⌜ r ≡ hasTwin (imageIn (now (s .entry))) i ⌝ }
 {
-    let h = head_at(s);
+    let h = head_at(s, z);
     let mut j = 0;
     while j < i {
-        if twins_at(s, i, j, h) {
+        if twins_at(s, z, i, j, h) {
             return true;
         }
         j += 1;
@@ -75,14 +75,14 @@ fn has_twin_at(s: &[u8], i: usize) -> bool
 }
 
 // Why node i is changed: 6, 7 or 8; 0 where it is not.
-pub fn reason_at(s: &[u8], i: usize, spare: usize) -> u8
-    requires { ⌜ (i < at1 (now s) 5) × (Lies (now s) × (spare ≡ spareOf (imageIn (now s)))) ⌝ }
+pub fn reason_at(s: &[u8], z: Shape, i: usize, spare: usize) -> u8
+    requires { ⌜ (i < z .n) × (Lies (now s) z × (spare ≡ spareOf (imageIn (now s)))) ⌝ }
     ensures { λ r. ⌜ r ≡ reasonAt (imageIn (now (s .entry))) i ⌝ }
 {
-    if linked_at(s, i) > 1 {
+    if linked_at(s, z, i) > 1 {
         return 6;
     }
-    if has_twin_at(s, i) {
+    if has_twin_at(s, z, i) {
         return 7;
     }
     if i == spare {
@@ -101,14 +101,14 @@ fn one_where(why: u8) -> usize
 }
 
 // How many nodes are changed.
-pub fn changed_of(s: &[u8], n: usize, spare: usize) -> usize
-    requires { ⌜ (n ≡ at1 (now s) 5) × (Lies (now s) × (spare ≡ spareOf (imageIn (now s)))) ⌝ }
+pub fn changed_of(s: &[u8], z: Shape, n: usize, spare: usize) -> usize
+    requires { ⌜ (n ≡ z .n) × (Lies (now s) z × (spare ≡ spareOf (imageIn (now s)))) ⌝ }
     ensures { λ r. ⌜ r ≡ changed (imageIn (now (s .entry))) n ⌝ }
 {
     let mut count = 0;
     let mut i = 0;
     while i < n {
-        let why = reason_at(s, i, spare);
+        let why = reason_at(s, z, i, spare);
         count += one_where(why);
         i += 1;
     }

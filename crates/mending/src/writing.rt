@@ -5,13 +5,13 @@ ghost use Prim.Native.Nat.{_+_, _≤_};
 ghost use lib.Dec.{eqb};
 ghost use lib.ListN.{length};
 ghost use Rattle.lists.specs.Tab.{over};
-ghost use Rattle.image.specs.Bytes.{at1};
 ghost use Rattle.image.specs.Layout.{imageIn};
 ghost use Rattle.codec.specs.Parts.{Lies};
 ghost use Rattle.mending.specs.Mended.{unlinked, spareOf, mended, entryOf, changes};
 use crate::reasons::reason_at;
 use image::Content;
 use image::Image;
+use image::Shape;
 
 // A content with its linked flag cleared, where there is a reason.
 fn mended_content(v: Content, why: u8) -> Content
@@ -28,15 +28,15 @@ fn mended_content(v: Content, why: u8) -> Content
 }
 
 // The image with the linked flag of every node that has a reason cleared.
-pub fn mended_of(s: &[u8], n: usize, spare: usize) -> Image
-    requires { ⌜ (n ≡ at1 (now s) 5) × (Lies (now s) × (spare ≡ spareOf (imageIn (now s)))) ⌝ }
+pub fn mended_of(s: &[u8], z: Shape, n: usize, spare: usize) -> Image
+    requires { ⌜ (n ≡ z .n) × (Lies (now s) z × (spare ≡ spareOf (imageIn (now s)))) ⌝ }
     ensures { λ r. ⌜ r ≡ mended (imageIn (now (s .entry))) ⌝ }
 {
     let g = codec::image_in(s);
     let mut nodes = g.nodes;
     let mut i = 0;
     while i < n {
-        let why = reason_at(s, i, spare);
+        let why = reason_at(s, z, i, spare);
         let v = g.nodes[i];
         let w = mended_content(v, why);
         nodes[i] = w;
@@ -48,6 +48,7 @@ pub fn mended_of(s: &[u8], n: usize, spare: usize) -> Image
         nodes,
         form: g.form,
         n: g.n,
+        t: g.t,
     }
 }
 
@@ -66,14 +67,14 @@ fn put_entry(l: &mut [u8], at: usize, i: u8, why: u8) -> usize
 }
 
 // The entries of all nodes, from the front of the list.
-pub fn put_changes(s: &[u8], n: usize, spare: usize, l: &mut [u8])
-    requires { ⌜ ((n ≡ at1 (now s) 5) × (Lies (now s) × (spare ≡ spareOf (imageIn (now s))))) × (length (changes (imageIn (now s)) n) ≤ length (now l)) ⌝ }
+pub fn put_changes(s: &[u8], z: Shape, n: usize, spare: usize, l: &mut [u8])
+    requires { ⌜ ((n ≡ z .n) × (Lies (now s) z × (spare ≡ spareOf (imageIn (now s))))) × (length (changes (imageIn (now s)) n) ≤ length (now l)) ⌝ }
     ensures { λ _. ⌜ now (l .exit) ≡ over (now (l .entry)) 0 (changes (imageIn (now (s .entry))) n) ⌝ }
 {
     let mut at = 0;
     let mut i = 0;
     while i < n {
-        let why = reason_at(s, i, spare);
+        let why = reason_at(s, z, i, spare);
         at = put_entry(l, at, i as u8, why);
         i += 1;
     }

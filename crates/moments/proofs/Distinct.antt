@@ -10,15 +10,17 @@ use lib.ListN.{length, getD, drop, length-append, length-map, List·getD-append}
 use lib.Seq.{getD-at, ext-getD}
 use Rattle.lists.proofs.FindLaws as find
 use Rattle.lists.proofs.TabLaws as tabs
-use Rattle.image.specs.Layout.{noContent, noContents, contentAt, sameContent, headLines, noHeads, headIn}
+use Rattle.image.specs.Layout.{noContent, noContents, contentAt, sameContent, noHeads, headIn}
+use Rattle.image.specs.Form.{headLines}
+use Rattle.image.specs.declared.Shape.{Shape}
 use Rattle.image.specs.declared.Content.{Content}
 use Rattle.image.specs.declared.Image.{Image}
-use Rattle.machine.specs.Line.{lineCount, lineAt, headContent, cachedAt, persistedAt}
+use Rattle.machine.specs.Line.{shapeOf, lineCount, lineAt, headContent, cachedAt, persistedAt}
 use Rattle.machine.specs.declared.Line.{Line}
 use Rattle.machine.specs.declared.Line.the-variants.{OfHead as ofHead}
 use Rattle.machine.specs.declared.Machine.{Machine}
-use Rattle.image.proofs.HeadLaws.{one-head, heads-at}
-use Rattle.machine.proofs.LineLaws.{line-zero}
+use Rattle.image.proofs.HeadLaws.{heads-at}
+use Rattle.machine.proofs.LineLaws.{line-head}
 use Rattle.schedule.specs.Run.{Bench}
 use Rattle.page.specs.Contents.{joins, gathered, contentsOf, tableOf}
 use Rattle.page.specs.Endings.{choices, product, imageOf, endings}
@@ -123,58 +125,78 @@ choice-length (line ∷ rest) k p =
 
 -- ---- the images
 
--- a content of Head's line
+-- a content of a head line
 abbrev pub OfHead : Content → Type 0
 OfHead c = c ≡ headContent (c .index)
 
+-- each content of the head lines of this shape is one
+abbrev HeadsIn : Shape → List Content → Type 0
+HeadsIn z c = (k : ℕ) → k < headLines z → OfHead (contentAt c k)
+
 -- two choices that give one image are one
-pub image-injective : (n : ℕ) (c d : List Content) → length c ≡ lineCount n → length d ≡ lineCount n → OfHead (contentAt c 0) → OfHead (contentAt d 0)
-    → imageOf n c ≡ imageOf n d → c ≡ d
+pub image-injective : (z : Shape) (c d : List Content) → length c ≡ lineCount z → length d ≡ lineCount z → HeadsIn z c → HeadsIn z d
+    → imageOf z c ≡ imageOf z d → c ≡ d
 unfolding imageOf
-image-injective n c d p q g h e = ext-getD noContent c d (p ∙ sym q) (λ i r. at i (omega arith))
+image-injective z c d p q g h e = ext-getD noContent c d (p ∙ sym q) (λ i r. at i (omega arith))
   where
-    node : (i : ℕ) → i < n → contentAt c (headLines n + i) ≡ contentAt d (headLines n + i)
+    node : (i : ℕ) → i < z .n → contentAt c (headLines z + i) ≡ contentAt d (headLines z + i)
     node i r =
-        sym (tabs.front-at (λ j. contentAt c (headLines n + j)) n noContents i noContent r)
+        sym (tabs.front-at (λ j. contentAt c (headLines z + j)) (z .n) noContents i noContent r)
         ∙ ap (λ (x : Image). contentAt (x .nodes) i) e
-        ∙ tabs.front-at (λ j. contentAt d (headLines n + j)) n noContents i noContent r
+        ∙ tabs.front-at (λ j. contentAt d (headLines z + j)) (z .n) noContents i noContent r
 
-    head : (k : ℕ) → k < headLines n → contentAt c k .index ≡ contentAt d k .index
+    head : (k : ℕ) → k < headLines z → contentAt c k .index ≡ contentAt d k .index
     head k r =
-        sym (heads-at n (λ j. contentAt c j .index) k r) ∙ ap (λ (x : Image). headIn x k) e ∙ heads-at n (λ j. contentAt d j .index) k r
+        sym (heads-at z (λ j. contentAt c j .index) k r) ∙ ap (λ (x : Image). headIn x k) e ∙ heads-at z (λ j. contentAt d j .index) k r
 
-    at : (i : ℕ) → i < lineCount n → contentAt c i ≡ contentAt d i
-    at i r = by (decLt i (headLines n))
+    at : (i : ℕ) → i < lineCount z → contentAt c i ≡ contentAt d i
+    at i r = by (decLt i (headLines z))
       where
-        by : Dec (i < headLines n) → contentAt c i ≡ contentAt d i
-        by (yes p) = let z : i ≡ 0 = omega (arith, one-head n) in rw z (g ∙ ap headContent (head 0 (omega arith)) ∙ sym h)
-        by (no p) = let z : i ≡ headLines n + (i - headLines n) = omega arith in rw z (node (i - headLines n) (omega arith))
+        by : Dec (i < headLines z) → contentAt c i ≡ contentAt d i
+        by (yes p) = g i p ∙ ap headContent (head i p) ∙ sym (h i p)
+        by (no p) = let s : i ≡ headLines z + (i - headLines z) = omega arith in rw s (node (i - headLines z) (omega arith))
 
 -- what an image beyond the last ending reads as
 abbrev pub noImage : Image
-noImage = record { form = 0; n = 0; heads = noHeads; nodes = noContents }
+noImage = record { form = 0; n = 0; t = 0; heads = noHeads; nodes = noContents }
 
-module _ (n : ℕ) (line : List Content) (rest : List (List Content)) (size : length (line ∷ rest) ≡ lineCount n) (head : (j : ℕ) → j < length line → OfHead (contentAt line j)) where
-  choice-head : (k : ℕ) → k < product (line ∷ rest) → OfHead (contentAt (getD (choices (line ∷ rest)) k []) 0)
-  choice-head k p =
-      let q : k < length line * product rest = omega (arith, product-cons line rest) in
-      let pos = choices.factor-pos k (length line) (product rest) q in
-      rw (choices.choices-at line rest k q) (head (k / product rest) (div-lt-iff-lt-mul pos .1 q))
+-- a choice takes a content of each line
+pub choice-at : (P : ℕ → Content → Type 0) (lists : List (List Content)) → ((l j : ℕ) → l < length lists → j < length (getD lists l []) → P l (contentAt (getD lists l []) j))
+    → (k : ℕ) → k < product lists → (l : ℕ) → l < length lists → P l (contentAt (getD (choices lists) k []) l)
+choice-at P [] h k p l q = absurd (omega arith)
+choice-at P (line ∷ rest) h k p l q =
+    let r : k < length line * product rest = omega (arith, product-cons line rest) in
+    let pos = choices.factor-pos k (length line) (product rest) r in
+    rw (choices.choices-at line rest k r)
+    (by l q (h 0 (k / product rest) (omega arith) (div-lt-iff-lt-mul pos .1 r))
+    (choice-at (λ (x : ℕ) (c : Content). P (suc x) c) rest (λ x j u v. h (suc x) j (omega arith) v) (k % product rest) (mod-lt k pos)))
+  where
+    by : (l : ℕ) → l < suc (length rest) → P 0 (contentAt line (k / product rest))
+        → ((x : ℕ) → x < length rest → P (suc x) (contentAt (getD (choices rest) (k % product rest) []) x))
+        → P l (contentAt (contentAt line (k / product rest) ∷ getD (choices rest) (k % product rest) []) l)
+    by zero q a b = a
+    by (suc l) q a b = b l (omega arith)
 
-  pub endings-distinct : AllDistinct (line ∷ rest) → Distinct noImage (endings n (line ∷ rest))
+module _ (z : Shape) (lists : List (List Content)) (size : length lists ≡ lineCount z)
+    (head : (l j : ℕ) → l < headLines z → j < length (getD lists l []) → OfHead (contentAt (getD lists l []) j)) where
+  choice-heads : (k : ℕ) → k < product lists → HeadsIn z (getD (choices lists) k [])
+  choice-heads k p l q =
+      choice-at (λ (x : ℕ) (c : Content). x < headLines z → OfHead c) lists (λ x j u v w. head x j w v) k p l (omega arith) q
+
+  pub endings-distinct : AllDistinct lists → Distinct noImage (endings z lists)
   unfolding endings
   endings-distinct h i j p q e =
-      let all = choices (line ∷ rest) in
-      let len = choices.choices-length (line ∷ rest) in
-      let a : i < length all = omega (arith, length-map all (imageOf n)) in
-      let b : j < length all = omega (arith, length-map all (imageOf n)) in
-      choices-distinct (line ∷ rest) h i j a b
-      (image-injective n (getD all i []) (getD all j [])
-      (choice-length (line ∷ rest) i (omega arith) ∙ size)
-      (choice-length (line ∷ rest) j (omega arith) ∙ size)
-      (choice-head i (omega arith))
-      (choice-head j (omega arith))
-      (sym (blocks.getD-map-in (imageOf n) all i [] noImage a) ∙ e ∙ blocks.getD-map-in (imageOf n) all j [] noImage b))
+      let all = choices lists in
+      let len = choices.choices-length lists in
+      let a : i < length all = omega (arith, length-map all (imageOf z)) in
+      let b : j < length all = omega (arith, length-map all (imageOf z)) in
+      choices-distinct lists h i j a b
+      (image-injective z (getD all i []) (getD all j [])
+      (choice-length lists i (omega arith) ∙ size)
+      (choice-length lists j (omega arith) ∙ size)
+      (choice-heads i (omega arith))
+      (choice-heads j (omega arith))
+      (sym (blocks.getD-map-in (imageOf z) all i [] noImage a) ∙ e ∙ blocks.getD-map-in (imageOf z) all j [] noImage b))
 
 -- ---- a bench's endings
 
@@ -188,39 +210,30 @@ joins-head l c h k j p = by (decLt (seatOf l (length l) c) (length l)) (decLt j 
         let e = joined.joins-new l c (omega arith) in
         rw (e, getD-at l c [] noContent j (omega (arith, ap length e, length-append l (c ∷ [])))) k
 
-gathered-head : (seen : List Content) (ms : List Machine) → ((j : ℕ) → j < length seen → OfHead (contentAt seen j))
-    → (j : ℕ) → j < length (gathered seen (map (λ m. cachedAt m (ofHead 0)) ms)) → OfHead (contentAt (gathered seen (map (λ m. cachedAt m (ofHead 0)) ms)) j)
+gathered-head : (k : ℕ) (seen : List Content) (ms : List Machine) → ((j : ℕ) → j < length seen → OfHead (contentAt seen j))
+    → (j : ℕ) → j < length (gathered seen (map (λ m. cachedAt m (ofHead k)) ms)) → OfHead (contentAt (gathered seen (map (λ m. cachedAt m (ofHead k)) ms)) j)
 unfolding gathered
-gathered-head seen [] h = h
-gathered-head seen (m ∷ ms) h = gathered-head (joins seen (cachedAt m (ofHead 0))) ms (joins-head seen (cachedAt m (ofHead 0)) h refl)
+gathered-head k seen [] h = h
+gathered-head k seen (m ∷ ms) h = gathered-head k (joins seen (cachedAt m (ofHead k))) ms (joins-head seen (cachedAt m (ofHead k)) h refl)
 
-pub contents-head : (b : Bench) (j : ℕ) → j < length (contentsOf b (ofHead 0)) → OfHead (contentAt (contentsOf b (ofHead 0)) j)
+pub contents-head : (b : Bench) (k j : ℕ) → j < length (contentsOf b (ofHead k)) → OfHead (contentAt (contentsOf b (ofHead k)) j)
 unfolding contentsOf
-contents-head b = gathered-head (persistedAt (b .machine) (ofHead 0) ∷ []) (drop (b .from (ofHead 0)) (b .past)) only
+contents-head b k = gathered-head k (persistedAt (b .machine) (ofHead k) ∷ []) (drop (b .from (ofHead k)) (b .past)) only
   where
-    only : (j : ℕ) → j < 1 → OfHead (contentAt (persistedAt (b .machine) (ofHead 0) ∷ []) j)
+    only : (j : ℕ) → j < 1 → OfHead (contentAt (persistedAt (b .machine) (ofHead k) ∷ []) j)
     only zero p = refl
     only (suc j) p = absurd (omega arith)
 
 -- no two endings of a bench are one image
-pub bench-distinct : (b : Bench) → Distinct noImage (endings (b .machine .n) (tableOf b))
-bench-distinct b = by (tableOf b) refl
+pub bench-distinct : (b : Bench) → Distinct noImage (endings (shapeOf (b .machine)) (tableOf b))
+bench-distinct b = endings-distinct (shapeOf (b .machine)) (tableOf b) (moments.table-length b) heads-of lines
   where
-    by : (lists : List (List Content)) → tableOf b ≡ lists → Distinct noImage (endings (b .machine .n) lists)
-    by [] e = absurd (omega (arith, ap length e, one-head (b .machine .n), moments.table-length b))
-    by (line ∷ rest) e =
-        endings-distinct (b .machine .n) line rest (ap length (sym e) ∙ moments.table-length b)
-        (λ j p. first e j p)
-        (λ l p. lines e l p)
-      where
-        first : tableOf b ≡ line ∷ rest → (j : ℕ) → j < length line → OfHead (contentAt line j)
-        first e =
-            let z : line ≡ contentsOf b (ofHead 0) =
-            ap (λ k. getD k 0 []) (sym e) ∙ moments.table-at b 0 (omega (arith, one-head (b .machine .n))) ∙ ap (contentsOf b) (line-zero (b .machine .n)) in
-            subst (λ (k : List Content). (j : ℕ) → j < length k → OfHead (contentAt k j)) (sym z) (contents-head b)
+    heads-of : (l j : ℕ) → l < headLines (shapeOf (b .machine)) → j < length (getD (tableOf b) l []) → OfHead (contentAt (getD (tableOf b) l []) j)
+    heads-of l j p =
+        subst (λ (k : List Content). j < length k → OfHead (contentAt k j)) (sym (moments.table-at b l (omega arith) ∙ ap (contentsOf b) (line-head (shapeOf (b .machine)) l p)))
+        (contents-head b l j)
 
-        lines : tableOf b ≡ line ∷ rest → AllDistinct (line ∷ rest)
-        lines e l p =
-            let q : l < lineCount (b .machine .n) = omega (arith, ap length e, moments.table-length b) in
-            let z : getD (line ∷ rest) l [] ≡ contentsOf b (lineAt (b .machine .n) l) = ap (λ k. getD k l []) (sym e) ∙ moments.table-at b l q in
-            subst (λ (k : List Content). Distinct noContent k) (sym z) (contents-distinct b (lineAt (b .machine .n) l))
+    lines : AllDistinct (tableOf b)
+    lines l p =
+        subst (λ (k : List Content). Distinct noContent k) (sym (moments.table-at b l (omega (arith, moments.table-length b))))
+        (contents-distinct b (lineAt (shapeOf (b .machine)) l))

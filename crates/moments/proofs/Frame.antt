@@ -2,7 +2,6 @@
 use Prim.Native.Nat.{ℕ, zero, suc, _<_}
 use mathlib.Core.Path.{_≡_, refl, sym, ap, _∙_}
 use mathlib.Core.Bool.{Bool, true, false}
-use mathlib.Core.Logic.{_⊎_, inl, inr}
 use mathlib.Core.List.{map}
 use native.Mathlib.Omega.{arith}
 use native.Mathlib.Decide.{decLt}
@@ -10,14 +9,13 @@ use lib.ListN.{length, getD, set, List·getD-map, List·getD-eq-default}
 use lib.Seq.{getD-set-same, getD-set-other, set-out, map-set-same}
 use Rattle.lists.specs.Find.{pick}
 use Rattle.image.specs.Layout.{noContent}
-use Rattle.machine.specs.Record.{zeroNode, node, headAt, contentOf, putNode, putHead}
-use Rattle.machine.specs.Line.{lineAt, numberOf, headContent, cachedAt, persistedAt, persist}
+use Rattle.machine.specs.Record.{zeroNode, node, headAt, contentOf, putNode, putHeadAt}
+use Rattle.machine.specs.Line.{shapeOf, headContent, cachedAt, persistedAt, persist}
 use Rattle.machine.specs.declared.Line.{Line}
 use Rattle.machine.specs.declared.Line.the-variants.{OfHead as ofHead, OfNode as ofNode}
 use Rattle.machine.specs.Retire.{releasedAt, released, retired}
 use Rattle.machine.specs.declared.Machine.{Machine}
 use Rattle.machine.specs.declared.Node.{Node}
-use Rattle.machine.proofs.LineLaws.{line-node, line-zero}
 use Rattle.machine.specs.declared.Touch.{Touch}
 use Rattle.machine.specs.declared.Touch.the-variants.{Nothing as nothing, Store as aStore, Persist as aPersist}
 use Rattle.moments.specs.Frame.{Even, Frame}
@@ -25,18 +23,18 @@ use Rattle.moments.specs.Frame.{Even, Frame}
 -- ---- the same contents
 
 pub record Same (m m′ : Machine) : Type 0 where
-  pub size : m′ .n ≡ m .n
+  pub shape : shapeOf m′ ≡ shapeOf m
   pub index : m′ .heads ≡ m .heads
   pub nodes : map contentOf (m′ .nodes) ≡ map contentOf (m .nodes)
   pub head : m′ .«kept_heads» ≡ m .«kept_heads»
   pub kept : m′ .kept ≡ m .kept
 
 pub same-self : (m : Machine) → Same m m
-same-self m = record { size = refl; index = refl; nodes = refl; head = refl; kept = refl }
+same-self m = record { shape = refl; index = refl; nodes = refl; head = refl; kept = refl }
 
 pub same-then : (a b c : Machine) → Same a b → Same b c → Same a c
 same-then a b c p q = record {
-  size = q .size ∙ p .size;
+  shape = q .shape ∙ p .shape;
   index = q .index ∙ p .index;
   nodes = q .nodes ∙ p .nodes;
   head = q .head ∙ p .head;
@@ -46,7 +44,7 @@ same-then a b c p q = record {
 -- a node changed in its link or in what it waits for
 pub same-node : (m : Machine) (i : ℕ) (v : Node) → contentOf v ≡ contentOf (node m i) → Same m (putNode m i v)
 same-node m i v e = record {
-  size = refl;
+  shape = refl;
   index = refl;
   nodes = map-set-same contentOf (m .nodes) i v zeroNode e;
   head = refl;
@@ -60,7 +58,7 @@ same-pick m a b false p q = q
 pub same-released-at : (m : Machine) (k i : ℕ) → Same m (releasedAt m k i)
 unfolding releasedAt
 same-released-at m k i = record {
-  size = refl;
+  shape = refl;
   index = refl;
   nodes = map-set-same contentOf (m .nodes) i _ zeroNode refl;
   head = refl;
@@ -75,7 +73,7 @@ same-released m k (suc c) = same-then m (released m k c) (releasedAt (released m
 pub same-retired : (m : Machine) (k x : ℕ) → Same m (retired m k x)
 unfolding retired
 same-retired m k x = record {
-  size = refl;
+  shape = refl;
   index = refl;
   nodes = map-set-same contentOf (m .nodes) x _ zeroNode refl;
   head = refl;
@@ -95,76 +93,60 @@ module _ (m m′ : Machine) (s : Same m m′) where
   -- an event that touches no line
   pub frame-same : Frame m m′ nothing
   frame-same = record {
-    size = s .size;
+    shape = s .shape;
     cached = λ l p. same-cached l;
     kept = λ l p. same-persisted l;
     present = λ l p. absurd p;
-    numbered = λ l p. untouched p;
   }
-    where
-      untouched : {A : Type 0} → ⊥ ⊎ ⊥ → A
-      untouched (inl p) = absurd p
-      untouched (inr p) = absurd p
 
 -- what follows without touching a line
 pub frame-then : (m a b : Machine) (w : Touch) → Frame m a w → Same a b → Frame m b w
 frame-then m a b w f s = record {
-  size = s .size ∙ f .size;
+  shape = s .shape ∙ f .shape;
   cached = λ l p. same-cached a b s l ∙ f .cached l p;
   kept = λ l p. same-persisted a b s l ∙ f .kept l p;
   present = λ l p. same-persisted a b s l ∙ f .present l p ∙ sym (same-cached a b s l);
-  numbered = f .numbered;
 }
 
 -- ---- one store
 
 pub frame-node : (m : Machine) (i : ℕ) (v : Node) → Frame m (putNode m i v) (aStore (ofNode i))
 frame-node m i v = record {
-  size = refl;
+  shape = refl;
   cached = λ l p. at l p;
   kept = λ l p. stays l;
   present = λ l p. absurd p;
-  numbered = λ l p. one l p;
 }
   where
-    one : (l : Line) → (l ≡ ofNode i) ⊎ ⊥ → lineAt (m .n) (numberOf (m .n) l) ≡ l
-    one l (inl e) = ap (λ x. lineAt (m .n) (numberOf (m .n) x)) e ∙ line-node (m .n) i ∙ sym e
-    one l (inr p) = absurd p
-
     at : (l : Line) → (l ≡ ofNode i → ⊥) → cachedAt (putNode m i v) l ≡ cachedAt m l
     at (ofHead k) ne = refl
     at (ofNode j) ne = ap contentOf (getD-set-other (m .nodes) i j v zeroNode (λ e. ne (ap ofNode e)))
 
     stays : (l : Line) → persistedAt (putNode m i v) l ≡ persistedAt m l
-    stays (ofHead k) = refl
+    stays (ofHead j) = refl
     stays (ofNode j) = refl
 
-pub frame-head : (m : Machine) (h x : ℕ) → Frame m (putHead m h x) (aStore (ofHead 0))
-frame-head m h x = record {
-  size = refl;
+pub frame-head : (m : Machine) (k x : ℕ) → Frame m (putHeadAt m k x) (aStore (ofHead k))
+frame-head m k x = record {
+  shape = refl;
   cached = λ l p. at l p;
   kept = λ l p. stays l;
   present = λ l p. absurd p;
-  numbered = λ l p. one l p;
 }
   where
-    one : (l : Line) → (l ≡ ofHead 0) ⊎ ⊥ → lineAt (m .n) (numberOf (m .n) l) ≡ l
-    one l (inl e) = ap (λ x. lineAt (m .n) (numberOf (m .n) x)) e ∙ line-zero (m .n) ∙ sym e
-    one l (inr p) = absurd p
-
-    at : (l : Line) → (l ≡ ofHead 0 → ⊥) → cachedAt (putHead m h x) l ≡ cachedAt m l
-    at (ofHead k) ne = ap headContent (getD-set-other (m .heads) 0 k x 0 (λ e. ne (ap ofHead e)))
+    at : (l : Line) → (l ≡ ofHead k → ⊥) → cachedAt (putHeadAt m k x) l ≡ cachedAt m l
+    at (ofHead j) ne = ap headContent (getD-set-other (m .heads) k j x 0 (λ e. ne (ap ofHead e)))
     at (ofNode j) ne = refl
 
-    stays : (l : Line) → persistedAt (putHead m h x) l ≡ persistedAt m l
-    stays (ofHead k) = refl
+    stays : (l : Line) → persistedAt (putHeadAt m k x) l ≡ persistedAt m l
+    stays (ofHead j) = refl
     stays (ofNode j) = refl
 
 -- ---- one persist
 
-pub persist-size : (m : Machine) (l : Line) → persist m l .n ≡ m .n
-persist-size m (ofHead k) = refl
-persist-size m (ofNode i) = refl
+pub persist-shape : (m : Machine) (l : Line) → shapeOf (persist m l) ≡ shapeOf m
+persist-shape m (ofHead k) = refl
+persist-shape m (ofNode i) = refl
 
 -- every cached copy stays
 pub persist-cached : (m : Machine) (l j : Line) → cachedAt (persist m l) j ≡ cachedAt m j
@@ -201,15 +183,10 @@ persist-present : (m : Machine) (l : Line) → Even m → persistedAt (persist m
 persist-present m (ofHead k) e = ap headContent (put-kept-head m k (e .1))
 persist-present m (ofNode i) e = put-kept m i (e .0)
 
-pub frame-persist : (m : Machine) (l : Line) → lineAt (m .n) (numberOf (m .n) l) ≡ l → Even m → Frame m (persist m l) (aPersist l)
-frame-persist m l is e = record {
-  size = persist-size m l;
+pub frame-persist : (m : Machine) (l : Line) → Even m → Frame m (persist m l) (aPersist l)
+frame-persist m l e = record {
+  shape = persist-shape m l;
   cached = λ j p. persist-cached m l j;
   kept = λ j p. persist-other m l j p;
   present = λ j p. rw p (persist-present m l e);
-  numbered = λ j p. one j p;
 }
-  where
-    one : (j : Line) → ⊥ ⊎ (j ≡ l) → lineAt (m .n) (numberOf (m .n) j) ≡ j
-    one j (inl p) = absurd p
-    one j (inr p) = rw p is

@@ -7,7 +7,7 @@ use lib.ListN.{length, getD, drop, length-append}
 use lib.Seq.{drop-append-le, drop-append-seam}
 use Rattle.lists.proofs.TabLaws as tabs
 use Rattle.image.specs.declared.Content.{Content}
-use Rattle.machine.specs.Line.{lineCount, lineAt, cachedAt, persistedAt}
+use Rattle.machine.specs.Line.{shapeOf, lineCount, lineAt, cachedAt, persistedAt}
 use Rattle.machine.specs.declared.Line.{Line}
 use Rattle.machine.specs.declared.Machine.{Machine}
 use Rattle.machine.proofs.LineLaws.{put-same, put-other, put-ind}
@@ -95,10 +95,10 @@ contents-kept b t m w l ne p e = contents-joined b t m w l ne p ∙ ap (joins (c
 
 -- ---- the table of lists
 
-pub table-length : (b : Bench) → length (tableOf b) ≡ lineCount (b .machine .n)
+pub table-length : (b : Bench) → length (tableOf b) ≡ lineCount (shapeOf (b .machine))
 unfolding tableOf
-table-length b = tabs.length-tab (λ l. contentsOf b (lineAt (b .machine .n) l)) (lineCount (b .machine .n))
+table-length b = tabs.length-tab (λ l. contentsOf b (lineAt (shapeOf (b .machine)) l)) (lineCount (shapeOf (b .machine)))
 
-pub table-at : (b : Bench) (l : ℕ) → l < lineCount (b .machine .n) → getD (tableOf b) l [] ≡ contentsOf b (lineAt (b .machine .n) l)
+pub table-at : (b : Bench) (l : ℕ) → l < lineCount (shapeOf (b .machine)) → getD (tableOf b) l [] ≡ contentsOf b (lineAt (shapeOf (b .machine)) l)
 unfolding tableOf
-table-at b l h = tabs.getD-tab (λ l. contentsOf b (lineAt (b .machine .n) l)) (lineCount (b .machine .n)) l [] h
+table-at b l h = tabs.getD-tab (λ l. contentsOf b (lineAt (shapeOf (b .machine)) l)) (lineCount (shapeOf (b .machine))) l [] h

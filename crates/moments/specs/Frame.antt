@@ -1,9 +1,8 @@
 -- What an event leaves alone: all contents but those of the line that it touches.
 use Prim.Native.Nat.{ℕ}
 use mathlib.Core.Path.{_≡_}
-use mathlib.Core.Logic.{_⊎_}
 use lib.ListN.{length}
-use Rattle.machine.specs.Line.{lineAt, numberOf, cachedAt, persistedAt}
+use Rattle.machine.specs.Line.{shapeOf, cachedAt, persistedAt}
 use Rattle.machine.specs.declared.Line.{Line}
 use Rattle.machine.specs.declared.Touch.{Touch}
 use Rattle.machine.specs.declared.Touch.the-variants.{Nothing as nothing, Store as aStore, Persist as aPersist}
@@ -26,10 +25,9 @@ abbrev pub Even : Machine → Type 0
 Even m = (length (m .kept) ≡ length (m .nodes)) × (length (m .«kept_heads») ≡ length (m .heads))
 
 -- m′ is m after an event that touched w: only a line that was stored to has another cached content, only a line that was persisted
--- another persisted one, and that is its present cached content; a line that is touched is the one of its number
+-- another persisted one, and that is its present cached content
 pub record Frame (m m′ : Machine) (w : Touch) : Type 0 where
-  pub size : m′ .n ≡ m .n
+  pub shape : shapeOf m′ ≡ shapeOf m
   pub cached : (l : Line) → (StoresTo w l → ⊥) → cachedAt m′ l ≡ cachedAt m l
   pub kept : (l : Line) → (Persists w l → ⊥) → persistedAt m′ l ≡ persistedAt m l
   pub present : (l : Line) → Persists w l → persistedAt m′ l ≡ cachedAt m′ l
-  pub numbered : (l : Line) → StoresTo w l ⊎ Persists w l → lineAt (m .n) (numberOf (m .n) l) ≡ l

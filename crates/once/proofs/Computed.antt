@@ -8,8 +8,8 @@ use Rattle.lists.specs.Tab.{tab, joined, over, front}
 use Rattle.lists.specs.Word.{has, with, without, wordOf}
 use Rattle.answer.specs.declared.Answer.{Answer}
 use Rattle.answer.specs.declared.Answer.the-variants.{Done, Full, WornOut, Item, Empty}
-use Rattle.image.specs.Form.{topOf, widthOf}
-use Rattle.image.specs.Layout.{noContents, noHeads, headLines, headsOf}
+use Rattle.image.specs.Form.{topOf, widthOf, headLines, ownThreads, perDesk}
+use Rattle.image.specs.Layout.{noContents, noHeads, headsOf}
 use Rattle.image.specs.Recovered.{largest, headOf, recovered, twins, hasTwin, firstTwin, dummyOf}
 use Rattle.image.specs.Refusals.{startable}
 use Rattle.machine.specs.Record.{blankNodes, idleThreads}
@@ -18,30 +18,36 @@ use Rattle.machine.specs.Start.{insert, risen, behind, lastOf, startWith, fresh
 use Rattle.machine.specs.Retire.{nextFree, releasedAt, released, others, retired}
 use Rattle.machine.specs.Event.{eventAt}
 use Rattle.once.specs.Once.{touchOf, Answered, answeredBy, Once, Each}
-use Rattle.once.specs.Instances.{enqueue, stepping, four, worn, by0, twice, never}
+use Rattle.once.specs.Instances.{enqueue, stepping, four, fourDesks, desks, worn, by0, twice, never}
 
 abbrev says : ℕ → Answer → ℕ → Answered
 says p a x = record { event = p; thread = 0; answer = a; persists = x }
 
 -- Done 1, an item 1, Full 0, Empty 1; the first of them before a crash
 pub four-computed : by0 touchOf (freshOf 2 1) four ≡ says 11 Done 1 ∷ says 19 (Item 7) 1 ∷ says 21 Full 0 ∷ says 25 Empty 1 ∷ []
-unfolding answeredBy least around any count tab joined over front has with without wordOf noContents noHeads headLines headsOf largest headOf recovered twins hasTwin firstTwin dummyOf
+unfolding answeredBy least around any count tab joined over front has with without wordOf noContents noHeads headLines ownThreads perDesk headsOf largest headOf recovered twins hasTwin firstTwin dummyOf
     startable blankNodes idleThreads lineAt insert risen behind lastOf startWith nextFree releasedAt released others retired topOf widthOf eventAt
 four-computed = refl
 
+-- the same where each thread has a head line: the store before the persist does not count
+pub desks-computed : by0 touchOf desks fourDesks ≡ says 11 Done 1 ∷ says 20 (Item 7) 1 ∷ says 22 Full 0 ∷ says 27 Empty 1 ∷ []
+unfolding answeredBy least around any count tab joined over front has with without wordOf noContents noHeads headLines ownThreads perDesk headsOf largest headOf recovered twins hasTwin firstTwin dummyOf
+    startable blankNodes idleThreads lineAt insert risen behind lastOf startWith nextFree releasedAt released others retired topOf widthOf eventAt
+desks-computed = refl
+
 -- Worn out 0
 pub worn-computed : by0 touchOf worn (enqueue 7 ∷ stepping 7) ≡ says 7 WornOut 0 ∷ []
-unfolding answeredBy least around any count tab joined over front has with without wordOf noContents noHeads headLines headsOf largest headOf recovered twins hasTwin firstTwin dummyOf
+unfolding answeredBy least around any count tab joined over front has with without wordOf noContents noHeads headLines ownThreads perDesk headsOf largest headOf recovered twins hasTwin firstTwin dummyOf
     startable blankNodes idleThreads lineAt insert risen behind lastOf startWith nextFree releasedAt released others retired topOf widthOf eventAt
 worn-computed = refl
 
 twice-computed : by0 twice (freshOf 2 1) (enqueue 7 ∷ stepping 11) ≡ says 11 Done 2 ∷ []
-unfolding answeredBy least around any count tab joined over front has with without wordOf noContents noHeads headLines headsOf largest headOf recovered twins hasTwin firstTwin dummyOf
+unfolding answeredBy least around any count tab joined over front has with without wordOf noContents noHeads headLines ownThreads perDesk headsOf largest headOf recovered twins hasTwin firstTwin dummyOf
     startable blankNodes idleThreads lineAt insert risen behind lastOf startWith nextFree releasedAt released others retired topOf widthOf eventAt
 twice-computed = refl
 
 never-computed : by0 never (freshOf 2 1) (enqueue 7 ∷ stepping 11) ≡ says 11 Done 0 ∷ []
-unfolding answeredBy least around any count tab joined over front has with without wordOf noContents noHeads headLines headsOf largest headOf recovered twins hasTwin firstTwin dummyOf
+unfolding answeredBy least around any count tab joined over front has with without wordOf noContents noHeads headLines ownThreads perDesk headsOf largest headOf recovered twins hasTwin firstTwin dummyOf
     startable blankNodes idleThreads lineAt insert risen behind lastOf startWith nextFree releasedAt released others retired topOf widthOf eventAt
 never-computed = refl
 

@@ -18,7 +18,7 @@ use Rattle.answer.specs.declared.Answer.the-variants.{Taken}
 use Rattle.image.specs.declared.Image.{Image}
 use Rattle.machine.specs.Record.{thread, zeroThread, idleThread, idleThreads, putThread}
 use Rattle.machine.specs.Stage.{Stage, noStep, A1, D1, stageOf, number, stage}
-use Rattle.machine.specs.Line.{lineAt, persist, persisted}
+use Rattle.machine.specs.Line.{shapeOf, lineAt, persist, persisted}
 use Rattle.machine.specs.declared.Line.{Line}
 use Rattle.machine.specs.declared.Line.the-variants.{OfHead as ofHead, OfNode as ofNode}
 use Rattle.machine.specs.Start.{startOf, startWith}
@@ -118,10 +118,10 @@ counted m e c unknown i = (λ z. false-true z, λ u. by-thread m (e .number) u (
 counted m e c enqueues i = (λ z. false-true z, begins-counted m (e .number) (started m (e .number) 1 (e .item)) c A1 refl refl i)
 counted m e c dequeues i = (λ z. false-true z, begins-counted m (e .number) (started m (e .number) 13 0) c D1 refl refl i)
 counted m e c steps i = let r = step-counted m (e .number) c i in (r .0 .0, r .1)
-counted m e c writesBack i = (λ z. false-true z, λ u. by-thread (persist m (lineAt (m .n) (e .number))) (e .number) u (c u) (c u) (λ _. same u) (λ _. same u))
+counted m e c writesBack i = (λ z. false-true z, λ u. by-thread (persist m (lineAt (shapeOf m) (e .number))) (e .number) u (c u) (c u) (λ _. same u) (λ _. same u))
   where
-    same : (u : ℕ) → Agrees (stage (persist m (lineAt (m .n) (e .number))) u) (c u)
-    same u = stage-same m (persist m (lineAt (m .n) (e .number))) u (c u) (ap (λ (ts : List Thread). getD ts u zeroThread) (persist-threads m (lineAt (m .n) (e .number)))) (i u)
+    same : (u : ℕ) → Agrees (stage (persist m (lineAt (shapeOf m) (e .number))) u) (c u)
+    same u = stage-same m (persist m (lineAt (shapeOf m) (e .number))) u (c u) (ap (λ (ts : List Thread). getD ts u zeroThread) (persist-threads m (lineAt (shapeOf m) (e .number)))) (i u)
 counted m e c crashes i =
     (λ z. false-true z, λ u. by-thread (startOf (persisted m) (m .t)) (e .number) u (c u) (c u) (λ _. inl (start-idle (persisted m) (m .t) u)) (λ _. inl (start-idle (persisted m) (m .t) u)))
 

@@ -13,10 +13,10 @@ use Rattle.lists.specs.Find.{pick, both}
 use Rattle.lists.proofs.BoolLaws.{false-true}
 use Rattle.answer.specs.declared.Answer.{Answer}
 use Rattle.answer.specs.declared.Answer.the-variants.{Taken, Done, Full, WornOut, Item, Empty}
-use Rattle.image.specs.Form.{topOf}
-use Rattle.machine.specs.Record.{none, node, headAt, thread, zeroThread, atStep, idleThread, ownNode, readTail, readHead, readNext, readItem, withItem, withNext, withLinked, withIndex, putNode, putTail, putHead, putThread}
-use Rattle.machine.specs.Stage.{Stage, noStep, A1, A2, A3, A4, A5, A6, A7, A8, A9, A10, A11, A12, D1, D2, D3, D4, D5, D6, D7, stageOf, number, stage}
-use Rattle.machine.specs.Line.{persist}
+use Rattle.image.specs.Form.{topOf, perDesk}
+use Rattle.machine.specs.Record.{none, node, headAt, thread, zeroThread, atStep, idleThread, ownNode, readTail, readHead, readNext, readItem, withItem, withNext, withLinked, withIndex, putNode, putTail, putHead, putHeadNode, putHeadAt, putThread}
+use Rattle.machine.specs.Stage.{Stage, noStep, A1, A2, A3, A4, A5, A6, A7, A8, A9, A10, A11, A12, D1, D2, D3, D4, D5, D6, D7, S3, S6, stageOf, number, stage}
+use Rattle.machine.specs.Line.{ownHead, persist}
 use Rattle.machine.specs.declared.Line.the-variants.{OfHead as ofHead, OfNode as ofNode}
 use Rattle.machine.specs.Retire.{quiet, storing, persisting, moving, going, answering, nextFree, handOut, freed, releasedAt, released, retired, retiredHeld}
 use Rattle.machine.specs.Event.{stepped}
@@ -50,6 +50,8 @@ sofar D4 = 0
 sofar D5 = 0
 sofar D6 = 0
 sofar D7 = 1
+sofar S3 = 0
+sofar S6 = 0
 
 -- x is the count of a thread that stands at s; of a thread without an operation nothing is said
 abbrev pub Agrees : Stage → ℕ → Type 0
@@ -143,22 +145,35 @@ step-own m k x A12 e h q = by (eqb (m .tail) (thread m k .tail))
     by : (b : Bool) → Goes (going (pick b (putTail m (node m (thread m k .tail) .next)) m) k (number A5)) x k
     by true = moves (putTail m (node m (thread m k .tail) .next)) k (atStep (thread m k) 5) nothing x A5 h refl (omega (arith, q))
     by false = moves m k (atStep (thread m k) 5) nothing x A5 h refl (omega (arith, q))
-step-own m k x D1 e h q = moves m k (atStep (readHead (thread m k) (m .head) (headAt m 0)) 14) nothing x D2 h refl (omega (arith, q))
-step-own m k x D2 e h q = by (eqb (node m (thread m k .head) .next) none)
+step-own m k x D1 e h q = moves m k (atStep (readHead (thread m k) (m .head) (pick (perDesk (m .form)) 0 (headAt m 0))) 14) nothing x D2 h refl (omega (arith, q))
+step-own m k x D2 e h q = by (eqb (node m (thread m k .head) .next) none) (perDesk (m .form))
   where
-    by : (b : Bool) → Goes (moving m k (readNext (thread m k) (node m (thread m k .head) .next)) (pick b (number D3) (number D4))) x k
-    by true = moves m k (atStep (readNext (thread m k) (node m (thread m k .head) .next)) 15) nothing x D3 h refl (omega (arith, q))
-    by false = moves m k (atStep (readNext (thread m k) (node m (thread m k .head) .next)) 16) nothing x D4 h refl (omega (arith, q))
-step-own m k x D3 e h q = leaves Empty (released (persist m (ofHead 0)) k (m .n)) k (thread m k .held) (aPersist (ofHead 0)) x (omega (arith, q))
+    by : (b d : Bool) → Goes (moving m k (readNext (thread m k) (node m (thread m k .head) .next)) (pick b (pick d (number S3) (number D3)) (number D4))) x k
+    by true true = moves m k (atStep (readNext (thread m k) (node m (thread m k .head) .next)) 20) nothing x S3 h refl (omega (arith, q))
+    by true false = moves m k (atStep (readNext (thread m k) (node m (thread m k .head) .next)) 15) nothing x D3 h refl (omega (arith, q))
+    by false d = moves m k (atStep (readNext (thread m k) (node m (thread m k .head) .next)) 16) nothing x D4 h refl (omega (arith, q))
+step-own m k x D3 e h q =
+    let l = ofHead (ownHead m k) in
+    leaves Empty (released (persist m l) k (m .n)) k (thread m k .held) (aPersist l) x (omega (arith, q))
 step-own m k x D4 e h q =
     let y = thread m k .next in
-    pick-goes (both (eqb (m .head) (thread m k .head)) (eqb (headAt m 0) (thread m k .index)))
-    (storing (ofHead 0) (going (putHead m y (node m y .index)) k (number D5))) (going m k (number D1)) x k
-    (moves (putHead m y (node m y .index)) k (atStep (thread m k) 17) (aStore (ofHead 0)) x D5 h refl (omega (arith, q)))
+    let d = perDesk (m .form) in
+    let desk = going (putHeadNode m y) k (number D5) in
+    let pair = storing (ofHead 0) (going (putHead m y (node m y .index)) k (number D5)) in
+    pick-goes (both (eqb (m .head) (thread m k .head)) (pick d true (eqb (headAt m 0) (thread m k .index)))) (pick d desk pair) (going m k (number D1)) x k
+    (pick-goes d desk pair x k
+    (moves (putHeadNode m y) k (atStep (thread m k) 17) nothing x D5 h refl (omega (arith, q)))
+    (moves (putHead m y (node m y .index)) k (atStep (thread m k) 17) (aStore (ofHead 0)) x D5 h refl (omega (arith, q))))
     (moves m k (atStep (thread m k) 13) nothing x D1 h refl (omega (arith, q)))
-step-own m k x D5 e h q = moves m k (atStep (readItem (thread m k) (node m (thread m k .next) .item)) 18) nothing x D6 h refl (omega (arith, q))
-step-own m k x D6 e h q = moves (persist m (ofHead 0)) k (atStep (thread m k) 19) (aPersist (ofHead 0)) x D7 h refl (omega (arith, q))
+step-own m k x D5 e h q = by (perDesk (m .form))
+  where
+    by : (d : Bool) → Goes (moving m k (readItem (thread m k) (node m (thread m k .next) .item)) (pick d (number S6) (number D6))) x k
+    by true = moves m k (atStep (readItem (thread m k) (node m (thread m k .next) .item)) 21) nothing x S6 h refl (omega (arith, q))
+    by false = moves m k (atStep (readItem (thread m k) (node m (thread m k .next) .item)) 18) nothing x D6 h refl (omega (arith, q))
+step-own m k x D6 e h q = let l = ofHead (ownHead m k) in moves (persist m l) k (atStep (thread m k) 19) (aPersist l) x D7 h refl (omega (arith, q))
 step-own m k x D7 e h q = leaves (Item (thread m k .item)) (released (retiredHeld m k) k (retiredHeld m k .n)) k (thread m k .head) nothing x (omega (arith, q))
+step-own m k x S3 e h q = moves (putHeadAt m k (node m (thread m k .head) .index)) k (atStep (thread m k) 15) (aStore (ofHead k)) x D3 h refl (omega (arith, q))
+step-own m k x S6 e h q = moves (putHeadAt m k (node m (thread m k .next) .index)) k (atStep (thread m k) 18) (aStore (ofHead k)) x D6 h refl (omega (arith, q))
 
 -- ---- a step and the other threads
 
@@ -223,13 +238,18 @@ step-spares m k A12 = by (eqb (m .tail) (thread m k .tail))
     by false = inr (_, refl)
 step-spares m k D1 = inr (_, refl)
 step-spares m k D2 = inr (_, refl)
-step-spares m k D3 = left-spares m (persist m (ofHead 0)) k (m .n) (thread m k .held) refl
+step-spares m k D3 = left-spares m (persist m (ofHead (ownHead m k))) k (m .n) (thread m k .held) refl
 step-spares m k D4 =
     let y = thread m k .next in
-    pick-spares m k (both (eqb (m .head) (thread m k .head)) (eqb (headAt m 0) (thread m k .index))) (storing (ofHead 0) (going (putHead m y (node m y .index)) k (number D5))) (going m k (number D1))
-    (inr (_, refl)) (inr (_, refl))
+    let d = perDesk (m .form) in
+    let desk = going (putHeadNode m y) k (number D5) in
+    let pair = storing (ofHead 0) (going (putHead m y (node m y .index)) k (number D5)) in
+    pick-spares m k (both (eqb (m .head) (thread m k .head)) (pick d true (eqb (headAt m 0) (thread m k .index)))) (pick d desk pair) (going m k (number D1))
+    (pick-spares m k d desk pair (inr (_, refl)) (inr (_, refl))) (inr (_, refl))
 step-spares m k D5 = inr (_, refl)
 step-spares m k D6 = inr (_, refl)
 step-spares m k D7 =
     left-spares m (retiredHeld m k) k (retiredHeld m k .n) (thread m k .head)
     (pick-threads m (eqb (thread m k .held) none) m (retired m k (thread m k .held)) refl (retired-threads m k (thread m k .held)))
+step-spares m k S3 = inr (_, refl)
+step-spares m k S6 = inr (_, refl)

@@ -34,9 +34,16 @@ crash = record { kind = 5; number = 0; item = 0 }
 abbrev pub four : List Event
 four = enqueue 7 ∷ stepping 11 ++ (crash ∷ dequeue ∷ stepping 6 ++ (enqueue 8 ∷ stepping 1 ++ (dequeue ∷ stepping 3)))
 
+-- the same on the machine of #101, where each thread has a head line: a dequeue has a step more
+abbrev pub fourDesks : List Event
+fourDesks = enqueue 7 ∷ stepping 11 ++ (crash ∷ dequeue ∷ stepping 7 ++ (enqueue 8 ∷ stepping 1 ++ (dequeue ∷ stepping 4)))
+
+abbrev pub desks : Machine
+desks = startOf (record { form = 4; n = 2; t = 1; heads = noHeads; nodes = noContents }) 1
+
 -- the largest head index: an enqueue wears out
 abbrev pub worn : Machine
-worn = startOf (record { form = 1; n = 2; heads = set noHeads 0 (topOf 1); nodes = noContents }) 1
+worn = startOf (record { form = 1; n = 2; t = 0; heads = set noHeads 0 (topOf 1); nodes = noContents }) 1
 
 abbrev pub by0 : (ℕ → Machine → Event → Touch) → Machine → List Event → List Answered
 by0 touches m l = answeredBy touches 0 m (λ k. 0) l

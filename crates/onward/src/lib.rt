@@ -6,6 +6,7 @@ ghost use Rattle.answer.specs.Answers.{accepted};
 ghost use Rattle.schedule.specs.Layout.{scheduleIn, scheduleAnswer};
 ghost use Rattle.schedule.specs.Running.{Reached, openedRun, forwardRun};
 use answer::Answer;
+use image::Shape;
 use machine::Event;
 use machine::Touch;
 use schedule::Running;
@@ -42,7 +43,13 @@ pub fn forward(s: &[u8], g: Running) -> Running
     ensures { λ r. ⌜ r ≡ forwardRun (now (s .entry)) g ⌝ }
 {
     let i = g.place;
-    let event = codec::event_at(s, g.form, g.n as usize, i);
+    let t = s[5];
+    let z = Shape {
+        form: g.form,
+        n: g.n,
+        t,
+    };
+    let event = codec::event_at(s, z, i);
     let m = g.machine;
     let out = events::act(i as u32, m, event);
     let answer = out.answer;

@@ -6,7 +6,7 @@ use lib.ListN.{drop}
 use Rattle.lists.specs.Tab.{tab}
 use Rattle.image.specs.Layout.{sameContent}
 use Rattle.image.specs.declared.Content.{Content}
-use Rattle.machine.specs.Line.{lineCount, lineAt, cachedAt, persistedAt}
+use Rattle.machine.specs.Line.{shapeOf, lineCount, lineAt, cachedAt, persistedAt}
 use Rattle.machine.specs.declared.Line.{Line}
 use Rattle.machine.specs.declared.Machine.{Machine}
 use Rattle.schedule.specs.Run.{Bench}
@@ -28,4 +28,4 @@ contentsOf b l =
 
 -- the contents of each line, line 0 first
 unfoldable pub tableOf : Bench → List (List Content)
-tableOf b = tab (λ l. contentsOf b (lineAt (b .machine .n) l)) (lineCount (b .machine .n))
+tableOf b = tab (λ l. contentsOf b (lineAt (shapeOf (b .machine)) l)) (lineCount (shapeOf (b .machine)))

@@ -6,6 +6,8 @@ use Rattle.lists.specs.Tab.{front}
 use Rattle.image.specs.Layout.{noContent, noContents, contentAt, headsOf}
 use Rattle.image.specs.declared.Content.{Content}
 use Rattle.image.specs.declared.Image.{Image}
+use Rattle.image.specs.declared.Shape.{Shape}
+use Rattle.image.specs.Form.{ownThreads}
 use Rattle.machine.specs.Line.{numberOf}
 use Rattle.machine.specs.declared.Line.the-variants.{OfHead as ofHead, OfNode as ofNode}
 
@@ -23,19 +25,20 @@ unfoldable pub product : List (List Content) → ℕ
 product [] = 1
 product (line ∷ rest) = length line * product rest
 
--- a choice as an image of n nodes, in the first form: each content where its line is
-unfoldable pub imageOf : ℕ → List Content → Image
-imageOf n c = record {
-  form = 1;
-  n = n;
-  heads = headsOf n (λ k. contentAt c (numberOf n (ofHead k)) .index);
-  nodes = front (λ i. contentAt c (numberOf n (ofNode i))) n noContents;
+-- a choice as an image of shape z: each content where its line is; "endings keep the start image's form"
+unfoldable pub imageOf : Shape → List Content → Image
+imageOf z c = record {
+  form = z .form;
+  n = z .n;
+  t = ownThreads z;
+  heads = headsOf z (λ k. contentAt c (numberOf z (ofHead k)) .index);
+  nodes = front (λ i. contentAt c (numberOf z (ofNode i))) (z .n) noContents;
 }
 
 -- the endings, numbered from 0
-unfoldable pub endings : ℕ → List (List Content) → List Image
-endings n table = map (imageOf n) (choices table)
+unfoldable pub endings : Shape → List (List Content) → List Image
+endings z table = map (imageOf z) (choices table)
 
 -- ending number k
-unfoldable pub ending : ℕ → List (List Content) → ℕ → Image
-ending n table k = imageOf n (getD (choices table) k [])
+unfoldable pub ending : Shape → List (List Content) → ℕ → Image
+ending z table k = imageOf z (getD (choices table) k [])

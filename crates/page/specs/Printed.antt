@@ -9,7 +9,7 @@ use Rattle.image.specs.Layout.{contentAt}
 use Rattle.image.specs.Recovered.{headOf}
 use Rattle.image.specs.declared.Image.{Image}
 use Rattle.machine.specs.Start.{queueOf}
-use Rattle.schedule.specs.Layout.{threadsIn, nodesIn, countIn}
+use Rattle.schedule.specs.Layout.{threadsIn, nodesIn, countIn, scheduleShape}
 use Rattle.schedule.specs.Run.{Ran, Bench, ran}
 use Rattle.page.specs.Endings.{endings}
 use Rattle.page.specs.Refusals.{tableIn, pageAnswer, endingCount}
@@ -30,7 +30,7 @@ abbrev pub itemsText : List ℕ → List ℕ
 itemsText [] = text " -"
 itemsText (v ∷ l) = spaced (v ∷ l)
 
--- "Each other line gives ending number, head index, and the recovered items in order"
+-- "Each other line gives ending number, head index, and the recovered items in order"; #101: "the printed head index is the largest"
 unfoldable pub endingLine : ℕ → Image → List ℕ
 endingLine k g = decimal k ++ text " " ++ decimal (headOf g) ++ itemsText (itemsOf g) ++ newline
 
@@ -50,6 +50,6 @@ refusedLine a = text "refused " ++ decimal (told a .number) ++ text " at " ++ de
 
 unfoldable pub printed : List ℕ → List ℕ
 printed s = elim (accepted (pageAnswer s)) [
-  | true ↦ firstLine (threadsIn s) (nodesIn s) (countIn s) (endingCount s) ++ linesFrom 0 (endings (nodesIn s) (tableIn s))
+  | true ↦ firstLine (threadsIn s) (nodesIn s) (countIn s) (endingCount s) ++ linesFrom 0 (endings (scheduleShape s) (tableIn s))
   | false ↦ refusedLine (pageAnswer s)
 ]

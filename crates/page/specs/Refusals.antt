@@ -9,9 +9,11 @@ use Rattle.lists.specs.Tab.{over}
 use Rattle.answer.specs.Answers.{check, accepted}
 use Rattle.answer.specs.declared.Answer.{Answer}
 use Rattle.answer.specs.declared.Answer.the-variants.{Taken, Contents, Endings, NoEnding, Room}
-use Rattle.image.specs.Layout.{inForm, nodePlace, imageBytes}
+use Rattle.image.specs.Form.{imageSize}
+use Rattle.image.specs.Layout.{imageBytes}
 use Rattle.image.specs.declared.Content.{Content}
 use Rattle.image.specs.declared.Image.{Image}
+use Rattle.machine.specs.Line.{shapeOf}
 use Rattle.schedule.specs.Layout.{scheduleAnswer}
 use Rattle.schedule.specs.Run.{Bench, Ran, ran}
 use Rattle.page.specs.Contents.{tableOf}
@@ -46,14 +48,14 @@ pageAnswer s = elim (accepted (scheduleAnswer s)) [
 unfoldable pub endingCount : List ℕ → ℕ
 endingCount s = product (tableIn s)
 
--- "endings keep the start image's form"
+-- ending number k, in the shape that the machine has
 unfoldable pub endingIn : List ℕ → ℕ → Image
-endingIn s k = inForm (ran s .bench .machine .form) (ending (ran s .bench .machine .n) (tableIn s) k)
+endingIn s k = ending (shapeOf (ran s .bench .machine)) (tableIn s) k
 
 -- one ending, into a lent buffer of `room` bytes: then 16, 17
 unfoldable pub endingAnswer : List ℕ → ℕ → ℕ → Answer
 endingAnswer s k room = elim (accepted (pageAnswer s)) [
-  | true ↦ check (leb (endingCount s) k) NoEnding (check (ltb room (nodePlace (ran s .bench .machine .form) (ran s .bench .machine .n))) Room Taken)
+  | true ↦ check (leb (endingCount s) k) NoEnding (check (ltb room (imageSize (shapeOf (ran s .bench .machine)))) Room Taken)
   | false ↦ pageAnswer s
 ]
 

@@ -11,10 +11,10 @@ use Rattle.answer.specs.Answers.{check}
 use Rattle.answer.specs.declared.Answer.the-variants.{Taken, Done, Number, NotZero, Clean}
 use Rattle.image.specs.declared.Content.{Content}
 use Rattle.image.specs.Layout.{sameContent}
-use Rattle.image.specs.Form.{topOf}
+use Rattle.image.specs.Form.{topOf, perDesk}
 use Rattle.machine.specs.Record.{none, node, headAt, thread, contentOf, putTail, putThread, idleThread}
-use Rattle.machine.specs.Stage.{Stage, noStep, A1, A2, A3, A4, A5, A6, A7, A8, A9, A10, A11, A12, D1, D2, D3, D4, D5, D6, D7, stage}
-use Rattle.machine.specs.Line.{lineAt, persist, cachedAt, persistedAt}
+use Rattle.machine.specs.Stage.{Stage, noStep, A1, A2, A3, A4, A5, A6, A7, A8, A9, A10, A11, A12, D1, D2, D3, D4, D5, D6, D7, S3, S6, stage}
+use Rattle.machine.specs.Line.{shapeOf, lineAt, ownHead, persist, cachedAt, persistedAt}
 use Rattle.machine.specs.declared.Line.{Line}
 use Rattle.machine.specs.declared.Line.the-variants.{OfHead as ofHead, OfNode as ofNode}
 use Rattle.machine.specs.Retire.{going, answering, left, freed, releasedAt, released, retired, retiredHeld, nextFree, others}
@@ -128,13 +128,18 @@ module _ (m : Machine) (h : List ℕ) (c : List Content) (k : ℕ) where
       tailed false = quiet _ _ _ _ refl
   alike-step D1 = quiet _ _ _ _ refl
   alike-step D2 = quiet _ _ _ _ refl
-  alike-step D3 = record { answer = refl; machine = record { heads = set h 0 (headAt m 0); copies = c; is = keep-left (persist m (ofHead 0)) (set h 0 (headAt m 0)) c k (thread m k .held) }; touch = refl }
+  alike-step D3 =
+      let o = ownHead m k in
+      record { answer = refl; machine = record { heads = set h o (headAt m o); copies = c; is = keep-left (persist m (ofHead o)) (set h o (headAt m o)) c k (thread m k .held) }; touch = refl }
   alike-step D4 =
-      pick-out (both (eqb (m .head) (thread m k .head)) (eqb (headAt m 0) (thread m k .index))) _ _ _ _ (quiet _ _ _ _ refl) (quiet _ _ _ _ refl)
+      pick-out (both (eqb (m .head) (thread m k .head)) (pick (perDesk (m .form)) true (eqb (headAt m 0) (thread m k .index)))) _ _ _ _
+      (pick-out (perDesk (m .form)) _ _ _ _ (quiet _ _ _ _ refl) (quiet _ _ _ _ refl)) (quiet _ _ _ _ refl)
   alike-step D5 = quiet _ _ _ _ refl
-  alike-step D6 = record { answer = refl; machine = record { heads = set h 0 (headAt m 0); copies = c; is = refl }; touch = refl }
+  alike-step D6 = record { answer = refl; machine = record { heads = set h (ownHead m k) (headAt m (ownHead m k)); copies = c; is = refl }; touch = refl }
   alike-step D7 = quiet _ _ _ _
       (ap (λ (x : Machine). left x k (thread m k .head)) (keep-retired-held m h c k) ∙ keep-left (retiredHeld m k) h c k (thread m k .head))
+  alike-step S3 = quiet _ _ _ _ refl
+  alike-step S6 = quiet _ _ _ _ refl
 
 -- ---- the events
 
@@ -143,7 +148,7 @@ keep-done m h c e unknown ne = record { answer = refl; machine = record { heads 
 keep-done m h c e enqueues ne = record { answer = refl; machine = record { heads = h; copies = c; is = refl }; touch = refl }
 keep-done m h c e dequeues ne = record { answer = refl; machine = record { heads = h; copies = c; is = refl }; touch = refl }
 keep-done m h c e steps ne = alike-step m h c (e .number) (stage m (e .number))
-keep-done m h c e writesBack ne = record { answer = refl; machine = alike-persist m h c (lineAt (m .n) (e .number)); touch = refl }
+keep-done m h c e writesBack ne = record { answer = refl; machine = alike-persist m h c (lineAt (shapeOf m) (e .number)); touch = refl }
 keep-done m h c e crashes ne = absurd (ne refl)
 
 pub alike-done : (m m′ : Machine) → Alike m m′ → (e : Event) (d : Deed) → (d ≡ crashes → ⊥) → AlikeOut (done m e d) (done m′ e d)
@@ -151,7 +156,7 @@ alike-done m m′ a e d ne = subst (λ (x : Machine). AlikeOut (done m e d) (don
 
 -- a write-back alone looks at a persisted copy (19): it is answered the same where its line is clean in both machines or in neither
 keep-answer : (p : ℕ) (m : Machine) (h : List ℕ) (c : List Content) (e : Event) (d : Deed) → (d ≡ crashes → ⊥)
-    → (d ≡ writesBack → clean (keeping m h c) (lineAt (m .n) (e .number)) ≡ clean m (lineAt (m .n) (e .number))) → eventAnswer p (keeping m h c) e d ≡ eventAnswer p m e d
+    → (d ≡ writesBack → clean (keeping m h c) (lineAt (shapeOf m) (e .number)) ≡ clean m (lineAt (shapeOf m) (e .number))) → eventAnswer p (keeping m h c) e d ≡ eventAnswer p m e d
 keep-answer p m h c e unknown ne s = refl
 keep-answer p m h c e enqueues ne s = refl
 keep-answer p m h c e dequeues ne s = refl
@@ -160,10 +165,10 @@ keep-answer p m h c e writesBack ne s = ap (λ (b : Bool). check (lineTooLarge m
 keep-answer p m h c e crashes ne s = absurd (ne refl)
 
 pub alike-answer : (p : ℕ) (m m′ : Machine) → Alike m m′ → (e : Event) (d : Deed) → (d ≡ crashes → ⊥)
-    → (d ≡ writesBack → clean m′ (lineAt (m .n) (e .number)) ≡ clean m (lineAt (m .n) (e .number))) → eventAnswer p m′ e d ≡ eventAnswer p m e d
+    → (d ≡ writesBack → clean m′ (lineAt (shapeOf m) (e .number)) ≡ clean m (lineAt (shapeOf m) (e .number))) → eventAnswer p m′ e d ≡ eventAnswer p m e d
 alike-answer p m m′ a e d ne s =
     ap (λ (x : Machine). eventAnswer p x e d) (a .is)
-    ∙ keep-answer p m (a .heads) (a .copies) e d ne (λ w. ap (λ (x : Machine). clean x (lineAt (m .n) (e .number))) (sym (a .is)) ∙ s w)
+    ∙ keep-answer p m (a .heads) (a .copies) e d ne (λ w. ap (λ (x : Machine). clean x (lineAt (shapeOf m) (e .number))) (sym (a .is)) ∙ s w)
 
 -- ---- what is alike
 
@@ -178,5 +183,5 @@ alike-cached m m′ a l = ap (λ (x : Machine). cachedAt x l) (a .is) ∙ keep-c
 pub alike-clean : (m m′ : Machine) → Alike m m′ → (l : Line) → persistedAt m′ l ≡ persistedAt m l → clean m′ l ≡ clean m l
 alike-clean m m′ a l e = ap₂ sameContent (alike-cached m m′ a l) e
 
-pub alike-size : (m m′ : Machine) → Alike m m′ → m′ .n ≡ m .n
-alike-size m m′ a = ap (λ (x : Machine). x .n) (a .is)
+pub alike-size : (m m′ : Machine) → Alike m m′ → shapeOf m′ ≡ shapeOf m
+alike-size m m′ a = ap shapeOf (a .is)

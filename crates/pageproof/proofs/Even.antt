@@ -9,10 +9,10 @@ use Rattle.lists.specs.Find.{pick, both}
 use Rattle.lists.proofs.TabLaws as tabs
 use Rattle.image.specs.declared.Image.{Image}
 use Rattle.image.specs.Layout.{noContent, noContents}
-use Rattle.image.specs.Form.{topOf}
-use Rattle.machine.specs.Record.{none, node, thread, headAt, contentOf, blankNode, blankNodes, putTail, putHead, putNode}
-use Rattle.machine.specs.Stage.{Stage, noStep, A1, A2, A3, A4, A5, A6, A7, A8, A9, A10, A11, A12, D1, D2, D3, D4, D5, D6, D7, stage}
-use Rattle.machine.specs.Line.{lineAt, persist}
+use Rattle.image.specs.Form.{topOf, perDesk}
+use Rattle.machine.specs.Record.{none, node, thread, headAt, contentOf, blankNode, blankNodes, putTail, putHeadAt, putNode}
+use Rattle.machine.specs.Stage.{Stage, noStep, A1, A2, A3, A4, A5, A6, A7, A8, A9, A10, A11, A12, D1, D2, D3, D4, D5, D6, D7, S3, S6, stage}
+use Rattle.machine.specs.Line.{shapeOf, lineAt, ownHead, persist}
 use Rattle.machine.specs.declared.Line.{Line}
 use Rattle.machine.specs.declared.Line.the-variants.{OfHead as ofHead, OfNode as ofNode}
 use Rattle.machine.specs.Retire.{left, freed, released, retired, retiredHeld}
@@ -40,8 +40,8 @@ even-left m k x e = even-same m (released m k (m .n)) (frame.same-released m k (
 even-set : (m : Machine) (i : ℕ) (v : Node) → Even m → Even (putNode m i v)
 even-set m i v e = (e .0 ∙ sym (length-set (m .nodes) i v), e .1)
 
-even-head : (m : Machine) (h x : ℕ) → Even m → Even (putHead m h x)
-even-head m h x e = (e .0, e .1 ∙ sym (length-set (m .heads) 0 x))
+even-head : (m : Machine) (k x : ℕ) → Even m → Even (putHeadAt m k x)
+even-head m k x e = (e .0, e .1 ∙ sym (length-set (m .heads) k x))
 
 even-pick : (t : Bool) (a b : Acted) → Even (a .machine) → Even (b .machine) → Even (pick t a b .machine)
 even-pick true a b p q = p
@@ -86,11 +86,15 @@ module _ (m : Machine) (k : ℕ) (e : Even m) where
   even-step A12 = even-tail m (eqb (m .tail) (thread m k .tail)) (node m (thread m k .tail) .next) e
   even-step D1 = e
   even-step D2 = e
-  even-step D3 = even-left (persist m (ofHead 0)) k (thread m k .held) (even-persist m (ofHead 0) e)
-  even-step D4 = even-pick (both (eqb (m .head) (thread m k .head)) (eqb (headAt m 0) (thread m k .index))) _ _ (even-head m (thread m k .next) _ e) e
+  even-step D3 = even-left (persist m (ofHead (ownHead m k))) k (thread m k .held) (even-persist m (ofHead (ownHead m k)) e)
+  even-step D4 =
+      even-pick (both (eqb (m .head) (thread m k .head)) (pick (perDesk (m .form)) true (eqb (headAt m 0) (thread m k .index)))) _ _
+      (even-pick (perDesk (m .form)) _ _ e (even-head m 0 _ e)) e
   even-step D5 = e
-  even-step D6 = even-persist m (ofHead 0) e
+  even-step D6 = even-persist m (ofHead (ownHead m k)) e
   even-step D7 = even-left (retiredHeld m k) k (thread m k .head) (even-held m k e)
+  even-step S3 = even-head m k _ e
+  even-step S6 = even-head m k _ e
 
 -- ---- starts and events
 
@@ -117,5 +121,5 @@ even-done m e unknown h = h
 even-done m e enqueues h = h
 even-done m e dequeues h = h
 even-done m e steps h = even-step m (e .number) h (stage m (e .number))
-even-done m e writesBack h = even-persist m (lineAt (m .n) (e .number)) h
+even-done m e writesBack h = even-persist m (lineAt (shapeOf m) (e .number)) h
 even-done m e crashes h = even-start _ (m .t)

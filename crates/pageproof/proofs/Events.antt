@@ -13,7 +13,7 @@ use Rattle.answer.specs.declared.Answer.{Answer}
 use Rattle.answer.specs.declared.Answer.the-variants.{Taken, Number, Busy, Idle, NotZero, Clean}
 use Rattle.image.specs.Refusals.{startable}
 use Rattle.machine.specs.Stage.{busy}
-use Rattle.machine.specs.Line.{lineCount, lineAt, sameLine, cachedAt, persistedAt, persisted}
+use Rattle.machine.specs.Line.{shapeOf, lineCount, lineAt, sameLine, cachedAt, persistedAt, persisted}
 use Rattle.machine.specs.declared.Line.{Line}
 use Rattle.machine.specs.Retire.{quiet}
 use Rattle.machine.specs.Event.{Deed, unknown, enqueues, dequeues, steps, writesBack, crashes, deedOf, threadTooLarge, lineTooLarge, itemNotZero, clean, eventAnswer, done, eventAt}
@@ -84,7 +84,7 @@ replaced p q m e steps h =
     (again (itemNotZero e) (NotZero p) (NotZero q) (check (not (busy m (e .number))) (Idle p) Taken) (check (not (busy m (e .number))) (Idle q) Taken) refl
     (again (not (busy m (e .number))) (Idle p) (Idle q) Taken Taken refl (λ z. z))) h
 replaced p q m e writesBack h =
-    let c = clean m (lineAt (m .n) (e .number)) in
+    let c = clean m (lineAt (shapeOf m) (e .number)) in
     again (lineTooLarge m e) (Number p) (Number q) (check (itemNotZero e) (NotZero p) (check c (Clean p) Taken)) (check (itemNotZero e) (NotZero q) (check c (Clean q) Taken)) refl
     (again (itemNotZero e) (NotZero p) (NotZero q) (check c (Clean p) Taken) (check c (Clean q) Taken) refl
     (again c (Clean p) (Clean q) Taken Taken refl (λ z. z))) h
@@ -102,7 +102,7 @@ module _ (p q : ℕ) (m m′ : Machine) (a : Alike m m′) (e : Event) (ne : Cra
       ∙ ap (λ (o : Acted). o .answer) (sym (taken-is p m e h))
 
   -- the other machine takes it, unless it is a write-back of a line that is clean there alone
-  pub alike-takes : (deedOf (e .kind) ≡ writesBack → clean m′ (lineAt (m .n) (e .number)) ≡ clean m (lineAt (m .n) (e .number))) → Takes q m′ e
+  pub alike-takes : (deedOf (e .kind) ≡ writesBack → clean m′ (lineAt (shapeOf m) (e .number)) ≡ clean m (lineAt (shapeOf m) (e .number))) → Takes q m′ e
   alike-takes s =
       ap (λ (o : Acted). accepted (o .answer))
       (passes q m′ e (ap accepted (alike-answer q m m′ a e (deedOf (e .kind)) ne s) ∙ replaced p q m e (deedOf (e .kind)) (tests p m e h)))
@@ -123,10 +123,10 @@ beyond n i h = by (leb n i) refl
     by true e = absurd (omega (arith, leb→le n i (rw e tt)))
     by false e = refl
 
-pub back-taken : (q : ℕ) (m : Machine) (i : ℕ) → i < lineCount (m .n) → clean m (lineAt (m .n) i) ≡ false → Takes q m (writeBack i)
+pub back-taken : (q : ℕ) (m : Machine) (i : ℕ) → i < lineCount (shapeOf m) → clean m (lineAt (shapeOf m) i) ≡ false → Takes q m (writeBack i)
 back-taken q m i h c =
     ap (λ (o : Acted). accepted (o .answer))
-    (passes q m (writeBack i) (fits (lineTooLarge m (writeBack i)) (clean m (lineAt (m .n) i)) (beyond (lineCount (m .n)) i h) c))
+    (passes q m (writeBack i) (fits (lineTooLarge m (writeBack i)) (clean m (lineAt (shapeOf m) i)) (beyond (lineCount (shapeOf m)) i h) c))
   where
     fits : (b z : Bool) → b ≡ false → z ≡ false → accepted (check b (Number q) (check (itemNotZero (writeBack i)) (NotZero q) (check z (Clean q) Taken))) ≡ true
     fits true z e f = no-way e
@@ -135,18 +135,18 @@ back-taken q m i h c =
 
 -- "write-backs of changed lines only": a write-back that is taken, added or recorded, is of a line that there is and that is not clean
 pub back-changed : (p : ℕ) (m : Machine) (e : Event) → Takes p m e → deedOf (e .kind) ≡ writesBack
-    → (e .number < lineCount (m .n)) × (clean m (lineAt (m .n) (e .number)) ≡ false)
+    → (e .number < lineCount (shapeOf m)) × (clean m (lineAt (shapeOf m) (e .number)) ≡ false)
 back-changed p m e h w =
-    by (lineTooLarge m e) (itemNotZero e) (clean m (lineAt (m .n) (e .number))) refl refl
+    by (lineTooLarge m e) (itemNotZero e) (clean m (lineAt (shapeOf m) (e .number))) refl refl
     (subst (λ (d : Deed). accepted (eventAnswer p m e d) ≡ true) w (tests p m e h))
   where
-    by : (x y z : Bool) → lineTooLarge m e ≡ x → clean m (lineAt (m .n) (e .number)) ≡ z
+    by : (x y z : Bool) → lineTooLarge m e ≡ x → clean m (lineAt (shapeOf m) (e .number)) ≡ z
         → accepted (check x (Number p) (check y (NotZero p) (check z (Clean p) Taken))) ≡ true
-        → (e .number < lineCount (m .n)) × (clean m (lineAt (m .n) (e .number)) ≡ false)
+        → (e .number < lineCount (shapeOf m)) × (clean m (lineAt (shapeOf m) (e .number)) ≡ false)
     by true y z f g a = no-way (sym a)
     by false true z f g a = no-way (sym a)
     by false false true f g a = no-way (sym a)
-    by false false false f g a = (leb-false (lineCount (m .n)) (e .number) f, g)
+    by false false false f g a = (leb-false (lineCount (shapeOf m)) (e .number) f, g)
 
 -- ---- which line an event persists
 
@@ -170,8 +170,8 @@ miss-is (aStore x) l z p = p
 miss-is (aPersist x) l z p = no-way (sym (rw p (same-line x)) ∙ z)
 
 -- a write-back persists its own line
-pub back-hits : (m : Machine) (e : Event) → deedOf (e .kind) ≡ writesBack → hits m e (lineAt (m .n) (e .number)) ≡ true
-back-hits m e w = ap (λ (d : Deed). persistsLine (done m e d .touch) (lineAt (m .n) (e .number))) w ∙ same-line (lineAt (m .n) (e .number))
+pub back-hits : (m : Machine) (e : Event) → deedOf (e .kind) ≡ writesBack → hits m e (lineAt (shapeOf m) (e .number)) ≡ true
+back-hits m e w = ap (λ (d : Deed). persistsLine (done m e d .touch) (lineAt (shapeOf m) (e .number))) w ∙ same-line (lineAt (shapeOf m) (e .number))
 
 pub alike-hits : (m m′ : Machine) → Alike m m′ → (e : Event) → (Crash e → ⊥) → (l : Line) → hits m′ e l ≡ hits m e l
 alike-hits m m′ a e ne l = ap (λ (w : Touch). persistsLine w l) (alike-done m m′ a e (deedOf (e .kind)) ne .touch)
@@ -213,11 +213,11 @@ module _ (p : ℕ) (b : Bench) (g : Good b) (e : Event) (ne : Crash e → ⊥) (
   pub onto-machine : onto b e .machine ≡ next (b .machine) e
   onto-machine = ap (λ (x : Bench). x .machine) goes
 
-  size : next (b .machine) e .n ≡ b .machine .n
-  size = acts.frame-done (b .machine) e (deedOf (e .kind)) (g .even) ne .size
+  size : shapeOf (next (b .machine) e) ≡ shapeOf (b .machine)
+  size = acts.frame-done (b .machine) e (deedOf (e .kind)) (g .even) ne .shape
 
-  pub onto-size : onto b e .machine .n ≡ b .machine .n
-  onto-size = ap (λ (x : Machine). x .n) onto-machine ∙ size
+  pub onto-size : shapeOf (onto b e .machine) ≡ shapeOf (b .machine)
+  onto-size = ap shapeOf onto-machine ∙ size
 
   pub onto-good : Good (onto b e)
   onto-good = record {

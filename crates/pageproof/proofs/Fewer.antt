@@ -6,7 +6,7 @@ use mathlib.Core.List.{List, [], _∷_}
 use mathlib.Core.Logic.{inl}
 use Rattle.answer.specs.declared.Answer.{Answer}
 use Rattle.image.specs.declared.Content.{Content}
-use Rattle.machine.specs.Line.{lineAt, cachedAt, persistedAt}
+use Rattle.machine.specs.Line.{shapeOf, lineAt, cachedAt, persistedAt}
 use Rattle.machine.specs.declared.Line.{Line}
 use Rattle.machine.specs.declared.Machine.{Machine}
 use Rattle.machine.specs.declared.Event.{Event}
@@ -66,7 +66,7 @@ inside-adds : (b : Bench) → Good b → (m′ : Machine) → Even m′ → Alik
 inside-adds b g m′ ev a i k j = by (hits m′ (writeBack i) j) refl
   where
     same : cachedAt (next m′ (writeBack i)) j ≡ cachedAt (b .machine) j
-    same = persist-cached m′ (lineAt (m′ .n) i) j ∙ alike-cached (b .machine) m′ a j
+    same = persist-cached m′ (lineAt (shapeOf m′) i) j ∙ alike-cached (b .machine) m′ a j
 
     by : (x : Bool) → hits m′ (writeBack i) j ≡ x → Among (persistedAt (next m′ (writeBack i)) j) (contentsOf b j)
     by true h = rw (events.hit-persisted m′ ev (writeBack i) (no-crash i) j h ∙ same) (present b g j)
@@ -87,6 +87,6 @@ fewer n (adds i lt {l = l} {l′ = l′} r) p q b b′ nc g g′ a h h′ k =
     let t′ = run-first q b′ (writeBack i) l′ h′ in
     rw (run-bench q b′ (writeBack i) l′ t′)
     (fewer n r p (suc q) b (onto b′ (writeBack i)) nc g (events.onto-good q b′ g′ (writeBack i) (no-crash i) t′)
-    (rw (events.onto-machine q b′ g′ (writeBack i) (no-crash i) t′) (alike-back (b .machine) (b′ .machine) a (lineAt (b′ .machine .n) i)))
+    (rw (events.onto-machine q b′ g′ (writeBack i) (no-crash i) t′) (alike-back (b .machine) (b′ .machine) a (lineAt (shapeOf (b′ .machine)) i)))
     h (run-rest q b′ (writeBack i) l′ h′)
     (rw (events.onto-machine q b′ g′ (writeBack i) (no-crash i) t′) (inside-adds b g (b′ .machine) (g′ .even) a i k)))

@@ -5,12 +5,12 @@ use mathlib.Core.Bool.{Bool, true, false}
 use mathlib.Core.List.{List, [], _∷_}
 use lib.Dec.{eqb, leb}
 use Rattle.lists.specs.Find.{pick, both}
-use Rattle.image.specs.Form.{topOf}
+use Rattle.image.specs.Form.{topOf, perDesk}
 use Rattle.machine.specs.Record.{none, node, thread, headAt, putTail}
-use Rattle.machine.specs.Line.{lineAt, persist}
+use Rattle.machine.specs.Line.{shapeOf, lineAt, ownHead, persist}
 use Rattle.machine.specs.declared.Line.{Line}
 use Rattle.machine.specs.declared.Line.the-variants.{OfHead as ofHead, OfNode as ofNode}
-use Rattle.machine.specs.Stage.{Stage, noStep, A1, A2, A3, A4, A5, A6, A7, A8, A9, A10, A11, A12, D1, D2, D3, D4, D5, D6, D7, stage}
+use Rattle.machine.specs.Stage.{Stage, noStep, A1, A2, A3, A4, A5, A6, A7, A8, A9, A10, A11, A12, D1, D2, D3, D4, D5, D6, D7, S3, S6, stage}
 use Rattle.machine.specs.Retire.{freed, releasedAt, released, left, retired, retiredHeld}
 use Rattle.machine.specs.Start.{startWith}
 use Rattle.machine.specs.Event.{Deed, unknown, enqueues, dequeues, steps, writesBack, crashes, deedOf, stepped, done}
@@ -65,11 +65,15 @@ module _ (m : Machine) (k : ℕ) where
   form-step A12 = form-tail m (eqb (m .tail) (thread m k .tail)) (node m (thread m k .tail) .next)
   form-step D1 = refl
   form-step D2 = refl
-  form-step D3 = form-left (persist m (ofHead 0)) k (thread m k .held)
-  form-step D4 = form-pick (m .form) (both (eqb (m .head) (thread m k .head)) (eqb (headAt m 0) (thread m k .index))) _ _ refl refl
+  form-step D3 = form-left (persist m (ofHead (ownHead m k))) k (thread m k .held)
+  form-step D4 =
+      form-pick (m .form) (both (eqb (m .head) (thread m k .head)) (pick (perDesk (m .form)) true (eqb (headAt m 0) (thread m k .index)))) _ _
+      (form-pick (m .form) (perDesk (m .form)) _ _ refl refl) refl
   form-step D5 = refl
   form-step D6 = refl
   form-step D7 = form-left (retiredHeld m k) k (thread m k .head) ∙ form-held m k (eqb (thread m k .held) none)
+  form-step S3 = refl
+  form-step S6 = refl
 
 form-turned : (b : Bench) (e : Event) (d : Deed) → turned b (done (b .machine) e d) d .machine .form ≡ b .machine .form
 unfolding startWith
@@ -77,7 +81,7 @@ form-turned b e unknown = refl
 form-turned b e enqueues = refl
 form-turned b e dequeues = refl
 form-turned b e steps = form-step (b .machine) (e .number) (stage (b .machine) (e .number))
-form-turned b e writesBack = form-persist (b .machine) (lineAt (b .machine .n) (e .number))
+form-turned b e writesBack = form-persist (b .machine) (lineAt (shapeOf (b .machine)) (e .number))
 form-turned b e crashes = refl
 
 pub run-form : (l : List Event) (p : ℕ) (b : Bench) → Accepts p b l → run p b l .bench .machine .form ≡ b .machine .form

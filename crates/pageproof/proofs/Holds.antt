@@ -10,11 +10,12 @@ use lib.ListN.{length-map}
 use Rattle.lists.proofs.BoolLaws.{no-way}
 use Rattle.answer.specs.Answers.{accepted}
 use Rattle.answer.specs.declared.Answer.{Answer}
-use Rattle.image.specs.Layout.{inForm, imageIn}
+use Rattle.image.specs.Layout.{shapeIn, imageIn}
 use Rattle.image.specs.declared.Image.{Image}
+use Rattle.machine.specs.Line.{shapeOf}
 use Rattle.machine.specs.Start.{startOf, startWith}
 use Rattle.machine.specs.declared.Machine.{Machine}
-use Rattle.schedule.specs.Layout.{scheduleIn, eventsIn, nodesIn, scheduleAnswer}
+use Rattle.schedule.specs.Layout.{scheduleIn, eventsIn, scheduleShape, scheduleAnswer}
 use Rattle.schedule.specs.Run.{Bench, ran}
 use Rattle.page.specs.Contents.{tableOf}
 use Rattle.page.specs.Endings.{choices, product, imageOf, endings, ending}
@@ -30,14 +31,14 @@ use Rattle.pageproof.proofs.Page.{leaves, only}
 -- ---- each image once
 
 pub ending-once : (b : Bench) (i j : ℕ) → i < product (tableOf b) → j < product (tableOf b)
-    → ending (b .machine .n) (tableOf b) i ≡ ending (b .machine .n) (tableOf b) j → i ≡ j
+    → ending (shapeOf (b .machine)) (tableOf b) i ≡ ending (shapeOf (b .machine)) (tableOf b) j → i ≡ j
 unfolding endings ending
 ending-once b i j p q e =
     let all = choices (tableOf b) in
-    let n = b .machine .n in
+    let z = shapeOf (b .machine) in
     let len = choices.choices-length (tableOf b) in
-    distinct.bench-distinct b i j (omega (arith, length-map all (imageOf n))) (omega (arith, length-map all (imageOf n)))
-    (blocks.getD-map-in (imageOf n) all i [] distinct.noImage (omega arith) ∙ e ∙ sym (blocks.getD-map-in (imageOf n) all j [] distinct.noImage (omega arith)))
+    distinct.bench-distinct b i j (omega (arith, length-map all (imageOf z))) (omega (arith, length-map all (imageOf z)))
+    (blocks.getD-map-in (imageOf z) all i [] distinct.noImage (omega arith) ∙ e ∙ sym (blocks.getD-map-in (imageOf z) all j [] distinct.noImage (omega arith)))
 
 -- ---- a page that is not refused
 
@@ -57,8 +58,8 @@ page-ran s h = by (accepted (scheduleAnswer s)) (accepted (ran s .answer)) refl 
 abbrev first : List ℕ → Machine
 first s = startOf (scheduleIn s .image) (scheduleIn s .t)
 
-first-size : (s : List ℕ) → first s .n ≡ nodesIn s
-unfolding scheduleIn imageIn startWith
+first-size : (s : List ℕ) → shapeOf (first s) ≡ scheduleShape s
+unfolding scheduleIn imageIn shapeIn startWith
 first-size s = refl
 
 first-even : (s : List ℕ) → Even (first s)
@@ -68,18 +69,18 @@ module _ (s : List ℕ) (h : accepted (ran s .answer) ≡ true) where
   there : (k : ℕ) → k < endingCount s → Leaves s (endingIn s k)
   unfolding ran tableIn endingCount endingIn
   there k lt =
-      let r = leaves (nodesIn s) (first s) (first-even s) (first-size s) (eventsIn s) h k lt in
+      let r = leaves (scheduleShape s) (first s) (first-even s) (first-size s) (eventsIn s) h k lt in
       record { events = r .events; taken = r .taken; added = r .added; left = r .left }
 
   pub back : (g : Image) → Leaves s g → (k : ℕ) × (k < endingCount s) × (endingIn s k ≡ g)
   unfolding ran tableIn endingCount endingIn
   back g r =
-      only (nodesIn s) (first s) (first-even s) (first-size s) (eventsIn s) h g
+      only (scheduleShape s) (first s) (first-even s) (first-size s) (eventsIn s) h g
       (record { events = r .events; taken = r .taken; added = r .added; left = r .left })
 
   once : (j k : ℕ) → j < endingCount s → k < endingCount s → endingIn s j ≡ endingIn s k → j ≡ k
-  unfolding tableIn endingCount endingIn ending imageOf
-  once j k p q e = ending-once (ran s .bench) j k p q (ap (inForm 1) e)
+  unfolding tableIn endingCount endingIn
+  once j k p q e = ending-once (ran s .bench) j k p q e
 
 -- the theorem
 pub page-holds : (s : List ℕ) → Bytes s → accepted (pageAnswer s) ≡ true → PageHolds s

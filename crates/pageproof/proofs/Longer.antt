@@ -7,15 +7,16 @@ use native.Mathlib.Omega.{arith}
 use lib.ListN.{length}
 use Rattle.answer.specs.Answers.{accepted}
 use Rattle.answer.specs.declared.Answer.{Answer}
-use Rattle.image.specs.Layout.{imageIn}
+use Rattle.image.specs.Layout.{shapeIn, imageIn}
 use Rattle.image.specs.declared.Image.{Image}
-use Rattle.machine.specs.Line.{lineCount, lineAt}
+use Rattle.image.specs.declared.Shape.{Shape}
+use Rattle.machine.specs.Line.{shapeOf, lineCount, lineAt}
 use Rattle.machine.specs.Event.{writesBack, deedOf, clean, eventAt}
 use Rattle.machine.specs.Start.{startOf, startWith}
 use Rattle.machine.specs.declared.Machine.{Machine}
 use Rattle.machine.specs.declared.Event.{Event}
 use Rattle.machine.specs.declared.Acted.{Acted}
-use Rattle.schedule.specs.Layout.{scheduleIn, eventsIn, nodesIn}
+use Rattle.schedule.specs.Layout.{scheduleIn, eventsIn, scheduleShape}
 use Rattle.schedule.specs.Run.{Bench, Ran, run, ran, opened, begins, andBefore, turned, forward}
 use Rattle.page.specs.Refusals.{pageAnswer, endingCount, endingIn}
 use Rattle.lawful.specs.Added.{writeBack, NoCrash, Adds, ends, keeps, adds, AddsLate}
@@ -32,9 +33,9 @@ use Rattle.pageproof.proofs.Runs.{Accepts, run-first, run-cons, run-res
 use Rattle.pageproof.proofs.Holds.{page-ran, page-holds}
 
 -- what is said of a run with write-backs added
-pub record Same (n : ℕ) (l : List Event) (x : List Answer) (l′ : List Event) (q : ℕ) (b′ : Bench) : Type 0 where
+pub record Same (z : Shape) (l : List Event) (x : List Answer) (l′ : List Event) (q : ℕ) (b′ : Bench) : Type 0 where
   pub taken : Accepts q b′ l′
-  pub added : Adds (lineCount n) l x l′ (run q b′ l′ .replies)
+  pub added : Adds (lineCount z) l x l′ (run q b′ l′ .replies)
 
 -- ---- changed lines alone: what an accepted run writes back
 
@@ -52,18 +53,18 @@ changed-rest p b e l t c = subst (λ (x : Bench). Changed (suc p) x l) (onward p
 
 changed-after : (l r : List Event) (p : ℕ) (b : Bench) → Accepts p b l → Changed p b (l ++ r) → Changed (p + length l) (run p b l .bench) r
 changed-after [] r p b h c =
-    subst (λ (x : Bench). Changed (p + 0) x r) (sym (run-nothing p b)) (subst (λ (x : ℕ). Changed x b r) (let z : p ≡ p + 0 = omega arith in z) c)
+    subst (λ (x : Bench). Changed (p + 0) x r) (sym (run-nothing p b)) (subst (λ (x : ℕ). Changed x b r) (let y : p ≡ p + 0 = omega arith in y) c)
 changed-after (e ∷ l) r p b h c =
     let t = run-first p b e l h in
     subst (λ (x : Bench). Changed (p + suc (length l)) x r) (sym (run-bench p b e l t))
-    (subst (λ (x : ℕ). Changed x (run (suc p) (onto b e) l .bench) r) (let z : suc p + length l ≡ p + suc (length l) = omega arith in z)
+    (subst (λ (x : ℕ). Changed x (run (suc p) (onto b e) l .bench) r) (let y : suc p + length l ≡ p + suc (length l) = omega arith in y)
     (changed-after l r (suc p) (onto b e) (run-rest p b e l h) (changed-rest p b e (l ++ r) t c)))
 
 -- ---- a recorded event in front
 
-module _ (n p q : ℕ) (b b′ : Bench) (e : Event) (l l′ : List Event) (t : Takes p (b .machine) e) (ne : events.Crash e → ⊥) (a : Alike (b .machine) (b′ .machine)) (c : Changed q b′ (e ∷ l′)) where
+module _ (z : Shape) (p q : ℕ) (b b′ : Bench) (e : Event) (l l′ : List Event) (t : Takes p (b .machine) e) (ne : events.Crash e → ⊥) (a : Alike (b .machine) (b′ .machine)) (c : Changed q b′ (e ∷ l′)) where
   -- a line that it writes back is clean in neither machine
-  as-clean : deedOf (e .kind) ≡ writesBack → clean (b′ .machine) (lineAt (b .machine .n) (e .number)) ≡ clean (b .machine) (lineAt (b .machine .n) (e .number))
+  as-clean : deedOf (e .kind) ≡ writesBack → clean (b′ .machine) (lineAt (shapeOf (b .machine)) (e .number)) ≡ clean (b .machine) (lineAt (shapeOf (b .machine)) (e .number))
   as-clean w =
       ap (λ x. clean (b′ .machine) (lineAt x (e .number))) (sym (alike-size (b .machine) (b′ .machine) a)) ∙ c .0 w
       ∙ sym (events.back-changed p (b .machine) e t w .1)
@@ -77,50 +78,50 @@ module _ (n p q : ℕ) (b b′ : Bench) (e : Event) (l l′ : List Event) (t : T
   is′ : run q b′ (e ∷ l′) ≡ andBefore (eventAt q (b′ .machine) e .answer) (run (suc q) (onto b′ e) l′)
   is′ = run-cons q b′ e l′ t′
 
-  kept : Same n l (run (suc p) (onto b e) l .replies) l′ (suc q) (onto b′ e) → Same n (e ∷ l) (run p b (e ∷ l) .replies) (e ∷ l′) q b′
+  kept : Same z l (run (suc p) (onto b e) l .replies) l′ (suc q) (onto b′ e) → Same z (e ∷ l) (run p b (e ∷ l) .replies) (e ∷ l′) q b′
   kept s = record {
     taken = ap (λ (r : Ran). accepted (r .answer)) is′ ∙ s .taken;
     added = rw (ap (λ (r : Ran). r .replies) is, ap (λ (r : Ran). r .replies) is′, events.alike-reply p q (b .machine) (b′ .machine) a e ne t t′) (keeps (s .added));
   }
 
 -- a write-back in front
-module _ (n q : ℕ) (b′ : Bench) (i : ℕ) (lt : i < lineCount n) (l : List Event) (x : List Answer) (l′ : List Event) (t : Takes q (b′ .machine) (writeBack i)) where
+module _ (z : Shape) (q : ℕ) (b′ : Bench) (i : ℕ) (lt : i < lineCount z) (l : List Event) (x : List Answer) (l′ : List Event) (t : Takes q (b′ .machine) (writeBack i)) where
   back-is : run q b′ (writeBack i ∷ l′) ≡ andBefore (eventAt q (b′ .machine) (writeBack i) .answer) (run (suc q) (onto b′ (writeBack i)) l′)
   back-is = run-cons q b′ (writeBack i) l′ t
 
-  back : Same n l x l′ (suc q) (onto b′ (writeBack i)) → Same n l x (writeBack i ∷ l′) q b′
+  back : Same z l x l′ (suc q) (onto b′ (writeBack i)) → Same z l x (writeBack i ∷ l′) q b′
   back s = record {
     taken = ap (λ (r : Ran). accepted (r .answer)) back-is ∙ s .taken;
-    added = subst (λ (r : Ran). Adds (lineCount n) l x (writeBack i ∷ l′) (r .replies)) (sym back-is) (adds i lt (s .added));
+    added = subst (λ (r : Ran). Adds (lineCount z) l x (writeBack i ∷ l′) (r .replies)) (sym back-is) (adds i lt (s .added));
   }
 
-pub same-run : (n : ℕ) {l l′ : List Event} → Longer (lineCount n) l l′ → (p q : ℕ) (b b′ : Bench) → NoCrash l → Good b → Good b′ → b .machine .n ≡ n
-    → Alike (b .machine) (b′ .machine) → Accepts p b l → Changed q b′ l′ → Same n l (run p b l .replies) l′ q b′
-same-run n longer.ends p q b b′ nc g g′ size a h c = record {
+pub same-run : (z : Shape) {l l′ : List Event} → Longer (lineCount z) l l′ → (p q : ℕ) (b b′ : Bench) → NoCrash l → Good b → Good b′ → shapeOf (b .machine) ≡ z
+    → Alike (b .machine) (b′ .machine) → Accepts p b l → Changed q b′ l′ → Same z l (run p b l .replies) l′ q b′
+same-run z longer.ends p q b b′ nc g g′ size a h c = record {
   taken = run-taken q b′;
   added = rw (run-silent p b, run-silent q b′) ends;
 }
-same-run n (longer.keeps {e = e} {l = l} {l′ = l′} r) p q b b′ nc g g′ size a h c =
+same-run z (longer.keeps {e = e} {l = l} {l′ = l′} r) p q b b′ nc g g′ size a h c =
     let t = run-first p b e l h in
-    let z = t′ n p q b b′ e l l′ t (nc .0) a c in
-    kept n p q b b′ e l l′ t (nc .0) a c
-    (same-run n r (suc p) (suc q) (onto b e) (onto b′ e) (nc .1) (events.onto-good p b g e (nc .0) t) (events.onto-good q b′ g′ e (nc .0) z)
+    let y = t′ z p q b b′ e l l′ t (nc .0) a c in
+    kept z p q b b′ e l l′ t (nc .0) a c
+    (same-run z r (suc p) (suc q) (onto b e) (onto b′ e) (nc .1) (events.onto-good p b g e (nc .0) t) (events.onto-good q b′ g′ e (nc .0) y)
     (events.onto-size p b g e (nc .0) t ∙ size)
-    (rw (events.onto-machine p b g e (nc .0) t, events.onto-machine q b′ g′ e (nc .0) z) (events.alike-next (b .machine) (b′ .machine) a e (nc .0)))
-    (run-rest p b e l h) (changed-rest q b′ e l′ z c))
-same-run n (longer.adds i lt {l = l} {l′ = l′} r) p q b b′ nc g g′ size a h c =
-    let z = events.back-taken q (b′ .machine) i (subst (λ x. i < lineCount x) (sym (alike-size (b .machine) (b′ .machine) a ∙ size)) lt) (c .0 refl) in
-    back n q b′ i lt l (run p b l .replies) l′ z
-    (same-run n r p (suc q) b (onto b′ (writeBack i)) nc g (events.onto-good q b′ g′ (writeBack i) (no-crash i) z) size
-    (rw (events.onto-machine q b′ g′ (writeBack i) (no-crash i) z) (alike-back (b .machine) (b′ .machine) a (lineAt (b′ .machine .n) i))) h
-    (changed-rest q b′ (writeBack i) l′ z c))
+    (rw (events.onto-machine p b g e (nc .0) t, events.onto-machine q b′ g′ e (nc .0) y) (events.alike-next (b .machine) (b′ .machine) a e (nc .0)))
+    (run-rest p b e l h) (changed-rest q b′ e l′ y c))
+same-run z (longer.adds i lt {l = l} {l′ = l′} r) p q b b′ nc g g′ size a h c =
+    let y = events.back-taken q (b′ .machine) i (subst (λ x. i < lineCount x) (sym (alike-size (b .machine) (b′ .machine) a ∙ size)) lt) (c .0 refl) in
+    back z q b′ i lt l (run p b l .replies) l′ y
+    (same-run z r p (suc q) b (onto b′ (writeBack i)) nc g (events.onto-good q b′ g′ (writeBack i) (no-crash i) y) size
+    (rw (events.onto-machine q b′ g′ (writeBack i) (no-crash i) y) (alike-back (b .machine) (b′ .machine) a (lineAt (shapeOf (b′ .machine)) i))) h
+    (changed-rest q b′ (writeBack i) l′ y c))
 
 -- ---- a whole run from a start
 
 good-begins : (m : Machine) → Even m → Good (begins m)
 good-begins m e = record { timed = moments.timed-begins m; even = e }
 
-module _ (n : ℕ) (m : Machine) (ev : Even m) (size : m .n ≡ n) (l : List Event) (h : Accepts 0 (begins m) l) (l′ : List Event) (o : LongerLate (lineCount n) l l′) (c : Changed 0 (begins m) l′) where
+module _ (z : Shape) (m : Machine) (ev : Even m) (size : shapeOf m ≡ z) (l : List Event) (h : Accepts 0 (begins m) l) (l′ : List Event) (o : LongerLate (lineCount z) l l′) (c : Changed 0 (begins m) l′) where
   h₁ : Accepts 0 (begins m) (o .before ++ o .since)
   h₁ = subst (Accepts 0 (begins m)) (o .is) h
 
@@ -136,8 +137,8 @@ module _ (n : ℕ) (m : Machine) (ev : Even m) (size : m .n ≡ n) (l : List Eve
   good₁ : Good b₁
   good₁ = good-run (o .before) 0 (begins m) (good-begins m ev) front-taken
 
-  s : Same n (o .since) (run (0 + length (o .before)) b₁ (o .since) .replies) (o .since′) (0 + length (o .before)) b₁
-  s = same-run n (o .adds) (0 + length (o .before)) (0 + length (o .before)) b₁ b₁ (o .free) good₁ good₁
+  s : Same z (o .since) (run (0 + length (o .before)) b₁ (o .since) .replies) (o .since′) (0 + length (o .before)) b₁
+  s = same-run z (o .adds) (0 + length (o .before)) (0 + length (o .before)) b₁ b₁ (o .free) good₁ good₁
       (run-size (o .before) 0 (begins m) (good-begins m ev) front-taken ∙ size) (alike-self (b₁ .machine))
       (ap (λ (r : Ran). accepted (r .answer)) (sym (split (o .since))) ∙ h₁)
       (changed-after (o .before) (o .since′) 0 (begins m) front-taken (subst (Changed 0 (begins m)) (o .is′) c))
@@ -145,7 +146,7 @@ module _ (n : ℕ) (m : Machine) (ev : Even m) (size : m .n ≡ n) (l : List Eve
   pub longer-taken : Accepts 0 (begins m) l′
   longer-taken = subst (Accepts 0 (begins m)) (sym (o .is′)) (ap (λ (r : Ran). accepted (r .answer)) (split (o .since′)) ∙ s .taken)
 
-  pub longer-answers : AddsLate (lineCount n) l (run 0 (begins m) l .replies) l′ (run 0 (begins m) l′ .replies)
+  pub longer-answers : AddsLate (lineCount z) l (run 0 (begins m) l .replies) l′ (run 0 (begins m) l′ .replies)
   longer-answers = record {
     before = o .before;
     told = run 0 (begins m) (o .before) .replies;
@@ -167,19 +168,19 @@ module _ (n : ℕ) (m : Machine) (ev : Even m) (size : m .n ≡ n) (l : List Eve
 abbrev first : List ℕ → Machine
 first s = startOf (scheduleIn s .image) (scheduleIn s .t)
 
-first-size : (s : List ℕ) → first s .n ≡ nodesIn s
-unfolding scheduleIn imageIn startWith
+first-size : (s : List ℕ) → shapeOf (first s) ≡ scheduleShape s
+unfolding scheduleIn imageIn shapeIn startWith
 first-size s = refl
 
-module _ (s : List ℕ) (bytes : Bytes s) (a : accepted (pageAnswer s) ≡ true) (l′ : List Event) (o : LongerLate (lineCount (nodesIn s)) (eventsIn s) l′)
+module _ (s : List ℕ) (bytes : Bytes s) (a : accepted (pageAnswer s) ≡ true) (l′ : List Event) (o : LongerLate (lineCount (scheduleShape s)) (eventsIn s) l′)
     (c : Changed 0 (opened (scheduleIn s)) l′) where
   pub late-taken : accepted (runOf s l′ .answer) ≡ true
   unfolding ran
-  late-taken = longer-taken (nodesIn s) (first s) (even-start (scheduleIn s .image) (scheduleIn s .t)) (first-size s) (eventsIn s) (page-ran s a) l′ o c
+  late-taken = longer-taken (scheduleShape s) (first s) (even-start (scheduleIn s .image) (scheduleIn s .t)) (first-size s) (eventsIn s) (page-ran s a) l′ o c
 
-  pub late-answers : AddsLate (lineCount (nodesIn s)) (eventsIn s) (ran s .replies) l′ (runOf s l′ .replies)
+  pub late-answers : AddsLate (lineCount (scheduleShape s)) (eventsIn s) (ran s .replies) l′ (runOf s l′ .replies)
   unfolding ran
-  late-answers = longer-answers (nodesIn s) (first s) (even-start (scheduleIn s .image) (scheduleIn s .t)) (first-size s) (eventsIn s) (page-ran s a) l′ o c
+  late-answers = longer-answers (scheduleShape s) (first s) (even-start (scheduleIn s .image) (scheduleIn s .t)) (first-size s) (eventsIn s) (page-ran s a) l′ o c
 
   -- what it leaves is on the page
   pub late-on-page : (k : ℕ) × (k < endingCount s) × (endingIn s k ≡ imageLeft (runOf s l′ .bench .machine))

@@ -8,10 +8,12 @@ use lib.ListN.{length, getD, drop}
 use Rattle.lists.specs.Tab.{front}
 use Rattle.lists.proofs.TabLaws as tabs
 use Rattle.answer.specs.Answers.{accepted}
-use Rattle.image.specs.Layout.{contentAt, noContents, headLines, inForm}
+use Rattle.image.specs.Layout.{contentAt, noContents, headsOf}
+use Rattle.image.specs.Form.{headLines, ownThreads}
 use Rattle.image.specs.declared.Content.{Content}
 use Rattle.image.specs.declared.Image.{Image}
-use Rattle.machine.specs.Line.{lineCount, lineAt, persistedAt}
+use Rattle.image.specs.declared.Shape.{Shape}
+use Rattle.machine.specs.Line.{shapeOf, lineCount, lineAt, persistedAt}
 use Rattle.machine.specs.declared.Line.the-variants.{OfHead as ofHead}
 use Rattle.machine.specs.Record.{keptHead}
 use Rattle.machine.specs.declared.Machine.{Machine}
@@ -29,35 +31,34 @@ use Rattle.pageproof.proofs.Alike.{alike-self}
 use Rattle.pageproof.proofs.Among.{Among, choice-in, choice-of}
 use Rattle.pageproof.proofs.Events.{Good}
 use Rattle.pageproof.proofs.Runs.{Accepts, Last, last-of, good-run, run-size, run-front, run-append, begins-at, andAfter}
-use Rattle.pageproof.proofs.Form.{run-form}
 use Rattle.pageproof.proofs.Fewer.{Inside, kept-inside, fewer}
 use Rattle.pageproof.proofs.Left.{leftAt, Ripe, chosen}
 use Rattle.pageproof.proofs.Sow.{sow, Sown, sown-self}
 
 -- the persisted copies as an image, where line j's is the content c has there
-image-is : (m : Machine) (n : ℕ) (c : List Content) → m .n ≡ n → ((j : ℕ) → j < lineCount n → persistedAt m (lineAt n j) ≡ contentAt c j) → imageLeft m ≡ inForm (m .form) (imageOf n c)
-unfolding imageOf front
-image-is m n c size h =
-    rw size
-    (ap₂ (λ (y : List ℕ) (x : List Content). record { form = m .form; n = n; heads = y; nodes = x ++ drop n noContents })
-    (heads-same n (keptHead m) (λ k. contentAt c k .index) head)
-    (tabs.tab-same (contentAt (m .kept)) (λ i. contentAt c (headLines n + i)) n node))
+image-is : (m : Machine) (z : Shape) (c : List Content) → shapeOf m ≡ z → ((j : ℕ) → j < lineCount z → persistedAt m (lineAt z j) ≡ contentAt c j) → imageLeft m ≡ imageOf z c
+unfolding imageOf
+image-is m z c size h =
+    ap (λ (x : Shape). record { form = x .form; n = x .n; t = ownThreads x; heads = headsOf x (keptHead m); nodes = front (contentAt (m .kept)) (x .n) noContents }) size
+    ∙ ap₂ (λ (y : List ℕ) (x : List Content). record { form = z .form; n = z .n; t = ownThreads z; heads = y; nodes = x })
+    (heads-same z (keptHead m) (λ k. contentAt c k .index) head)
+    (tabs.front-same (contentAt (m .kept)) (λ i. contentAt c (headLines z + i)) (z .n) noContents node)
   where
-    head : (k : ℕ) → k < headLines n → keptHead m k ≡ contentAt c k .index
-    head k r = ap (λ (x : Content). x .index) (ap (persistedAt m) (sym (line-head n k r)) ∙ h k (omega arith))
+    head : (k : ℕ) → k < headLines z → keptHead m k ≡ contentAt c k .index
+    head k r = ap (λ (x : Content). x .index) (ap (persistedAt m) (sym (line-head z k r)) ∙ h k (omega arith))
 
-    node : (i : ℕ) → i < n → contentAt (m .kept) i ≡ contentAt c (headLines n + i)
-    node i k = ap (persistedAt m) (sym (line-node n i)) ∙ h (headLines n + i) (omega arith)
+    node : (i : ℕ) → i < z .n → contentAt (m .kept) i ≡ contentAt c (headLines z + i)
+    node i k = ap (persistedAt m) (sym (line-node z i)) ∙ h (headLines z + i) (omega arith)
 
 good-begins : (m : Machine) → Even m → Good (begins m)
 good-begins m e = record { timed = moments.timed-begins m; even = e }
 
-module _ (n : ℕ) (m : Machine) (ev : Even m) (size : m .n ≡ n) (l : List Event) (h : Accepts 0 (begins m) l) where
+module _ (z : Shape) (m : Machine) (ev : Even m) (size : shapeOf m ≡ z) (l : List Event) (h : Accepts 0 (begins m) l) where
   -- the image is left by added write-backs
   pub record Left (g : Image) : Type 0 where
     pub events : List Event
     pub taken : Accepts 0 (begins m) events
-    pub added : AddsLate (lineCount n) l (run 0 (begins m) l .replies) events (run 0 (begins m) events .replies)
+    pub added : AddsLate (lineCount z) l (run 0 (begins m) l .replies) events (run 0 (begins m) events .replies)
     pub left : imageLeft (run 0 (begins m) events .bench .machine) ≡ g
 
   abbrev final : Bench
@@ -66,11 +67,8 @@ module _ (n : ℕ) (m : Machine) (ev : Even m) (size : m .n ≡ n) (l : List Eve
   good : Good final
   good = good-run l 0 (begins m) (good-begins m ev) h
 
-  final-size : final .machine .n ≡ n
+  final-size : shapeOf (final .machine) ≡ z
   final-size = run-size l 0 (begins m) (good-begins m ev) h ∙ size
-
-  final-form : final .machine .form ≡ m .form
-  final-form = run-form l 0 (begins m) h
 
   -- ---- every ending is left
 
@@ -78,13 +76,13 @@ module _ (n : ℕ) (m : Machine) (ev : Even m) (size : m .n ≡ n) (l : List Eve
     abbrev wanted : ℕ → Content
     wanted j = contentAt (getD (choices (tableOf final)) k []) j
 
-    among : (j : ℕ) → j < lineCount n → Among (wanted j) (contentsOf final (lineAt n j))
+    among : (j : ℕ) → j < lineCount z → Among (wanted j) (contentsOf final (lineAt z j))
     among j r =
-        let r′ : j < lineCount (final .machine .n) = subst (λ x. j < lineCount x) (sym final-size) r in
+        let r′ : j < lineCount (shapeOf (final .machine)) = subst (λ x. j < lineCount x) (sym final-size) r in
         subst (λ (x : List Content). Among (wanted j) x) (moments.table-at final j r′ ∙ ap (λ x. contentsOf final (lineAt x j)) final-size)
         (choice-in (tableOf final) k lt j (omega (arith, moments.table-length final)))
 
-    from : (s : Last l) (m₀ : Machine) → run 0 (begins m) (s .before) .bench ≡ begins m₀ → Left (inForm (m .form) (imageOf n (getD (choices (tableOf final)) k [])))
+    from : (s : Last l) (m₀ : Machine) → run 0 (begins m) (s .before) .bench ≡ begins m₀ → Left (imageOf z (getD (choices (tableOf final)) k []))
     from s m₀ is = record {
       events = s .before ++ since′;
       taken = ap (λ (r : Ran). accepted (r .answer)) (split since′) ∙ o .taken;
@@ -103,10 +101,9 @@ module _ (n : ℕ) (m : Machine) (ev : Even m) (size : m .n ≡ n) (l : List Eve
         answers = ap (λ (x : List Event). run 0 (begins m) x .replies) (s .is) ∙ ap (λ (r : Ran). r .replies) (split (s .since));
         answers′ = ap (λ (r : Ran). r .replies) (split since′);
       };
-      left = image-is (run 0 (begins m) (s .before ++ since′) .bench .machine) n (getD (choices (tableOf final)) k [])
+      left = image-is (run 0 (begins m) (s .before ++ since′) .bench .machine) z (getD (choices (tableOf final)) k [])
           (run-size (s .before ++ since′) 0 (begins m) (good-begins m ev) (ap (λ (r : Ran). accepted (r .answer)) (split since′) ∙ o .taken) ∙ size)
-          (λ j r. ap (λ (r : Ran). persistedAt (r .bench .machine) (lineAt n j)) (split since′) ∙ o .left j r ∙ due j .1 r .0)
-          ∙ ap (λ f. inForm f (imageOf n (getD (choices (tableOf final)) k []))) (run-form (s .before ++ since′) 0 (begins m) (ap (λ (r : Ran). accepted (r .answer)) (split since′) ∙ o .taken));
+          (λ j r. ap (λ (r : Ran). persistedAt (r .bench .machine) (lineAt z j)) (split since′) ∙ o .left j r ∙ due j .1 r .0);
     }
       where
         h₁ : Accepts 0 (begins m) (s .before ++ s .since)
@@ -123,8 +120,8 @@ module _ (n : ℕ) (m : Machine) (ev : Even m) (size : m .n ≡ n) (l : List Eve
         good₀ : Good (begins m₀)
         good₀ = subst Good is (good-run (s .before) 0 (begins m) (good-begins m ev) front-taken)
 
-        size₀ : m₀ .n ≡ n
-        size₀ = ap (λ (b : Bench). b .machine .n) (sym is) ∙ run-size (s .before) 0 (begins m) (good-begins m ev) front-taken ∙ size
+        size₀ : shapeOf m₀ ≡ z
+        size₀ = ap (λ (b : Bench). shapeOf (b .machine)) (sym is) ∙ run-size (s .before) 0 (begins m) (good-begins m ev) front-taken ∙ size
 
         rest-taken : Accepts (0 + length (s .before)) (begins m₀) (s .since)
         rest-taken = ap (λ (r : Ran). accepted (r .answer)) (sym (split (s .since))) ∙ h₁
@@ -132,40 +129,39 @@ module _ (n : ℕ) (m : Machine) (ev : Even m) (size : m .n ≡ n) (l : List Eve
         there : final ≡ run (0 + length (s .before)) (begins m₀) (s .since) .bench
         there = ap (λ (x : List Event). run 0 (begins m) x .bench) (s .is) ∙ ap (λ (r : Ran). r .bench) (split (s .since))
 
-        due : (j : ℕ) → (r : ℕ) × (j < lineCount n → (leftAt (lineAt n j) r m₀ (s .since) (persistedAt m₀ (lineAt n j)) ≡ wanted j) × Ripe (lineAt n j) r m₀ (s .since))
-        due j = by (decLt j (lineCount n))
+        due : (j : ℕ) → (r : ℕ) × (j < lineCount z → (leftAt (lineAt z j) r m₀ (s .since) (persistedAt m₀ (lineAt z j)) ≡ wanted j) × Ripe (lineAt z j) r m₀ (s .since))
+        due j = by (decLt j (lineCount z))
           where
-            by : Dec (j < lineCount n)
-                → (r : ℕ) × (j < lineCount n → (leftAt (lineAt n j) r m₀ (s .since) (persistedAt m₀ (lineAt n j)) ≡ wanted j) × Ripe (lineAt n j) r m₀ (s .since))
+            by : Dec (j < lineCount z)
+                → (r : ℕ) × (j < lineCount z → (leftAt (lineAt z j) r m₀ (s .since) (persistedAt m₀ (lineAt z j)) ≡ wanted j) × Ripe (lineAt z j) r m₀ (s .since))
             by (yes r) =
-                let c = chosen (lineAt n j) (wanted j) (s .since) (0 + length (s .before)) m₀ good₀ (s .free) rest-taken
-                (subst (λ (b : Bench). Among (wanted j) (contentsOf b (lineAt n j))) there (among j r)) in
-                (c .0, λ z. (c .1, c .2))
-            by (no r) = (0, λ z. absurd (r z))
+                let c = chosen (lineAt z j) (wanted j) (s .since) (0 + length (s .before)) m₀ good₀ (s .free) rest-taken
+                (subst (λ (b : Bench). Among (wanted j) (contentsOf b (lineAt z j))) there (among j r)) in
+                (c .0, λ y. (c .1, c .2))
+            by (no r) = (0, λ y. absurd (r y))
 
         since′ : List Event
-        since′ = sow (λ j. due j .0) (lineCount n) (s .since)
+        since′ = sow (λ j. due j .0) (lineCount z) (s .since)
 
-        o : Sown n (s .since) (run (0 + length (s .before)) (begins m₀) (s .since) .replies) since′ (0 + length (s .before)) (begins m₀)
-            (λ j c. leftAt (lineAt n j) (due j .0) m₀ (s .since) c)
-        o = sown-self n (λ j. due j .0) (s .since) (0 + length (s .before)) (begins m₀) good₀ (s .free) size₀ rest-taken (λ j r. due j .1 r .1)
+        o : Sown z (s .since) (run (0 + length (s .before)) (begins m₀) (s .since) .replies) since′ (0 + length (s .before)) (begins m₀)
+            (λ j c. leftAt (lineAt z j) (due j .0) m₀ (s .since) c)
+        o = sown-self z (λ j. due j .0) (s .since) (0 + length (s .before)) (begins m₀) good₀ (s .free) size₀ rest-taken (λ j r. due j .1 r .1)
 
-    pub leaves : Left (inForm (final .machine .form) (ending (final .machine .n) (tableOf final) k))
+    pub leaves : Left (ending (shapeOf (final .machine)) (tableOf final) k)
     unfolding ending
     leaves =
         let s = last-of l in
         let b = begins-at (s .before) 0 m (s .start) (run-front (s .before) (s .since) 0 (begins m) (subst (Accepts 0 (begins m)) (s .is) h)) in
-        rw (final-size, final-form) (from s (b .0) (b .1))
+        rw final-size (from s (b .0) (b .1))
 
   -- ---- and what is left is an ending
 
-  pub only : (g : Image) → Left g → (k : ℕ) × (k < product (tableOf final)) × (inForm (final .machine .form) (ending (final .machine .n) (tableOf final) k) ≡ g)
+  pub only : (g : Image) → Left g → (k : ℕ) × (k < product (tableOf final)) × (ending (shapeOf (final .machine)) (tableOf final) k ≡ g)
   unfolding ending
   only g o = (
     k .0,
     k .1,
-    ap (λ f. inForm f (imageOf (final .machine .n) (getD (choices (tableOf final)) (k .0) []))) (final-form ∙ sym (run-form (o .events) 0 (begins m) (o .taken)))
-        ∙ sym (image-is (run 0 (begins m) (o .events) .bench .machine) (final .machine .n) (getD (choices (tableOf final)) (k .0) []) size′
+    sym (image-is (run 0 (begins m) (o .events) .bench .machine) (shapeOf (final .machine)) (getD (choices (tableOf final)) (k .0) []) size′
         (λ j r. sym (k .2 j (omega (arith, moments.table-length final))))) ∙ o .left,
   )
     where
@@ -190,7 +186,7 @@ module _ (n : ℕ) (m : Machine) (ev : Even m) (size : m .n ≡ n) (l : List Eve
       inside =
           let b = run 0 (begins m) (o .added .before) .bench in
           let p = 0 + length (o .added .before) in
-          fewer (lineCount n) (o .added .adds) p p b b (o .added .free) good₁ good₁ (alike-self (b .machine))
+          fewer (lineCount z) (o .added .adds) p p b b (o .added .free) good₁ good₁ (alike-self (b .machine))
           (ap (λ (r : Ran). accepted (r .answer)) (sym (split (o .added .since))) ∙ h₁)
           (ap (λ (r : Ran). accepted (r .answer)) (sym (split (o .added .since′))) ∙ h₁′) (kept-inside b)
 
@@ -204,11 +200,11 @@ module _ (n : ℕ) (m : Machine) (ev : Even m) (size : m .n ≡ n) (l : List Eve
       among = subst (λ (b : Bench). Inside (run 0 (begins m) l .bench) (b .machine)) there′ (subst (λ (b : Bench). Inside b
           (run (0 + length (o .added .before)) (run 0 (begins m) (o .added .before) .bench) (o .added .since′) .bench .machine)) there inside)
 
-      size′ : run 0 (begins m) (o .events) .bench .machine .n ≡ run 0 (begins m) l .bench .machine .n
+      size′ : shapeOf (run 0 (begins m) (o .events) .bench .machine) ≡ shapeOf (run 0 (begins m) l .bench .machine)
       size′ = run-size (o .events) 0 (begins m) (good-begins m ev) (o .taken) ∙ sym (run-size l 0 (begins m) (good-begins m ev) h)
 
       k : (k : ℕ) × (k < product (tableOf final)) × ((j : ℕ) → j < length (tableOf final)
-          → contentAt (getD (choices (tableOf final)) k []) j ≡ persistedAt (run 0 (begins m) (o .events) .bench .machine) (lineAt (final .machine .n) j))
-      k = choice-of (tableOf final) (λ j. persistedAt (run 0 (begins m) (o .events) .bench .machine) (lineAt (final .machine .n) j)) (λ j r.
-          let r′ : j < lineCount (final .machine .n) = omega (arith, moments.table-length final) in
-          rw (moments.table-at final j r′) (among (lineAt (final .machine .n) j)))
+          → contentAt (getD (choices (tableOf final)) k []) j ≡ persistedAt (run 0 (begins m) (o .events) .bench .machine) (lineAt (shapeOf (final .machine)) j))
+      k = choice-of (tableOf final) (λ j. persistedAt (run 0 (begins m) (o .events) .bench .machine) (lineAt (shapeOf (final .machine)) j)) (λ j r.
+          let r′ : j < lineCount (shapeOf (final .machine)) = omega (arith, moments.table-length final) in
+          rw (moments.table-at final j r′) (among (lineAt (shapeOf (final .machine)) j)))

@@ -9,6 +9,7 @@ use lib.ListN.{length}
 use Rattle.lists.proofs.BoolLaws.{no-way}
 use Rattle.answer.specs.Answers.{accepted}
 use Rattle.answer.specs.declared.Answer.{Answer}
+use Rattle.machine.specs.Line.{shapeOf}
 use Rattle.machine.specs.Start.{startWith}
 use Rattle.machine.specs.Event.{Deed, unknown, enqueues, dequeues, steps, writesBack, crashes, deedOf, done, eventAt}
 use Rattle.machine.specs.declared.Machine.{Machine}
@@ -103,7 +104,7 @@ crash-or steps = inr (λ e. let z : _≡_ {A = ℕ} 0 1 = cc in absurd (omega ar
 crash-or writesBack = inr (λ e. let z : _≡_ {A = ℕ} 0 1 = cc in absurd (omega arith))
 crash-or crashes = inl refl
 
-crash-size : (b : Bench) (e : Event) (d : Deed) → d ≡ crashes → turned b (done (b .machine) e d) d .machine .n ≡ b .machine .n
+crash-size : (b : Bench) (e : Event) (d : Deed) → d ≡ crashes → shapeOf (turned b (done (b .machine) e d) d .machine) ≡ shapeOf (b .machine)
 unfolding startWith
 crash-size b e d c = rw c
 
@@ -115,10 +116,10 @@ module _ (p : ℕ) (b : Bench) (g : Good b) (e : Event) (t : Takes p (b .machine
       by (inl c) = crash-good b g e c
       by (inr ne) = onto-good p b g e ne t
 
-  size-onto : onto b e .machine .n ≡ b .machine .n
+  size-onto : shapeOf (onto b e .machine) ≡ shapeOf (b .machine)
   size-onto = by (crash-or (deedOf (e .kind)))
     where
-      by : Crash e ⊎ (Crash e → ⊥) → onto b e .machine .n ≡ b .machine .n
+      by : Crash e ⊎ (Crash e → ⊥) → shapeOf (onto b e .machine) ≡ shapeOf (b .machine)
       by (inl c) = crash-size b e (deedOf (e .kind)) c
       by (inr ne) = onto-size p b g e ne t
 
@@ -129,11 +130,11 @@ good-run (e ∷ l) p b g h =
     rw (run-bench p b e l t) (good-run l (suc p) (onto b e) (good-onto p b g e t) (run-rest p b e l h))
 
 -- N stays
-pub run-size : (l : List Event) (p : ℕ) (b : Bench) → Good b → Accepts p b l → run p b l .bench .machine .n ≡ b .machine .n
-run-size [] p b g h = ap (λ (x : Bench). x .machine .n) (run-nothing p b)
+pub run-size : (l : List Event) (p : ℕ) (b : Bench) → Good b → Accepts p b l → shapeOf (run p b l .bench .machine) ≡ shapeOf (b .machine)
+run-size [] p b g h = ap (λ (x : Bench). shapeOf (x .machine)) (run-nothing p b)
 run-size (e ∷ l) p b g h =
     let t = run-first p b e l h in
-    ap (λ (x : Bench). x .machine .n) (run-bench p b e l t)
+    ap (λ (x : Bench). shapeOf (x .machine)) (run-bench p b e l t)
     ∙ run-size l (suc p) (onto b e) (good-onto p b g e t) (run-rest p b e l h)
     ∙ size-onto p b g e t
 

@@ -9,7 +9,7 @@ use Rattle.lists.proofs.BoolLaws.{no-way, false-true, no-of}
 use Rattle.answer.specs.Answers.{told, check, accepted}
 use Rattle.answer.specs.declared.Answer.{Answer}
 use Rattle.answer.specs.declared.Answer.the-variants.{Taken, Number, NotZero, Clean}
-use Rattle.machine.specs.Line.{lineAt}
+use Rattle.machine.specs.Line.{shapeOf, lineAt}
 use Rattle.machine.specs.Event.{Deed, unknown, enqueues, dequeues, steps, writesBack, crashes, deedOf, lineTooLarge, itemNotZero, clean, eventAnswer, ifTaken, eventAt}
 use Rattle.machine.specs.declared.Machine.{Machine}
 use Rattle.machine.specs.declared.Event.{Event}
@@ -57,7 +57,7 @@ event-same p m e h = by (deedOf (e .kind)) h
     by enqueues k = refl
     by dequeues k = refl
     by steps k = refl
-    by writesBack k = back (lineTooLarge m e) (itemNotZero e) (clean m (lineAt (m .n) (e .number))) k
+    by writesBack k = back (lineTooLarge m e) (itemNotZero e) (clean m (lineAt (shapeOf m) (e .number))) k
     by crashes k = refl
 
 -- ---- the run

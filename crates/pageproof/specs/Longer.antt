@@ -4,10 +4,10 @@ use mathlib.Core.Path.{_≡_}
 use mathlib.Core.Bool.{false}
 use mathlib.Core.List.{List, [], _∷_, _++_}
 use Rattle.image.specs.declared.Image.{Image}
-use Rattle.machine.specs.Line.{lineCount, lineAt}
+use Rattle.machine.specs.Line.{shapeOf, lineCount, lineAt}
 use Rattle.machine.specs.Event.{writesBack, deedOf, clean}
 use Rattle.machine.specs.declared.Event.{Event}
-use Rattle.schedule.specs.Layout.{scheduleIn, eventsIn, nodesIn}
+use Rattle.schedule.specs.Layout.{scheduleIn, eventsIn, scheduleShape}
 use Rattle.schedule.specs.Run.{Bench, Ran, forward, opened}
 use Rattle.lawful.specs.Added.{writeBack, NoCrash, EndsInStart}
 use Rattle.lawful.specs.Demand3.{runOf, imageLeft}
@@ -34,9 +34,9 @@ pub record LongerLate (n : ℕ) (l l′ : List Event) : Type 0 where
 abbrev pub Changed : ℕ → Bench → List Event → Type 0
 Changed p b [] = Unit {0}
 Changed p b (e ∷ l) =
-    (deedOf (e .kind) ≡ writesBack → clean (b .machine) (lineAt (b .machine .n) (e .number)) ≡ false) × Changed (suc p) (forward p b e) l
+    (deedOf (e .kind) ≡ writesBack → clean (b .machine) (lineAt (shapeOf (b .machine)) (e .number)) ≡ false) × Changed (suc p) (forward p b e) l
 
 -- some list with write-backs added after the last start, all write-backs in it of changed lines, leaves the image
 abbrev pub LeftLate : List ℕ → Image → Type 0
 LeftLate s g =
-    (l : List Event) × LongerLate (lineCount (nodesIn s)) (eventsIn s) l × Changed 0 (opened (scheduleIn s)) l × (imageLeft (runOf s l .bench .machine) ≡ g)
+    (l : List Event) × LongerLate (lineCount (scheduleShape s)) (eventsIn s) l × Changed 0 (opened (scheduleIn s)) l × (imageLeft (runOf s l .bench .machine) ≡ g)

@@ -11,7 +11,7 @@ use Rattle.machine.specs.Event.{Deed, unknown, enqueues, dequeues, steps, write
 use Rattle.machine.specs.declared.Machine.{Machine}
 use Rattle.machine.specs.declared.Event.{Event}
 use Rattle.machine.specs.declared.Acted.{Acted}
-use Rattle.schedule.specs.Layout.{scheduleIn, eventsIn, threadsIn, nodesIn, countIn, scheduleAnswer}
+use Rattle.schedule.specs.Layout.{scheduleIn, eventsIn, threadsIn, nodesIn, countIn, scheduleShape, scheduleAnswer}
 use Rattle.schedule.specs.Run.{Bench, Ran, andBefore, turned, opened, ran}
 use Rattle.page.specs.Contents.{tableOf}
 use Rattle.page.specs.Endings.{product, endings}
@@ -54,7 +54,7 @@ answerOf s r = elim (accepted (scheduleAnswer s)) [
 
 unfoldable pub printedOf : List ℕ → Ran → List ℕ
 printedOf s r = elim (accepted (answerOf s r)) [
-  | true ↦ firstLine (threadsIn s) (nodesIn s) (countIn s) (product (tableOf (r .bench))) ++ linesFrom 0 (endings (nodesIn s) (tableOf (r .bench)))
+  | true ↦ firstLine (threadsIn s) (nodesIn s) (countIn s) (product (tableOf (r .bench))) ++ linesFrom 0 (endings (scheduleShape s) (tableOf (r .bench)))
   | false ↦ refusedLine (answerOf s r)
 ]
 

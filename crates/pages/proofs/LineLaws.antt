@@ -16,7 +16,7 @@ use Rattle.answer.specs.declared.Answer.{Answer}
 use Rattle.answer.specs.declared.Answer.the-variants.{Taken, Number}
 use Rattle.image.specs.Layout.{contentAt}
 use Rattle.image.specs.declared.Content.{Content}
-use Rattle.image.proofs.HeadLaws.{one-head}
+use Rattle.machine.specs.Line.{shapeOf, lineCount}
 use Rattle.machine.specs.declared.Machine.{Machine}
 use Rattle.schedule.specs.Run.{Ran, Bench, ran}
 use Rattle.page.specs.Refusals.{tableIn, pageAnswer}
@@ -68,18 +68,18 @@ module _ (s : List ℕ) (r : Run) (p : PageIs s r) (a : accepted (r .answer) ≡
   t : PageTaken s r
   t = p .taken a
 
-  lines-are : length (tableIn s) ≡ r .machine .n + 1
+  lines-are : length (tableIn s) ≡ lineCount (shapeOf (r .machine))
   unfolding tableIn
-  lines-are = omega (arith, moments.table-length (ran s .bench), one-head (ran s .bench .machine .n), ap (λ (m : Machine). m .n) (t .machine))
+  lines-are = moments.table-length (ran s .bench) ∙ sym (ap (λ (m : Machine). lineCount (shapeOf m)) (t .machine))
 
   tests : lineAnswer s l ≡ check (leb (length (tableIn s)) l) (Number 0) Taken
   unfolding lineAnswer
   tests = yes-of _ (pageAnswer s) (accepted (pageAnswer s)) (subst (λ (x : Answer). accepted x ≡ true) (p .answer) a)
 
-  pub line-none : r .machine .n + 1 ≤ l → Number 0 ≡ lineAnswer s l
+  pub line-none : lineCount (shapeOf (r .machine)) ≤ l → Number 0 ≡ lineAnswer s l
   line-none h = sym (tests ∙ rw (le-leb (length (tableIn s)) l (omega (arith, lines-are))))
 
-  module _ (h : l < r .machine .n + 1) where
+  module _ (h : l < lineCount (shapeOf (r .machine))) where
     pub line-taken : Taken ≡ lineAnswer s l
     line-taken = sym (tests ∙ rw (lt-leb (length (tableIn s)) l (omega (arith, lines-are))))
 
@@ -92,7 +92,7 @@ module _ (s : List ℕ) (r : Run) (p : PageIs s r) (a : accepted (r .answer) ≡
 
     -- at most sixteen, since the page is not refused
     pub line-few : getD (r .rows) l noRow .count ≤ 16
-    line-few = omega (arith, count-of (r .rows) l, pages.page-ready s r p a .1 l (omega (arith, one-head (r .machine .n))))
+    line-few = omega (arith, count-of (r .rows) l, pages.page-ready s r p a .1 l h)
 
     pub line-count : getD (r .rows) l noRow .count ≡ length (lineIn s l)
     line-count = omega (arith, held .counted, line-few, ap length line-is)

@@ -2,11 +2,11 @@
 ghost use mathlib.Core.Path.{_≡_};
 ghost use lib.ListN.{length};
 ghost use Rattle.answer.specs.Answers.{told};
-ghost use Rattle.image.specs.Layout.{inForm};
 ghost use Rattle.page.specs.Refusals.{pageAnswer, endingAnswer, endingWritten};
 ghost use Rattle.runs.specs.Paged.{countOf};
 use answer::Answer;
-use image::Image;
+use image::Shape;
+use runs::paging::lines_of;
 use runs::paging::page_of;
 use runs::tables::counts_of;
 use runs::tables::table_of;
@@ -32,22 +32,13 @@ pub fn count_endings(s: &[u8]) -> Count
     let m = r.machine;
     let rows = r.rows;
     let counts = counts_of(rows);
-    let count = endtable::ending::ending_count(counts, m.n as usize + 1);
+    let z = Shape {
+        form: m.form,
+        n: m.n,
+        t: m.t,
+    };
+    let count = endtable::ending::ending_count(counts, lines_of(z));
     Count { answer: a, count }
-}
-
-// The same contents in another form.
-pub fn in_form(g: Image, form: u8) -> Image
-    ensures { λ r. ⌜ r ≡ inForm form g ⌝ }
-{
-    let heads = g.heads;
-    let nodes = g.nodes;
-    Image {
-        heads,
-        nodes,
-        form,
-        n: g.n,
-    }
 }
 
 // Ending k as an image, in the form of the schedule's image, in the first bytes of the lent buffer; the bytes after them stay. On a
@@ -62,20 +53,23 @@ pub fn ending_of(s: &[u8], k: u64, b: &mut [u8]) -> Answer
         return a;
     }
     let m = r.machine;
-    let n = m.n;
     let rows = r.rows;
     let counts = counts_of(rows);
-    let count = endtable::ending::ending_count(counts, n as usize + 1);
+    let z = Shape {
+        form: m.form,
+        n: m.n,
+        t: m.t,
+    };
+    let count = endtable::ending::ending_count(counts, lines_of(z));
     if count as u64 <= k {
         return Answer::NoEnding;
     }
-    if b.len() < image::place_of(m.form, n as usize) {
+    if b.len() < image::size_of(z) {
         return Answer::Room;
     }
-    let picks = endtable::ending::ending_picks(counts, n, k as u32);
+    let picks = endtable::ending::ending_picks(counts, z, k as u32);
     let t = table_of(rows);
-    let c = endtable::ending::ending_image(t, picks, n);
-    let g = in_form(c, m.form);
+    let g = endtable::ending::ending_image(t, picks, z);
     codec::put_image(b, g);
     Answer::Taken
 }

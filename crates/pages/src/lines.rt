@@ -7,6 +7,8 @@ ghost use Rattle.answer.specs.declared.Answer.the-variants.{Taken as taken};
 ghost use Rattle.pages.specs.Lines.{lineAnswer, lineIn, blankRow, sixteen, firstOf};
 use answer::Answer;
 use image::Content;
+use image::Shape;
+use runs::paging::lines_of;
 use runs::paging::page_of;
 use runs::rows::Row;
 
@@ -81,7 +83,12 @@ pub fn line_contents(s: &[u8], l: u32) -> LineContents
     }
     let m = r.machine;
     let i = l as usize;
-    if m.n as usize + 1 <= i {
+    let z = Shape {
+        form: m.form,
+        n: m.n,
+        t: m.t,
+    };
+    if lines_of(z) <= i {
         return no_line(Answer::Number(0));
     }
     let rows = r.rows;

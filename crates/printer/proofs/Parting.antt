@@ -10,6 +10,7 @@ use Rattle.lists.specs.Tab.{over}
 use Rattle.lists.proofs.TabLaws as tabs
 use Rattle.answer.specs.Answers.{accepted}
 use Rattle.image.specs.declared.Content.{Content}
+use Rattle.machine.specs.Line.{shapeOf}
 use Rattle.schedule.specs.Layout.{threadsIn, countIn}
 use Rattle.page.specs.Printed.{printed}
 use Rattle.page.specs.Refusals.{endingCount}
@@ -96,11 +97,11 @@ lines-next f t b m count next to place done e g q h k l r d u =
 module _ (s : List ℕ) (r : Run) (p : PageIs s r) (a : accepted (r .answer) ≡ true) where
   pub page-is : (t : List (List Content)) (cs : List ℕ) (threads events count : ℕ)
       → t ≡ atsOf (r .rows) → cs ≡ countsOf (r .rows) → threads ≡ threadsIn s → events ≡ countIn s → count ≡ endingCount s
-      → linesOn (tableLine t cs (r .machine .n) threads events count) 0 (count + 1) ≡ printed s
+      → linesOn (tableLine t cs (shapeOf (r .machine)) threads events count) 0 (count + 1) ≡ printed s
   page-is t cs threads events count e₁ e₂ e₃ e₄ e₅ =
-      ap₂ (λ x y. linesOn (tableLine x y (r .machine .n) threads events count) 0 (count + 1)) e₁ e₂
-      ∙ ap₂ (λ x y. linesOn (tableLine (atsOf (r .rows)) (countsOf (r .rows)) (r .machine .n) x y count) 0 (count + 1)) e₃ e₄
-      ∙ ap (λ x. linesOn (tableLine (atsOf (r .rows)) (countsOf (r .rows)) (r .machine .n) (threadsIn s) (countIn s) x) 0 (x + 1)) e₅
-      ∙ ap (linesOn (tableLine (atsOf (r .rows)) (countsOf (r .rows)) (r .machine .n) (threadsIn s) (countIn s) (endingCount s)) 0) (add-one (endingCount s))
+      ap₂ (λ x y. linesOn (tableLine x y (shapeOf (r .machine)) threads events count) 0 (count + 1)) e₁ e₂
+      ∙ ap₂ (λ x y. linesOn (tableLine (atsOf (r .rows)) (countsOf (r .rows)) (shapeOf (r .machine)) x y count) 0 (count + 1)) e₃ e₄
+      ∙ ap (λ x. linesOn (tableLine (atsOf (r .rows)) (countsOf (r .rows)) (shapeOf (r .machine)) (threadsIn s) (countIn s) x) 0 (x + 1)) e₅
+      ∙ ap (linesOn (tableLine (atsOf (r .rows)) (countsOf (r .rows)) (shapeOf (r .machine)) (threadsIn s) (countIn s) (endingCount s)) 0) (add-one (endingCount s))
       ∙ fits.on-same _ (pageLine s) (suc (endingCount s)) 0 0 (λ i q. tables.line-is s r p a (0 + i) (omega arith))
       ∙ joins.page-lines s (numbers.page-yes s r p a)

@@ -5,6 +5,7 @@ ghost use mathlib.Core.Bool.{true, not};
 ghost use Prim.Native.Nat.{_+_, _≤_};
 ghost use lib.ListN.{length};
 ghost use Rattle.answer.specs.Answers.{accepted};
+ghost use Rattle.image.specs.Form.{headLines};
 ghost use Rattle.machine.specs.Line.{lineCount};
 ghost use Rattle.page.specs.Refusals.{pageAnswer};
 ghost use Rattle.page.specs.Printed.{printed, refusedLine};
@@ -15,6 +16,7 @@ ghost use Rattle.filling.specs.Lines.{tableLine};
 ghost use Rattle.printer.specs.Parts.{NextPart};
 use answer::Answer;
 use image::Content;
+use image::Shape;
 use libc::STDOUT_FILENO;
 use runs::running::Run;
 use sheet::sheet::sheet_of;
@@ -47,24 +49,24 @@ fn print_refused(s: &[u8], a: Answer, done: &mut usize) -> bool
     write_front(s, &b, place, done)
 }
 
-// A buffer of lines at a time, told from the table's sheet, which is made once: it has room for the longest, so each turn prints one
+// A buffer of lines at a time, told from the table and its sheet, which is made once: it has room for the longest, so each turn prints one
 // at least.
 fn print_lines(
     s: &[u8],
-    t: [[Content; 16]; 65],
-    counts: [u8; 65],
-    n: u8,
+    t: [[Content; 16]; 72],
+    counts: [u8; 72],
+    z: Shape,
     threads: u8,
     events: u16,
     count: u32,
     b: &mut [u8],
     done: &mut usize,
 ) -> bool
-    requires { ⌜ (n ≤ 64) × Ready counts (lineCount n) × (threads ≤ 8) × (events ≤ 4096) × (count ≤ 65536) × (731 ≤ length (now b)) × (length (now b) ≤ 65536) ⌝ }
-    requires { ⌜ (linesOn (tableLine t counts n threads events count) 0 (count + 1) ≡ printed (now s)) × (now done ≡ 0) ⌝ }
+    requires { ⌜ (z .n ≤ 64) × (headLines z ≤ 8) × Ready counts (lineCount z) × (threads ≤ 8) × (events ≤ 4096) × (count ≤ 65536) × (731 ≤ length (now b)) × (length (now b) ≤ 65536) ⌝ }
+    requires { ⌜ (linesOn (tableLine t counts z threads events count) 0 (count + 1) ≡ printed (now s)) × (now done ≡ 0) ⌝ }
     ensures { λ r. ⌜ (r ≡ true → now (done .exit) ≡ length (printed (now (s .entry)))) ⌝ }
 {
-    let sheet = sheet_of(t, counts, n);
+    let sheet = sheet_of(t, counts, z.n);
     let ranks = sheet.ranks;
     let items = sheet.items;
     let slots = sheet.slots;
@@ -73,8 +75,9 @@ fn print_lines(
     let mut next = 0;
     while next <= count {
         let filled = filling::fill_told(
+            t,
             counts,
-            n,
+            z,
             &slots,
             told,
             &ranks,
@@ -100,14 +103,18 @@ fn print_run(s: &[u8], r: Run, b: &mut [u8], done: &mut usize) -> bool
     ensures { λ r. ⌜ (r ≡ true → now (done .exit) ≡ length (printed (now (s .entry)))) ⌝ }
 {
     let m = r.machine;
-    let n = m.n;
+    let z = Shape {
+        form: m.form,
+        n: m.n,
+        t: m.t,
+    };
     let rows = r.rows;
     let counts = runs::tables::counts_of(rows);
-    let count = endtable::ending::ending_count(counts, n as usize + 1);
+    let count = endtable::ending::ending_count(counts, runs::paging::lines_of(z));
     let o = codec::open_schedule(s);
     let d = o.schedule;
     let t = runs::tables::table_of(rows);
-    print_lines(s, t, counts, n, d.t, d.count, count, b, done)
+    print_lines(s, t, counts, z, d.t, d.count, count, b, done)
 }
 
 // The page, or the line of its refusal. The buffer has room for the longest line.

@@ -1,7 +1,6 @@
 -- The items of a queue that stands in the first places of a table.
-use Prim.Native.Nat.{ℕ, zero, suc, _+_, _≤_, _<_}
+use Prim.Native.Nat.{ℕ, _+_, _≤_, _<_}
 use mathlib.Core.Path.{_≡_, refl, sym, ap, ap₂, subst, _∙_}
-use mathlib.Core.Bool.{Bool, true, false}
 use mathlib.Core.List.{List, _++_, map}
 use native.Mathlib.Omega.{arith}
 use lib.ListN.{length, getD, set, take, drop, length-map, List·getD-map, List·getD-append}
@@ -9,11 +8,12 @@ use lib.Seq.{ext-getD, take-append-seam}
 use Rattle.lists.specs.Tab.{tab, front}
 use Rattle.lists.proofs.TabLaws as tabs
 use Rattle.image.specs.declared.Image.{Image}
-use Rattle.image.specs.Layout.{contentAt, inForm}
-use Rattle.image.specs.Recovered.{largest, headOf, recoveredAt}
-use Rattle.image.proofs.HeadLaws.{head-largest}
+use Rattle.image.specs.Layout.{contentAt, imageShape}
+use Rattle.image.specs.Form.{headLines}
+use Rattle.image.specs.Recovered.{largest, headOf}
+use Rattle.image.proofs.HeadLaws.{head-is}
 use Rattle.machine.specs.declared.queue.Queue.{Queue}
-use Rattle.machine.specs.Start.{insert, risen, queueOf}
+use Rattle.machine.specs.Start.{queueOf}
 use Rattle.machine.specs.Laid.{zeros, laid}
 use Rattle.machine.proofs.QueueLaws as queues
 use Rattle.page.specs.Printed.{itemsOf, endingLine}
@@ -86,10 +86,10 @@ pub listed-count : (g : Image) → listed (itemsOf g) .count ≤ g .n
 unfolding listed
 listed-count g = omega (arith, length-items g, queues.length-risen g (g .n))
 
-pub ending-line : (k : ℕ) (g : Image) (h : ℕ) (i : Items) → h ≡ largest (g .heads) 1 → i ≡ listed (itemsOf g) → lineText k h (take (i .count) (i .items)) ≡ endingLine k g
+pub ending-line : (k : ℕ) (g : Image) (h : ℕ) (i : Items) → h ≡ largest (g .heads) (headLines (imageShape g)) → i ≡ listed (itemsOf g) → lineText k h (take (i .count) (i .items)) ≡ endingLine k g
 unfolding lineText endingLine
 ending-line k g h i z e =
-    ap (λ (x : ℕ). lineText k x (take (i .count) (i .items))) (z ∙ head-largest g)
+    ap (λ (x : ℕ). lineText k x (take (i .count) (i .items))) (z ∙ head-is g)
     ∙ ap (lineText k (headOf g)) (ap (λ i. take (i .count) (i .items)) e ∙ listed-take (itemsOf g))
 
 pub few-items : (g : Image) (i : Items) → g .n ≤ 64 → i ≡ listed (itemsOf g) → i .count ≤ 64
@@ -97,21 +97,3 @@ few-items g i h e = omega (arith, ap (λ i. i .count) e, listed-count g)
 
 pub items-few : (g : Image) → length (itemsOf g) ≤ g .n
 items-few g = omega (arith, length-items g, queues.length-risen g (g .n))
-
--- ---- a line does not look at the form
-
-head-form : (f : ℕ) (g : Image) → headOf (inForm f g) ≡ headOf g
-unfolding headOf
-head-form f g = refl
-
-joined-if : (g : Image) (k : ℕ) → Bool → List ℕ → List ℕ
-joined-if g k b q = elim b [ true ↦ insert (g .nodes) k q | false ↦ q ]
-
-risen-form : (f : ℕ) (g : Image) (k : ℕ) → risen (inForm f g) k ≡ risen g k
-unfolding risen headOf joined-if
-risen-form f g zero = refl
-risen-form f g (suc k) = ap (joined-if g k (recoveredAt g k)) (risen-form f g k)
-
-pub line-form : (k f : ℕ) (g : Image) → endingLine k (inForm f g) ≡ endingLine k g
-unfolding endingLine itemsOf lineText
-line-form k f g = ap₂ (λ (h : ℕ) (q : List ℕ). lineText k h (map (λ i. contentAt (g .nodes) i .item) q)) (head-form f g) (risen-form f g (g .n))

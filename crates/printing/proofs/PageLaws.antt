@@ -8,8 +8,9 @@ use native.Mathlib.Nat.{add-zero}
 use lib.ListN.{length, getD, length-map, List·getD-map}
 use Rattle.image.specs.declared.Image.{Image}
 use Rattle.image.specs.declared.Content.{Content}
+use Rattle.image.specs.declared.Shape.{Shape}
 use Rattle.answer.specs.Answers.{accepted}
-use Rattle.schedule.specs.Layout.{threadsIn, nodesIn, countIn}
+use Rattle.schedule.specs.Layout.{threadsIn, nodesIn, countIn, scheduleShape}
 use Rattle.page.specs.Endings.{endings, ending, imageOf, choices, product}
 use Rattle.page.specs.Refusals.{tableIn, pageAnswer, endingCount}
 use Rattle.page.specs.Printed.{endingLine, linesFrom, firstLine, refusedLine, printed}
@@ -29,16 +30,16 @@ lines-are f d (g ∷ l) k h =
 
 -- ---- the page's endings, and the page
 
-pub ending-at : (n : ℕ) (table : List (List Content)) (k : ℕ) → getD (endings n table) k (imageOf n []) ≡ ending n table k
+pub ending-at : (z : Shape) (table : List (List Content)) (k : ℕ) → getD (endings z table) k (imageOf z []) ≡ ending z table k
 unfolding endings ending
-ending-at n table k = List·getD-map (imageOf n) (choices table) k []
+ending-at z table k = List·getD-map (imageOf z) (choices table) k []
 
-pub endings-length : (n : ℕ) (lists : List (List Content)) → length (endings n lists) ≡ product lists
+pub endings-length : (z : Shape) (lists : List (List Content)) → length (endings z lists) ≡ product lists
 unfolding endings
-endings-length n lists = length-map (choices lists) (imageOf n) ∙ choosing.choices-length lists
+endings-length z lists = length-map (choices lists) (imageOf z) ∙ choosing.choices-length lists
 
 pub printed-taken : (s : List ℕ) → accepted (pageAnswer s) ≡ true
-    → printed s ≡ firstLine (threadsIn s) (nodesIn s) (countIn s) (endingCount s) ++ linesFrom 0 (endings (nodesIn s) (tableIn s))
+    → printed s ≡ firstLine (threadsIn s) (nodesIn s) (countIn s) (endingCount s) ++ linesFrom 0 (endings (scheduleShape s) (tableIn s))
 unfolding printed
 printed-taken s e = rw (e, printed) refl
 

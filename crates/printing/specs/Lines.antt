@@ -6,6 +6,7 @@ use lib.ListN.{length, drop}
 use lib.Dec.{ltb}
 use Rattle.lists.specs.Text.{text, decimal}
 use Rattle.image.specs.declared.Content.{Content}
+use Rattle.image.specs.declared.Shape.{Shape}
 use Rattle.machine.specs.Laid.{zeros}
 use Rattle.page.specs.Printed.{itemsText, newline, endingLine}
 use Rattle.endtable.specs.Picks.{endingFrom}
@@ -24,8 +25,8 @@ unfoldable pub listed : List ℕ → Items
 listed l = record { count = length l; items = l ++ drop (length l) zeros }
 
 -- the line of ending k, picked from the table
-unfoldable pub lineFrom : List (List Content) → List ℕ → ℕ → ℕ → List ℕ
-lineFrom t cs n k = endingLine k (endingFrom t cs n k)
+unfoldable pub lineFrom : List (List Content) → List ℕ → Shape → ℕ → List ℕ
+lineFrom t cs z k = endingLine k (endingFrom t cs z k)
 
 -- a text that goes whole into `room` bytes, and nothing where it does not
 unfoldable pub ifFits : ℕ → List ℕ → List ℕ

@@ -10,6 +10,8 @@ ghost use mathlib.Core.Path.{_≡_};
 ghost use Prim.Native.Nat.{_+_, _-_, _≤_, _<_};
 ghost use lib.ListN.{length, take};
 ghost use Rattle.lists.specs.Tab.{over};
+ghost use Rattle.image.specs.Form.{headLines};
+ghost use Rattle.image.specs.Layout.{imageShape};
 ghost use Rattle.page.specs.Printed.{endingLine, firstLine};
 ghost use Rattle.printing.specs.Bounds.{lineRoom};
 ghost use Rattle.printing.specs.Lines.{ifFits, refusedText};
@@ -28,7 +30,7 @@ fn fit_front(b: &mut [u8], at: usize, s: &[u8], n: usize) -> usize
 
 // The line of ending k, written apart first: there may be less room than the longest line takes.
 fn fit_narrow(b: &mut [u8], at: usize, k: u32, g: Image) -> usize
-    requires { ⌜ (g .n ≤ 64) × (k < 65536) × (at ≤ length (now b)) ⌝ }
+    requires { ⌜ (g .n ≤ 64) × (headLines (imageShape g) ≤ 8) × (k < 65536) × (at ≤ length (now b)) ⌝ }
     ensures place { λ r. ⌜ r ≡ at + length (ifFits (length (now (b .entry)) - at) (endingLine k g)) ⌝ }
     ensures bytes { λ r. ⌜ now (b .exit) ≡ over (now (b .entry)) at (ifFits (length (now (b .entry)) - at) (endingLine k g)) ⌝ }
     ensures short { λ r. ⌜ length (endingLine k g) ≤ lineRoom 64 ⌝ }
@@ -40,7 +42,7 @@ fn fit_narrow(b: &mut [u8], at: usize, k: u32, g: Image) -> usize
 
 // The line of ending k.
 pub fn fit_ending(b: &mut [u8], at: usize, k: u32, g: Image) -> usize
-    requires { ⌜ (g .n ≤ 64) × (k < 65536) × (at ≤ length (now b)) ⌝ }
+    requires { ⌜ (g .n ≤ 64) × (headLines (imageShape g) ≤ 8) × (k < 65536) × (at ≤ length (now b)) ⌝ }
     ensures place { λ r. ⌜ r ≡ at + length (ifFits (length (now (b .entry)) - at) (endingLine k g)) ⌝ }
     ensures bytes { λ r. ⌜ now (b .exit) ≡ over (now (b .entry)) at (ifFits (length (now (b .entry)) - at) (endingLine k g)) ⌝ }
     ensures short { λ r. ⌜ length (endingLine k g) ≤ lineRoom 64 ⌝ }

@@ -3,6 +3,8 @@ use image::Image;
 use machine::queue::queue_of;
 ghost use mathlib.Core.Path.{_≡_};
 ghost use Prim.Native.Nat.{_≤_};
+ghost use Rattle.image.specs.Form.{headLines};
+ghost use Rattle.image.specs.Layout.{imageShape};
 ghost use Rattle.machine.specs.Laid.{zeros};
 ghost use Rattle.page.specs.Printed.{itemsOf};
 ghost use Rattle.printing.specs.Lines.{listed};
@@ -21,7 +23,7 @@ fn no_items() -> [u32; 64]
 
 // The recovered items in rising index.
 pub fn items_of(g: Image) -> Items
-    requires { ⌜ g .n ≤ 64 ⌝ }
+    requires { ⌜ (g .n ≤ 64) × (headLines (imageShape g) ≤ 8) ⌝ }
     ensures { λ r. ⌜ r ≡ listed (itemsOf g) ⌝ }
 {
     let q = queue_of(g);

@@ -6,11 +6,14 @@ use super::lines::put_number_place;
 use answer::Answer;
 use answer::told_of;
 use image::Image;
-use image::largest_of;
+use image::Shape;
+use image::head_of;
 ghost use mathlib.Core.Path.{_≡_};
 ghost use Prim.Native.Nat.{_+_, _≤_, _<_};
 ghost use lib.ListN.{length};
 ghost use Rattle.lists.specs.Tab.{over};
+ghost use Rattle.image.specs.Form.{headLines};
+ghost use Rattle.image.specs.Layout.{imageShape};
 ghost use Rattle.page.specs.Printed.{endingLine, firstLine, refusedLine};
 ghost use Rattle.printing.specs.Bounds.{lineRoom, firstRoom, refusedRoom};
 
@@ -21,12 +24,19 @@ pub const FIRST: usize = 51;
 
 // The line of ending k.
 pub fn write_ending(b: &mut [u8], at: usize, k: u32, g: Image) -> usize
-    requires { ⌜ (g .n ≤ 64) × (k < 65536) × (at + lineRoom 64 ≤ length (now b)) ⌝ }
+    requires { ⌜ (g .n ≤ 64) × (headLines (imageShape g) ≤ 8) × (k < 65536) × (at + lineRoom 64 ≤ length (now b)) ⌝ }
     ensures place { λ r. ⌜ (r ≡ at + length (endingLine k g)) × (r ≤ at + lineRoom 64) ⌝ }
     ensures bytes { λ r. ⌜ now (b .exit) ≡ over (now (b .entry)) at (endingLine k g) ⌝ }
 {
     let heads = g.heads;
-    let h = largest_of(heads, 1);
+    let h = head_of(
+        heads,
+        Shape {
+            form: g.form,
+            n: g.n,
+            t: g.t,
+        },
+    );
     let i = items_of(g);
     let items = i.items;
     put_line(b, at, k as u64, h, items, i.count)

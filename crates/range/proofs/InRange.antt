@@ -9,11 +9,10 @@ use lib.Dec.{eqb, leb}
 use Rattle.lists.specs.Find.{pick, both, any}
 use Rattle.lists.proofs.BoolLaws.{both-true}
 use Rattle.lists.proofs.FindLaws as find
-use Rattle.image.specs.Form.{known, topOf}
-use Rattle.image.specs.Layout.{headLines}
-use Rattle.image.proofs.HeadLaws.{one-head}
+use Rattle.image.specs.Form.{known, topOf, headLines}
 use Rattle.machine.specs.Record.{none, node, kept, headAt, keptHead, thread}
 use Rattle.machine.specs.Stage as st
+use Rattle.machine.specs.Line.{shapeOf}
 use Rattle.machine.specs.Range.{rangesFit, isIndex, headFits, indexFits, formFits, inRange, isNode, isLink, readFits, nextFits, nodeFits, threadFits}
 use Rattle.machine.specs.declared.Machine.{Machine}
 use Rattle.range.specs.Parts.{sizesIn, badNode, badThread}
@@ -79,7 +78,7 @@ module _ (m : Machine) where
       let f = both-true _ _ (e .1) in
       let tail : st.uses s st.t ≡ true → v .tail < m .n = read-used (st.uses s st.t) (v .tail) (c .0) in
       record {
-        step = leb-true (v .step) 19 (a .0);
+        step = leb-true (v .step) (st.lastStep m) (a .0);
         own-used = read-used (st.uses s st.own) (v .node) (b .0);
         tail-used = tail;
         head-used = read-used (st.uses s st.theHead) (v .head) (d .0);
@@ -103,19 +102,18 @@ module _ (m : Machine) where
   pub narrow-of : formFits m ≡ true → Narrow m
   unfolding formFits headFits indexFits
   narrow-of h =
-      let hs₀ = not (any (λ k. not (headFits m k)) (headLines (m .n))) in
+      let hs₀ = not (any (λ k. not (headFits m k)) (headLines (shapeOf m))) in
       let ns₀ = not (any (λ i. not (indexFits m i)) (m .n)) in
       let ts₀ = not (any (λ k. not (isIndex m (thread m k .index))) (m .t)) in
       let a = both-true (known (m .form)) (both hs₀ (both ns₀ ts₀)) h in
       let b = both-true hs₀ (both ns₀ ts₀) (a .1) in
       let c = both-true ns₀ ts₀ (b .1) in
-      let heads = not-false _ (find.any-clear (λ k. not (headFits m k)) (headLines (m .n)) 0 (not-true _ (b .0)) (omega (arith, one-head (m .n)))) in
-      let hs = both-true (isIndex m (headAt m 0)) (isIndex m (keptHead m 0)) heads in
+      let heads : (k : ℕ) → k < headLines (shapeOf m) → headFits m k ≡ true = λ k p. not-false _ (find.any-clear (λ k. not (headFits m k)) (headLines (shapeOf m)) k (not-true _ (b .0)) p) in
       let nodes : (i : ℕ) → i < m .n → indexFits m i ≡ true = λ i p. not-false _ (find.any-clear (λ i. not (indexFits m i)) (m .n) i (not-true _ (c .0)) p) in
       record {
         form = a .0;
-        head = index-of (headAt m 0) (hs .0);
-        kept-head = index-of (keptHead m 0) (hs .1);
+        head = λ k p. index-of (headAt m k) (both-true (isIndex m (headAt m k)) (isIndex m (keptHead m k)) (heads k p) .0);
+        kept-head = λ k p. index-of (keptHead m k) (both-true (isIndex m (headAt m k)) (isIndex m (keptHead m k)) (heads k p) .1);
         index = λ i p. index-of (node m i .index) (both-true (isIndex m (node m i .index)) (isIndex m (kept m i .index)) (nodes i p) .0);
         kept-index = λ i p. index-of (kept m i .index) (both-true (isIndex m (node m i .index)) (isIndex m (kept m i .index)) (nodes i p) .1);
         read = λ k p. index-of (thread m k .index) (not-false _ (find.any-clear (λ k. not (isIndex m (thread m k .index))) (m .t) k (not-true _ (c .1)) p));

@@ -1,14 +1,12 @@
 -- The tests of indices against the width of the form, as the code takes them.
 use Prim.Native.Nat.{ℕ, _≤_, _<_}
-use mathlib.Core.Path.{_≡_, refl, sym, ap, _∙_}
+use mathlib.Core.Path.{_≡_, refl}
 use mathlib.Core.Bool.{Bool, true, false, not}
-use lib.Dec.{leb}
 use borrow.Author.Tests.{lt-leb, le-leb}
-use Rattle.lists.specs.Find.{pick, both, any}
-use Rattle.image.specs.Form.{known, topOf}
-use Rattle.image.specs.Layout.{headLines}
-use Rattle.image.proofs.HeadLaws.{one-head}
+use Rattle.lists.specs.Find.{both, any}
+use Rattle.image.specs.Form.{known, topOf, headLines}
 use Rattle.machine.specs.Record.{node, kept, headAt, keptHead, thread}
+use Rattle.machine.specs.Line.{shapeOf}
 use Rattle.machine.specs.Range.{headFits, indexFits, isIndex, formFits}
 use Rattle.machine.specs.declared.Machine.{Machine}
 use Rattle.range.specs.Parts.{wideHead, wideNode, wideThread}
@@ -34,18 +32,18 @@ module _ (m : Machine) where
   unfolding wideThread
   thread-narrow k h = rw (le-leb (thread m k .index) (topOf (m .form)) h)
 
-  pub head-wide : topOf (m .form) < headAt m 0 → false ≡ not (any (wideHead m) 1)
-  unfolding any wideHead headFits
-  head-wide h = rw (lt-leb (headAt m 0) (topOf (m .form)) h)
+  pub head-wide : (k : ℕ) → topOf (m .form) < headAt m k → wideHead m k ≡ true
+  unfolding wideHead headFits
+  head-wide k h = rw (lt-leb (headAt m k) (topOf (m .form)) h)
 
-  pub head-rest : headAt m 0 ≤ topOf (m .form) → leb (keptHead m 0) (topOf (m .form)) ≡ not (any (wideHead m) 1)
-  unfolding any wideHead headFits
-  head-rest h = rw (le-leb (headAt m 0) (topOf (m .form)) h) (by (leb (keptHead m 0) (topOf (m .form))))
-    where
-      by : (b : Bool) → b ≡ not (pick (not b) true false)
-      by true = refl
-      by false = refl
+  pub kept-head-wide : (k : ℕ) → headAt m k ≤ topOf (m .form) → topOf (m .form) < keptHead m k → wideHead m k ≡ true
+  unfolding wideHead headFits
+  kept-head-wide k a h = rw (le-leb (headAt m k) (topOf (m .form)) a, lt-leb (keptHead m k) (topOf (m .form)) h)
 
-  pub form-by : formFits m ≡ both (known (m .form)) (both (not (any (wideHead m) 1)) (both (not (any (wideNode m) (m .n))) (not (any (wideThread m) (m .t)))))
+  pub head-narrow : (k : ℕ) → headAt m k ≤ topOf (m .form) → keptHead m k ≤ topOf (m .form) → wideHead m k ≡ false
+  unfolding wideHead headFits
+  head-narrow k a b = rw (le-leb (headAt m k) (topOf (m .form)) a, le-leb (keptHead m k) (topOf (m .form)) b)
+
+  pub form-by : formFits m ≡ both (known (m .form)) (both (not (any (wideHead m) (headLines (shapeOf m)))) (both (not (any (wideNode m) (m .n))) (not (any (wideThread m) (m .t)))))
   unfolding formFits wideHead wideNode wideThread
-  form-by = ap (λ n. both (known (m .form)) (both (not (any (wideHead m) n)) (both (not (any (wideNode m) (m .n))) (not (any (wideThread m) (m .t)))))) (one-head (m .n))
+  form-by = refl

@@ -3,9 +3,10 @@ use Prim.Native.Nat.{ℕ, _≤_, _<_, _^_}
 use mathlib.Core.Path.{_≡_}
 use mathlib.Core.Bool.{true}
 use mathlib.Core.Logic.{_⊎_}
-use Rattle.image.specs.Form.{known, topOf}
+use Rattle.image.specs.Form.{known, topOf, headLines}
 use Rattle.machine.specs.Record.{none, node, kept, headAt, keptHead, thread}
-use Rattle.machine.specs.Stage.{own, t, theHead, theNext, uses, stage}
+use Rattle.machine.specs.Stage.{lastStep, own, t, theHead, theNext, uses, stage}
+use Rattle.machine.specs.Line.{shapeOf}
 use Rattle.machine.specs.declared.Machine.{Machine}
 
 -- 2 to 64 nodes, 1 to 8 threads
@@ -27,7 +28,7 @@ pub record NodeFacts (m : Machine) (i : ℕ) : Type 0 where
 
 -- what the thread's next step uses is a node, the rest is a node or none
 pub record ThreadFacts (m : Machine) (k : ℕ) : Type 0 where
-  pub step : thread m k .step ≤ 19
+  pub step : thread m k .step ≤ lastStep m
   pub own-used : uses (stage m k) own ≡ true → thread m k .node < m .n
   pub tail-used : uses (stage m k) t ≡ true → thread m k .tail < m .n
   pub head-used : uses (stage m k) theHead ≡ true → thread m k .head < m .n
@@ -43,8 +44,8 @@ pub record ThreadFacts (m : Machine) (k : ℕ) : Type 0 where
 -- every index is within the width of the form
 pub record Narrow (m : Machine) : Type 0 where
   pub form : known (m .form) ≡ true
-  pub head : headAt m 0 ≤ topOf (m .form)
-  pub kept-head : keptHead m 0 ≤ topOf (m .form)
+  pub head : (k : ℕ) → k < headLines (shapeOf m) → headAt m k ≤ topOf (m .form)
+  pub kept-head : (k : ℕ) → k < headLines (shapeOf m) → keptHead m k ≤ topOf (m .form)
   pub index : (i : ℕ) → i < m .n → node m i .index ≤ topOf (m .form)
   pub kept-index : (i : ℕ) → i < m .n → kept m i .index ≤ topOf (m .form)
   pub read : (k : ℕ) → k < m .t → thread m k .index ≤ topOf (m .form)

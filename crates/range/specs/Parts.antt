@@ -4,10 +4,9 @@ use mathlib.Core.Bool.{Bool, true, false, not}
 use lib.Dec.{eqb, ltb, leb}
 use Rattle.lists.specs.Find.{pick, both, any, count}
 use Rattle.image.specs.declared.Content.{Content}
-use Rattle.image.specs.Refusals.{nodesFit}
+use Rattle.image.specs.Refusals.{nodesFit, threadsFit}
 use Rattle.machine.specs.Record.{none, thread}
 use Rattle.machine.specs.Stage.{own, t, theHead, theNext, uses, stage, stageOf, enqueueOwns, dequeueOwns}
-use Rattle.machine.specs.Start.{threadsFit}
 use Rattle.machine.specs.Range.{isFlag, nodeFits, threadFits, isIndex, headFits, indexFits}
 use Rattle.machine.specs.Place.{inQueue, isWaiting, isHeld, inEnqueue, inDequeue}
 use Rattle.machine.specs.declared.Machine.{Machine}

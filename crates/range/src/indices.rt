@@ -3,8 +3,12 @@ ghost use mathlib.Core.Path.{_≡_};
 ghost use mathlib.Core.Bool.{Bool, true, false, not};
 ghost use Prim.Native.Nat.{_≤_};
 ghost use Rattle.lists.specs.Find.{any};
+ghost use Rattle.image.specs.Form.{headLines};
+ghost use Rattle.machine.specs.Line.{shapeOf};
 ghost use Rattle.machine.specs.Range.{formFits};
 ghost use Rattle.range.specs.Parts.{wideHead, wideNode, wideThread};
+use image::Shape;
+use image::head_lines;
 use image::is_known;
 use image::top_of;
 use machine::Machine;
@@ -50,17 +54,30 @@ fn threads_narrow(m: Machine) -> bool
     true
 }
 
-// Both copies of the one head line's index.
+// Both copies of every head line's index.
 fn heads_narrow(m: Machine) -> bool
-    ensures { λ r. ⌜ r ≡ not (any (wideHead m) 1) ⌝ }
+    requires { ⌜ headLines (shapeOf m) ≤ 8 ⌝ }
+    ensures { λ r. ⌜ r ≡ not (any (wideHead m) (headLines (shapeOf m))) ⌝ }
 {
     let top = top_of(m.form);
-    let h = m.heads[0];
-    if top < h {
-        return false;
+    let lines = head_lines(Shape {
+        form: m.form,
+        n: m.n,
+        t: m.t,
+    });
+    let mut k = 0;
+    while k < lines {
+        let h = m.heads[k];
+        if top < h {
+            return false;
+        }
+        let p = m.kept_heads[k];
+        if top < p {
+            return false;
+        }
+        k += 1;
     }
-    let p = m.kept_heads[0];
-    p <= top
+    true
 }
 
 pub fn form_fits(m: Machine) -> bool

@@ -4,7 +4,8 @@ ghost use mathlib.Core.Path.{_≡_};
 ghost use mathlib.Core.Bool.{Bool, true, false, not};
 ghost use Prim.Native.Nat.{_≤_, _<_, _^_};
 ghost use lib.Dec.{ltb};
-ghost use Rattle.lists.specs.Find.{any};
+ghost use Rattle.lists.specs.Find.{pick, any};
+ghost use Rattle.image.specs.Form.{perDesk};
 ghost use Rattle.machine.specs.Range.{rangesFit, inRange, threadFits};
 ghost use Rattle.range.specs.Parts.{badNode, badThread, sizesIn, endsIn, linkIn, readIn, nodeIn, usedBy};
 use image::Content;
@@ -38,10 +39,10 @@ pub struct Hands {
 fn sizes_fit(n: u8, t: u8) -> bool
     ensures { λ r. ⌜ r ≡ sizesIn n t ⌝ }
 {
-    if !machine::start::nodes_fit(n) {
+    if !image::nodes_fit(n) {
         return false;
     }
-    machine::start::threads_fit(t)
+    image::threads_fit(t)
 }
 
 // Head, Tail and the one last handed out are nodes.
@@ -120,7 +121,7 @@ fn nodes_fit(m: Machine) -> bool
 }
 
 // The step number decides. The columns: the step uses the thread's own node, t, the head read, the next read;
-// its enqueue owns the node (before its A8), its dequeue owns the head read (between D4 and D7).
+// its enqueue owns the node (before its A8), its dequeue owns the head read (between D4 and D7). 20 and 21 are S3 and S6.
 pub fn used_by(s: u8) -> Used
     ensures { λ r. ⌜ r ≡ usedBy s ⌝ }
 {
@@ -145,7 +146,9 @@ pub fn used_by(s: u8) -> Used
         17 => uses(false, false, false, true, false, true),
         18 => uses(false, false, false, false, false, true),
         19 => uses(false, false, true, false, false, true),
-        20..=255 => uses(false, false, false, false, false, false),
+        20 => uses(false, false, true, false, false, false),
+        21 => uses(false, false, false, true, false, true),
+        22..=255 => uses(false, false, false, false, false, false),
     }
 }
 
@@ -162,6 +165,16 @@ fn uses(own: bool, tail: bool, head: bool, next: bool, enqueue: bool, dequeue: b
     }
 }
 
+// The largest step number: S6 where each desk has an index line, else D7.
+fn last_step(form: u8) -> u8
+    ensures { λ r. ⌜ r ≡ pick (perDesk form) 21 19 ⌝ }
+{
+    if form == 4 {
+        return Machine::S6;
+    }
+    Machine::D7
+}
+
 fn thread_fits(m: Machine, k: usize) -> bool
     requires { ⌜ (k < 8) × (m .n ≤ 64) ⌝ }
     ensures { λ r. ⌜ r ≡ threadFits m k ⌝ }
@@ -169,7 +182,8 @@ fn thread_fits(m: Machine, k: usize) -> bool
     let threads = m.threads;
     let v = threads[k];
     let u = used_by(v.step);
-    if 19 < v.step {
+    let last = last_step(m.form);
+    if last < v.step {
         return false;
     }
     if !read_fits(m.n, u.own, v.node) {

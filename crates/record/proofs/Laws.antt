@@ -9,7 +9,7 @@ use lib.Seq.{take-suc}
 use Rattle.lists.specs.Tab.{joined, over}
 use Rattle.lists.proofs.TabLaws as laws
 use Rattle.machine.specs.declared.Machine.{Machine}
-use Rattle.record.specs.Layout.{headBytes, nodePart, threadPart, recordBytes}
+use Rattle.record.specs.Layout.{headBytes, longPart, nodePart, threadPart, recordBytes}
 
 module _ {A : Type 0} where
   pub over-none : (l : List A) (i : ℕ) → l ≡ over l i []
@@ -36,6 +36,10 @@ module _ {A : Type 0} where
 
 -- ---- the record's parts
 
+pub long-length : (l : List ℕ) (k : ℕ) → length (longPart l k) ≡ 8
+unfolding longPart
+long-length l k = refl
+
 pub node-length : (m : Machine) (i : ℕ) → length (nodePart m i) ≡ 28
 unfolding nodePart
 node-length m i = refl
@@ -51,15 +55,28 @@ more b x y k e =
     ap (λ (k : ℕ). over (over b 0 x) k y) (sym z) ∙ laws.over-append b 0 x y
 
 pub record-over : (m : Machine) (b : List ℕ)
-    → set (over (over (over b 0 (headBytes m)) 34 (joined (nodePart m) 64)) 1826 (joined (threadPart m) 8)) 1970 (m .last) ≡ over b 0 (recordBytes m)
+    → set (over (over (over (over (over b 0 (headBytes m)) 18 (joined (longPart (m .heads)) 8)) 82 (joined (longPart (m .«kept_heads»)) 8)) 146 (joined (nodePart m) 64)) 1938 (joined (threadPart m) 8)) 2082 (m .last) ≡ over b 0 (recordBytes m)
 unfolding recordBytes over
 record-over m b =
     let h = headBytes m in
+    let x = joined (longPart (m .heads)) 8 in
+    let y = joined (longPart (m .«kept_heads»)) 8 in
     let n = joined (nodePart m) 64 in
     let t = joined (threadPart m) 8 in
+    let lx = laws.length-joined (longPart (m .heads)) 8 8 (long-length (m .heads)) in
+    let ly = laws.length-joined (longPart (m .«kept_heads»)) 8 8 (long-length (m .«kept_heads»)) in
     let ln = laws.length-joined (nodePart m) 28 64 (node-length m) in
     let lt = laws.length-joined (threadPart m) 18 8 (thread-length m) in
-    ap (λ (l : List ℕ). set (over l 1826 t) 1970 (m .last)) (more b h n 34 refl)
-    ∙ ap (λ (l : List ℕ). set l 1970 (m .last)) (more b (h ++ n) t 1826 (length-append h n ∙ omega (arith, ln)))
-    ∙ more b ((h ++ n) ++ t) (m .last ∷ []) 1970 (length-append (h ++ n) t ∙ omega (arith, length-append h n, ln, lt))
-    ∙ ap (over b 0) (append-assoc (h ++ n) t (m .last ∷ []) ∙ append-assoc h n (t ++ (m .last ∷ [])))
+    let hx = length-append h x in
+    let hy = length-append (h ++ x) y in
+    let hn = length-append ((h ++ x) ++ y) n in
+    ap (λ (l : List ℕ). set (over (over (over l 82 y) 146 n) 1938 t) 2082 (m .last)) (more b h x 18 refl)
+    ∙ ap (λ (l : List ℕ). set (over (over l 146 n) 1938 t) 2082 (m .last)) (more b (h ++ x) y 82 (hx ∙ omega (arith, lx)))
+    ∙ ap (λ (l : List ℕ). set (over l 1938 t) 2082 (m .last)) (more b ((h ++ x) ++ y) n 146 (hy ∙ omega (arith, hx, lx, ly)))
+    ∙ ap (λ (l : List ℕ). set l 2082 (m .last)) (more b (((h ++ x) ++ y) ++ n) t 1938 (hn ∙ omega (arith, hy, hx, lx, ly, ln)))
+    ∙ more b ((((h ++ x) ++ y) ++ n) ++ t) (m .last ∷ []) 2082 (length-append (((h ++ x) ++ y) ++ n) t ∙ omega (arith, hn, hy, hx, lx, ly, ln, lt))
+    ∙ ap (over b 0)
+    (append-assoc (((h ++ x) ++ y) ++ n) t (m .last ∷ [])
+    ∙ append-assoc ((h ++ x) ++ y) n (t ++ (m .last ∷ []))
+    ∙ append-assoc (h ++ x) y (n ++ (t ++ (m .last ∷ [])))
+    ∙ append-assoc h x (y ++ (n ++ (t ++ (m .last ∷ [])))))

@@ -6,7 +6,7 @@ use mathlib.Core.List.{List, [], _∷_, _++_}
 use native.Mathlib.Omega.{arith}
 use native.Mathlib.Nat.{add-assoc, add-zero}
 use borrow.Author.Tests.{eq-eqb}
-use lib.ListN.{length, getD, set, length-append, List·getD-append}
+use lib.ListN.{length, getD, length-append, List·getD-append}
 use lib.Seq.{ext-getD, getD-append-add}
 use Rattle.lists.specs.Tab.{joined, front}
 use Rattle.lists.proofs.TabLaws as tabs
@@ -17,16 +17,16 @@ use Rattle.image.specs.Layout.{marked, noContent, noContents, noHeads}
 use Rattle.machine.specs.Record.{node, kept, headAt, keptHead, thread, zeroNode, zeroThread, blankNodes, idleThreads}
 use Rattle.machine.specs.Retire.{out}
 use Rattle.machine.specs.declared.Machine.{Machine}
-use Rattle.record.specs.Layout.{recordSize, isRecord, at8, headBytes, nodePart, threadPart, recordBytes, nodeIn, keptIn, threadIn, recordIn, readAnswer, readRecord}
+use Rattle.record.specs.Layout.{recordSize, isRecord, at8, headBytes, longPart, nodePart, threadPart, recordBytes, longIn, nodeIn, keptIn, threadIn, recordIn, readAnswer, readRecord}
 use Rattle.record.proofs.Laws as laws
 
--- the tables are whole, nothing stands in the head lines behind the first, and the numbers of 32 and 64 bits fit
+-- the tables are whole, and the numbers of 32 and 64 bits fit
 pub record Whole (m : Machine) : Type 0 where
-  pub index : headAt m 0 < 2 ^ 64
+  pub index : (k : ℕ) → headAt m k < 2 ^ 64
   pub free : m .free < 2 ^ 64
-  pub head : keptHead m 0 < 2 ^ 64
-  pub heads : set noHeads 0 (headAt m 0) ≡ m .heads
-  pub kept-heads : set noHeads 0 (keptHead m 0) ≡ m .«kept_heads»
+  pub head : (k : ℕ) → keptHead m k < 2 ^ 64
+  pub heads : length (m .heads) ≡ 8
+  pub kept-heads : length (m .«kept_heads») ≡ 8
   pub nodes : length (m .nodes) ≡ 64
   pub copies : length (m .kept) ≡ 64
   pub threads : length (m .threads) ≡ 8
@@ -74,47 +74,101 @@ module _ (m : Machine) where
   unfolding threadsOf
   threads-length = tabs.length-joined (threadPart m) 18 8 (laws.thread-length m)
 
-  -- what stands behind the nodes
+  headsOf : List ℕ
+  headsOf = joined (longPart (m .heads)) 8
+
+  keptsOf : List ℕ
+  keptsOf = joined (longPart (m .«kept_heads»)) 8
+
+  heads-length : length headsOf ≡ 64
+  unfolding headsOf
+  heads-length = tabs.length-joined (longPart (m .heads)) 8 8 (laws.long-length (m .heads))
+
+  kepts-length : length keptsOf ≡ 64
+  unfolding keptsOf
+  kepts-length = tabs.length-joined (longPart (m .«kept_heads»)) 8 8 (laws.long-length (m .«kept_heads»))
+
+  -- what stands behind the nodes, and with them; behind the indices of the head lines
   abbrev rest : List ℕ
   rest = joined (threadPart m) 8 ++ (m .last ∷ [])
 
-  node-byte : (i j : ℕ) → i < 64 → j < 28 → getD (recordBytes m) (34 + i * 28 + j) 0 ≡ getD (nodePart m i) j 0
-  unfolding recordBytes nodesOf
+  abbrev behind : List ℕ
+  behind = joined (nodePart m) 64 ++ rest
+
+  abbrev copies : List ℕ
+  copies = joined (longPart (m .«kept_heads»)) 8 ++ behind
+
+  abbrev heads : List ℕ
+  heads = joined (longPart (m .heads)) 8
+
+  abbrev kepts : List ℕ
+  kepts = joined (longPart (m .«kept_heads»)) 8
+
+  head-byte : (i j : ℕ) → i < 8 → j < 8 → getD (recordBytes m) (18 + i * 8 + j) 0 ≡ getD (longPart (m .heads) i) j 0
+  unfolding recordBytes headsOf
+  head-byte i j p q =
+      ap (λ (k : ℕ). getD (recordBytes m) k 0) (add-assoc 18 (i * 8) j)
+      ∙ getD-append-add (headBytes m) (heads ++ copies) (i * 8 + j) 0
+      ∙ List·getD-append heads copies 0 (i * 8 + j) (omega (arith, heads-length))
+      ∙ tabs.getD-joined (longPart (m .heads)) 8 8 i j 0 (laws.long-length (m .heads)) p q
+
+  -- place j behind the head lines' indices
+  past-heads : (p j : ℕ) → p ≡ 82 + j → getD (recordBytes m) p 0 ≡ getD copies j 0
+  unfolding recordBytes headsOf
+  past-heads p j h =
+      let e : p ≡ 18 + (length heads + j) = omega (arith, heads-length) in
+      ap (λ (k : ℕ). getD (recordBytes m) k 0) e
+      ∙ getD-append-add (headBytes m) (heads ++ copies) (length heads + j) 0
+      ∙ getD-append-add heads copies j 0
+
+  kept-byte : (i j : ℕ) → i < 8 → j < 8 → getD (recordBytes m) (82 + i * 8 + j) 0 ≡ getD (longPart (m .«kept_heads») i) j 0
+  unfolding keptsOf
+  kept-byte i j p q =
+      past-heads (82 + i * 8 + j) (i * 8 + j) (add-assoc 82 (i * 8) j)
+      ∙ List·getD-append kepts behind 0 (i * 8 + j) (omega (arith, kepts-length))
+      ∙ tabs.getD-joined (longPart (m .«kept_heads»)) 8 8 i j 0 (laws.long-length (m .«kept_heads»)) p q
+
+  -- and behind their persisted copies
+  past-kepts : (p j : ℕ) → p ≡ 146 + j → getD (recordBytes m) p 0 ≡ getD behind j 0
+  unfolding keptsOf
+  past-kepts p j h = past-heads p (length kepts + j) (omega (arith, kepts-length)) ∙ getD-append-add kepts behind j 0
+
+  node-byte : (i j : ℕ) → i < 64 → j < 28 → getD (recordBytes m) (146 + i * 28 + j) 0 ≡ getD (nodePart m i) j 0
+  unfolding nodesOf
   node-byte i j p q =
-      ap (λ (k : ℕ). getD (recordBytes m) k 0) (add-assoc 34 (i * 28) j)
-      ∙ getD-append-add (headBytes m) (joined (nodePart m) 64 ++ rest) (i * 28 + j) 0
+      past-kepts (146 + i * 28 + j) (i * 28 + j) (add-assoc 146 (i * 28) j)
       ∙ List·getD-append (joined (nodePart m) 64) rest 0 (i * 28 + j) (omega (arith, nodes-length))
       ∙ tabs.getD-joined (nodePart m) 28 64 i j 0 (laws.node-length m) p q
 
-  thread-byte : (i j : ℕ) → i < 8 → j < 18 → getD (recordBytes m) (1826 + i * 18 + j) 0 ≡ getD (threadPart m i) j 0
-  unfolding recordBytes nodesOf threadsOf
+  thread-byte : (i j : ℕ) → i < 8 → j < 18 → getD (recordBytes m) (1938 + i * 18 + j) 0 ≡ getD (threadPart m i) j 0
+  unfolding nodesOf threadsOf
   thread-byte i j p q =
-      let e : 1826 + i * 18 + j ≡ 34 + (length (joined (nodePart m) 64) + (i * 18 + j)) = omega (arith, nodes-length) in
-      ap (λ (k : ℕ). getD (recordBytes m) k 0) e
-      ∙ getD-append-add (headBytes m) (joined (nodePart m) 64 ++ rest) (length (joined (nodePart m) 64) + (i * 18 + j)) 0
+      past-kepts (1938 + i * 18 + j) (length (joined (nodePart m) 64) + (i * 18 + j)) (omega (arith, nodes-length))
       ∙ getD-append-add (joined (nodePart m) 64) rest (i * 18 + j) 0
       ∙ List·getD-append (joined (threadPart m) 8) (m .last ∷ []) 0 (i * 18 + j) (omega (arith, threads-length))
       ∙ tabs.getD-joined (threadPart m) 18 8 i j 0 (laws.thread-length m) p q
 
-  last-byte : at1 (recordBytes m) 1970 ≡ m .last
-  unfolding recordBytes nodesOf threadsOf
+  last-byte : at1 (recordBytes m) 2082 ≡ m .last
+  unfolding nodesOf threadsOf
   last-byte =
-      let e : 1970 ≡ 34 + (length (joined (nodePart m) 64) + (length (joined (threadPart m) 8) + 0)) = omega (arith, nodes-length, threads-length) in
-      ap (λ (k : ℕ). getD (recordBytes m) k 0) e
-      ∙ getD-append-add (headBytes m) (joined (nodePart m) 64 ++ rest) (length (joined (nodePart m) 64) + (length (joined (threadPart m) 8) + 0)) 0
+      past-kepts 2082 (length (joined (nodePart m) 64) + (length (joined (threadPart m) 8) + 0)) (omega (arith, nodes-length, threads-length))
       ∙ getD-append-add (joined (nodePart m) 64) rest (length (joined (threadPart m) 8) + 0) 0
       ∙ getD-append-add (joined (threadPart m) 8) (m .last ∷ []) 0 0
 
   pub record-length : length (recordBytes m) ≡ recordSize
-  unfolding recordBytes
+  unfolding recordBytes nodesOf threadsOf headsOf keptsOf
   record-length =
-      length-append (headBytes m) (joined (nodePart m) 64 ++ rest)
+      length-append (headBytes m) (heads ++ copies)
       ∙ omega (
         arith,
+        length-append heads copies,
+        length-append kepts behind,
         length-append (joined (nodePart m) 64) rest,
         length-append (joined (threadPart m) 8) (m .last ∷ []),
-        tabs.length-joined (nodePart m) 28 64 (laws.node-length m),
-        tabs.length-joined (threadPart m) 18 8 (laws.thread-length m),
+        heads-length,
+        kepts-length,
+        nodes-length,
+        threads-length,
       )
 
   module _ (w : Whole m) where
@@ -123,7 +177,7 @@ module _ (m : Machine) where
     node-back i p =
         let s = recordBytes m in
         let q = nodePart m i in
-        let at = 34 + i * 28 in
+        let at = 146 + i * 28 in
         let same : (j : ℕ) → j < 28 → getD s (at + j) 0 ≡ getD q j 0 = λ j h. node-byte i j p h in
         let a : at4 s at ≡ node m i .item = word-first s q at 28 same (omega (arith, record-length)) (laws.node-length m i) (omega arith) ∙ num.num-le 4 (node m i .item) (w .node-item i) in
         let b : at8 s (at + 6) ≡ node m i .index = long-at s q at 28 same (omega (arith, record-length)) (laws.node-length m i) 6 (omega arith) ∙ num.num-le 8 (node m i .index) (w .node-index i) in
@@ -134,7 +188,7 @@ module _ (m : Machine) where
     kept-back i p =
         let s = recordBytes m in
         let q = nodePart m i in
-        let at = 34 + i * 28 in
+        let at = 146 + i * 28 in
         let same : (j : ℕ) → j < 28 → getD s (at + j) 0 ≡ getD q j 0 = λ j h. node-byte i j p h in
         let a : at8 s (at + 16) ≡ kept m i .index = long-at s q at 28 same (omega (arith, record-length)) (laws.node-length m i) 16 (omega arith) ∙ num.num-le 8 (kept m i .index) (w .kept-index i) in
         let b : at4 s (at + 24) ≡ kept m i .item = word-at s q at 28 same (omega (arith, record-length)) (laws.node-length m i) 24 (omega arith) ∙ num.num-le 4 (kept m i .item) (w .kept-item i) in
@@ -145,7 +199,7 @@ module _ (m : Machine) where
     thread-back i p =
         let s = recordBytes m in
         let q = threadPart m i in
-        let at = 1826 + i * 18 in
+        let at = 1938 + i * 18 in
         let same : (j : ℕ) → j < 18 → getD s (at + j) 0 ≡ getD q j 0 = λ j h. thread-byte i j p h in
         let a : at8 s (at + 4) ≡ thread m i .index = long-at s q at 18 same (omega (arith, record-length)) (laws.thread-length m i) 4 (omega arith) ∙ num.num-le 8 (thread m i .index) (w .thread-index i) in
         let b : at4 s (at + 13) ≡ thread m i .item = word-at s q at 18 same (omega (arith, record-length)) (laws.thread-length m i) 13 (omega arith) ∙ num.num-le 4 (thread m i .item) (w .thread-item i) in
@@ -173,17 +227,26 @@ module _ (m : Machine) where
     unfolding idleThreads
     threads-back = filled zeroThread (threadIn (recordBytes m)) 8 idleThreads (m .threads) refl (w .threads) thread-back
 
-    index-back : at8 (recordBytes m) 18 ≡ headAt m 0
-    unfolding recordBytes atW
-    index-back = num.num-le 8 (headAt m 0) (w .index)
+    long-back : (l : List ℕ) (p i : ℕ) → p + i * 8 + 8 ≤ recordSize → getD l i 0 < 2 ^ 64
+        → ((j : ℕ) → j < 8 → getD (recordBytes m) (p + i * 8 + j) 0 ≡ getD (longPart l i) j 0) → longIn (recordBytes m) p i ≡ getD l i 0
+    unfolding longIn longPart atW
+    long-back l p i h n same =
+        let at = p + i * 8 in
+        ap (at8 (recordBytes m)) (sym (add-zero at))
+        ∙ long-at (recordBytes m) (longPart l i) at 8 same (omega (arith, record-length)) (laws.long-length l i) 0 (omega arith)
+        ∙ num.num-le 8 (getD l i 0) n
+
+    heads-back : front (longIn (recordBytes m) 18) 8 noHeads ≡ m .heads
+    unfolding noHeads
+    heads-back = filled 0 (longIn (recordBytes m) 18) 8 noHeads (m .heads) refl (w .heads) (λ i p. long-back (m .heads) 18 i (omega arith) (w .index i) (λ j q. head-byte i j p q))
+
+    kepts-back : front (longIn (recordBytes m) 82) 8 noHeads ≡ m .«kept_heads»
+    unfolding noHeads
+    kepts-back = filled 0 (longIn (recordBytes m) 82) 8 noHeads (m .«kept_heads») refl (w .kept-heads) (λ i p. long-back (m .«kept_heads») 82 i (omega arith) (w .head i) (λ j q. kept-byte i j p q))
 
     free-back : at8 (recordBytes m) 10 ≡ m .free
     unfolding recordBytes atW
     free-back = num.num-le 8 (m .free) (w .free)
-
-    head-back : at8 (recordBytes m) 26 ≡ keptHead m 0
-    unfolding recordBytes atW
-    head-back = num.num-le 8 (keptHead m 0) (w .head)
 
     record-back : recordIn (recordBytes m) ≡ m
     unfolding recordIn recordBytes
@@ -192,11 +255,11 @@ module _ (m : Machine) where
       n = m .n;
       t = m .t;
       head = m .head;
-      heads = (ap (set noHeads 0) index-back ∙ w .heads) k;
+      heads = heads-back k;
       tail = m .tail;
       free = free-back k;
       nodes = nodes-back k;
-      «kept_heads» = (ap (set noHeads 0) head-back ∙ w .kept-heads) k;
+      «kept_heads» = kepts-back k;
       kept = copies-back k;
       threads = threads-back k;
       last = last-byte k;

@@ -1,4 +1,4 @@
--- 1,971 bytes with a record's mark and version, read as a record and written again are the bytes. Assumes nothing.
+-- 2,083 bytes with a record's mark and version, read as a record and written again are the bytes. Assumes nothing.
 use Prim.Native.Nat.{ℕ, _+_, _*_, _≤_, _<_}
 use mathlib.Core.Path.{_≡_, sym, ap, ap₂, _∙_}
 use mathlib.Core.Bool.{true}
@@ -10,13 +10,13 @@ use lib.Dec.{eqb}
 use borrow.Author.Tests.{eqb-true}
 use Rattle.lists.proofs.BoolLaws.{both-true}
 use lib.Seq.{take-all, take-add, drop-drop}
-use Rattle.lists.specs.Tab.{tab, joined}
+use Rattle.lists.specs.Tab.{tab, front, joined}
 use Rattle.lists.proofs.TabLaws as tabs
 use Rattle.image.specs.Bytes.{le4, at1, at4}
 use Rattle.image.proofs.ByteLaws as num
 use Rattle.image.specs.Layout.{marked, noContent, noContents, noHeads}
 use Rattle.machine.specs.Record.{zeroNode, zeroThread, blankNodes, idleThreads}
-use Rattle.record.specs.Layout.{recordSize, isRecord, le8, at8, headBytes, nodeBytes, threadBytes, nodePart, threadPart, recordBytes, nodeIn, keptIn, threadIn, recordIn}
+use Rattle.record.specs.Layout.{recordSize, isRecord, le8, at8, headBytes, nodeBytes, threadBytes, longPart, nodePart, threadPart, recordBytes, longIn, nodeIn, keptIn, threadIn, recordIn}
 
 module _ (s : List ℕ) (bytes : num.Bytes s) (size : length s ≡ recordSize) (mark : isRecord s ≡ true) where
   -- what stands from place p on
@@ -42,28 +42,33 @@ module _ (s : List ℕ) (bytes : num.Bytes s) (size : length s ≡ recordSize) (
       ∙ tabs.tab-same (λ k. getD s (p + j + k) 0) (λ k. from p (j + k)) 8 (λ k l. ap (λ (i : ℕ). getD s i 0) (add-assoc p j k))
 
   -- the mark and the version are these bytes
-  marks : (at1 s 0 ≡ 85) × (at1 s 1 ≡ 81) × (at1 s 2 ≡ 77) × (at1 s 3 ≡ 2) × (at1 s 4 ≡ 0)
+  marks : (at1 s 0 ≡ 85) × (at1 s 1 ≡ 81) × (at1 s 2 ≡ 77) × (at1 s 3 ≡ 3) × (at1 s 4 ≡ 0)
   unfolding marked
   marks =
       let a = both-true (eqb (at1 s 0) 85) _ mark in
       let b = both-true (eqb (at1 s 1) 81) _ (a .1) in
       let c = both-true (eqb (at1 s 2) 77) _ (b .1) in
-      let d = both-true (eqb (at1 s 3) 2) _ (c .1) in
+      let d = both-true (eqb (at1 s 3) 3) _ (c .1) in
       (eqb-true _ _ (a .0), eqb-true _ _ (b .0), eqb-true _ _ (c .0), eqb-true _ _ (d .0), eqb-true _ _ (d .1))
 
-  head-there : headBytes (recordIn s) ≡ tab (λ j. getD s (0 + j) 0) 34
-  unfolding recordIn noHeads tab
+  head-there : headBytes (recordIn s) ≡ tab (λ j. getD s (0 + j) 0) 18
+  unfolding recordIn tab
   head-there =
       let free = long-more 0 10 (omega arith) in
-      let index = long-more 0 18 (omega arith) in
-      let copy = long-more 0 26 (omega arith) in
       let m = marks in
-      λ t. sym (m .0) t ∷ sym (m .1) t ∷ sym (m .2) t ∷ sym (m .3) t ∷ sym (m .4) t ∷ at1 s 5 ∷ at1 s 6 ∷ at1 s 7 ∷ at1 s 8 ∷ at1 s 9 ∷ (free t ++ (index t ++ copy t))
+      λ t. sym (m .0) t ∷ sym (m .1) t ∷ sym (m .2) t ∷ sym (m .3) t ∷ sym (m .4) t ∷ at1 s 5 ∷ at1 s 6 ∷ at1 s 7 ∷ at1 s 8 ∷ at1 s 9 ∷ free t
 
-  node-there : (i : ℕ) → i < 64 → nodePart (recordIn s) i ≡ tab (λ j. getD s (34 + i * 28 + j) 0) 28
+  -- index i of those from place p on
+  long-there : (p i : ℕ) → i < 8 → p + i * 8 + 8 ≤ recordSize → longPart (front (longIn s p) 8 noHeads) i ≡ tab (λ j. getD s (p + i * 8 + j) 0) 8
+  unfolding longPart longIn tab
+  long-there p i h l =
+      ap le8 (tabs.front-at (longIn s p) 8 noHeads i 0 h ∙ ap (at8 s) (sym (add-zero (p + i * 8))))
+      ∙ long-more (p + i * 8) 0 (omega arith)
+
+  node-there : (i : ℕ) → i < 64 → nodePart (recordIn s) i ≡ tab (λ j. getD s (146 + i * 28 + j) 0) 28
   unfolding recordIn nodePart nodeIn keptIn tab
   node-there i h =
-      let at = 34 + i * 28 in
+      let at = 146 + i * 28 in
       ap₂ nodeBytes (tabs.front-at (nodeIn s) 64 blankNodes i zeroNode h) (tabs.front-at (keptIn s) 64 noContents i noContent h)
       ∙ (let a = word-first at (omega arith) in
       let b = long-more at 6 (omega arith) in
@@ -71,10 +76,10 @@ module _ (s : List ℕ) (bytes : num.Bytes s) (size : length s ≡ recordSize) (
       let d = word-more at 24 (omega arith) in
       λ t. a t ++ (from at 4 ∷ from at 5 ∷ (b t ++ (from at 14 ∷ from at 15 ∷ (c t ++ d t)))))
 
-  thread-there : (i : ℕ) → i < 8 → threadPart (recordIn s) i ≡ tab (λ j. getD s (1826 + i * 18 + j) 0) 18
+  thread-there : (i : ℕ) → i < 8 → threadPart (recordIn s) i ≡ tab (λ j. getD s (1938 + i * 18 + j) 0) 18
   unfolding recordIn threadPart threadIn tab
   thread-there i h =
-      let at = 1826 + i * 18 in
+      let at = 1938 + i * 18 in
       ap threadBytes (tabs.front-at (threadIn s) 8 idleThreads i zeroThread h)
       ∙ (let a = long-more at 4 (omega arith) in
       let b = word-more at 13 (omega arith) in
@@ -98,12 +103,16 @@ module _ (s : List ℕ) (bytes : num.Bytes s) (size : length s ≡ recordSize) (
   pub there-and-back : recordBytes (recordIn s) ≡ s
   unfolding recordBytes recordIn tab
   there-and-back =
-      let a : headBytes (recordIn s) ≡ take 34 s = head-there ∙ sym (tabs.take-drop-tab s 0 0 34 (omega arith)) in
-      let b = row (nodePart (recordIn s)) 34 28 64 (omega arith) (λ i q. omega arith) node-there in
-      let c = row (threadPart (recordIn s)) 1826 18 8 (omega arith) (λ i q. omega arith) thread-there in
-      let l : recordIn s .last ∷ [] ≡ take 1 (drop 1970 s) = sym (tabs.take-drop-tab s 0 1970 1 (omega arith)) in
-      let d : take 144 (drop 1826 s) ++ take 1 (drop 1970 s) ≡ take 145 (drop 1826 s) = parts 144 1 1826 in
-      let e : take 1792 (drop 34 s) ++ take 145 (drop 1826 s) ≡ take 1937 (drop 34 s) = parts 1792 145 34 in
-      ap₂ join a (ap₂ join b (ap₂ join c l ∙ d) ∙ e)
-      ∙ sym (take-add 34 1937 s)
+      let a : headBytes (recordIn s) ≡ take 18 s = head-there ∙ sym (tabs.take-drop-tab s 0 0 18 (omega arith)) in
+      let x = row (longPart (recordIn s .heads)) 18 8 8 (omega arith) (λ i q. omega arith) (λ i q. long-there 18 i q (omega arith)) in
+      let y = row (longPart (recordIn s .«kept_heads»)) 82 8 8 (omega arith) (λ i q. omega arith) (λ i q. long-there 82 i q (omega arith)) in
+      let b = row (nodePart (recordIn s)) 146 28 64 (omega arith) (λ i q. omega arith) node-there in
+      let c = row (threadPart (recordIn s)) 1938 18 8 (omega arith) (λ i q. omega arith) thread-there in
+      let l : recordIn s .last ∷ [] ≡ take 1 (drop 2082 s) = sym (tabs.take-drop-tab s 0 2082 1 (omega arith)) in
+      let d : take 144 (drop 1938 s) ++ take 1 (drop 2082 s) ≡ take 145 (drop 1938 s) = parts 144 1 1938 in
+      let e : take 1792 (drop 146 s) ++ take 145 (drop 1938 s) ≡ take 1937 (drop 146 s) = parts 1792 145 146 in
+      let f : take 64 (drop 82 s) ++ take 1937 (drop 146 s) ≡ take 2001 (drop 82 s) = parts 64 1937 82 in
+      let g : take 64 (drop 18 s) ++ take 2001 (drop 82 s) ≡ take 2065 (drop 18 s) = parts 64 2001 18 in
+      ap₂ join a (ap₂ join x (ap₂ join y (ap₂ join b (ap₂ join c l ∙ d) ∙ e) ∙ f) ∙ g)
+      ∙ sym (take-add 18 2065 s)
       ∙ take-all recordSize s (omega arith)

@@ -1,10 +1,10 @@
--- A machine record as 1,971 bytes, little-endian, every field of it: 34 for the mark "UQM", version 2 (16 bits) and what stands alone,
--- Head's index among it and its persisted copy, 28 for each of the 64 nodes with its persisted copy, 18 for each of the 8 threads,
--- and behind them 1 for the node last handed out.
+-- A machine record as 2,083 bytes, little-endian, every field of it: 18 for the mark "UQM", version 3 (16 bits) and what stands alone,
+-- 8 for each of the 8 head lines' indices and 8 for each persisted copy of them, 28 for each of the 64 nodes with its persisted copy,
+-- 18 for each of the 8 threads, and behind them 1 for the node last handed out.
 use Prim.Native.Nat.{ℕ, _+_, _*_}
 use mathlib.Core.Bool.{Bool, true, false, not}
 use mathlib.Core.List.{List, [], _∷_, _++_}
-use lib.ListN.{length, set}
+use lib.ListN.{length, getD}
 use lib.Dec.{eqb, ltb}
 use Rattle.lists.specs.Find.{pick}
 use Rattle.lists.specs.Tab.{joined, front, over}
@@ -14,7 +14,7 @@ use Rattle.answer.specs.declared.Answer.the-variants.{Taken, Length, Mark, Room
 use Rattle.image.specs.Bytes.{le, atW, at1, at4, le4}
 use Rattle.image.specs.Layout.{marked, noContents, noHeads}
 use Rattle.image.specs.declared.Content.{Content}
-use Rattle.machine.specs.Record.{node, kept, headAt, keptHead, thread, blankNodes, idleThreads}
+use Rattle.machine.specs.Record.{node, kept, thread, blankNodes, idleThreads}
 use Rattle.machine.specs.Start.{blankMachine}
 use Rattle.machine.specs.declared.Machine.{Machine}
 use Rattle.machine.specs.declared.Node.{Node}
@@ -30,18 +30,16 @@ abbrev pub at8 : List ℕ → ℕ → ℕ
 at8 = atW 8
 
 abbrev pub recordSize : ℕ
-recordSize = 1971
+recordSize = 2083
 
--- the mark "UQM" and version 2: a host that holds bytes of another layout is told
+-- the mark "UQM" and version 3: a host that holds bytes of another layout is told
 abbrev pub isRecord : List ℕ → Bool
-isRecord = marked 85 81 77 2
+isRecord = marked 85 81 77 3
 
 -- ---- to bytes
 
 abbrev pub headBytes : Machine → List ℕ
-headBytes m =
-    85 ∷ 81 ∷ 77 ∷ 2 ∷ 0 ∷ m .form ∷ m .n ∷ m .t ∷ m .head ∷ m .tail
-    ∷ (le8 (m .free) ++ (le8 (headAt m 0) ++ le8 (keptHead m 0)))
+headBytes m = 85 ∷ 81 ∷ 77 ∷ 3 ∷ 0 ∷ m .form ∷ m .n ∷ m .t ∷ m .head ∷ m .tail ∷ le8 (m .free)
 
 abbrev pub nodeBytes : Node → Content → List ℕ
 nodeBytes v p =
@@ -52,6 +50,10 @@ abbrev pub threadBytes : Thread → List ℕ
 threadBytes v =
     v .step ∷ v .node ∷ v .tail ∷ v .head ∷ (le8 (v .index) ++ (v .next ∷ (le4 (v .item) ++ (v .held ∷ []))))
 
+-- number k of a table of indices
+unfoldable pub longPart : List ℕ → ℕ → List ℕ
+longPart l k = le8 (getD l k 0)
+
 unfoldable pub nodePart : Machine → ℕ → List ℕ
 nodePart m i = nodeBytes (node m i) (kept m i)
 
@@ -59,7 +61,10 @@ unfoldable pub threadPart : Machine → ℕ → List ℕ
 threadPart m k = threadBytes (thread m k)
 
 unfoldable pub recordBytes : Machine → List ℕ
-recordBytes m = headBytes m ++ (joined (nodePart m) 64 ++ (joined (threadPart m) 8 ++ (m .last ∷ [])))
+recordBytes m =
+    headBytes m
+    ++ (joined (longPart (m .heads)) 8
+    ++ (joined (longPart (m .«kept_heads»)) 8 ++ (joined (nodePart m) 64 ++ (joined (threadPart m) 8 ++ (m .last ∷ [])))))
 
 -- ---- from bytes
 
@@ -87,14 +92,18 @@ readThread s at = record {
   held = at1 s (at + 17);
 }
 
+-- number k of those from a place on
+unfoldable pub longIn : List ℕ → ℕ → ℕ → ℕ
+longIn s at k = at8 s (at + k * 8)
+
 unfoldable pub nodeIn : List ℕ → ℕ → Node
-nodeIn s i = readNode s (34 + i * 28)
+nodeIn s i = readNode s (146 + i * 28)
 
 unfoldable pub keptIn : List ℕ → ℕ → Content
-keptIn s i = readKept s (34 + i * 28)
+keptIn s i = readKept s (146 + i * 28)
 
 unfoldable pub threadIn : List ℕ → ℕ → Thread
-threadIn s k = readThread s (1826 + k * 18)
+threadIn s k = readThread s (1938 + k * 18)
 
 unfoldable pub recordIn : List ℕ → Machine
 recordIn s = record {
@@ -102,19 +111,19 @@ recordIn s = record {
   n = at1 s 6;
   t = at1 s 7;
   head = at1 s 8;
-  heads = set noHeads 0 (at8 s 18);
+  heads = front (longIn s 18) 8 noHeads;
   tail = at1 s 9;
   free = at8 s 10;
   nodes = front (nodeIn s) 64 blankNodes;
-  «kept_heads» = set noHeads 0 (at8 s 26);
+  «kept_heads» = front (longIn s 82) 8 noHeads;
   kept = front (keptIn s) 64 noContents;
   threads = front (threadIn s) 8 idleThreads;
-  last = at1 s 1970;
+  last = at1 s 2082;
 }
 
 -- ---- the two calls
 
--- 1, then 2: there are 1,971 bytes, and they begin with mark and version. The record itself is not tested here
+-- 1, then 2: there are 2,083 bytes, and they begin with mark and version. The record itself is not tested here
 unfoldable pub readAnswer : List ℕ → Answer
 readAnswer s = check (not (eqb (length s) recordSize)) Length (check (not (isRecord s)) Mark Taken)
 

@@ -3,9 +3,9 @@ ghost use mathlib.Core.Path.{_≡_};
 ghost use Prim.Native.Nat.{_+_, _≤_};
 ghost use lib.ListN.{length};
 ghost use Rattle.lists.specs.Tab.{front};
-ghost use Rattle.image.specs.Layout.{noContents};
+ghost use Rattle.image.specs.Layout.{noContents, noHeads};
 ghost use Rattle.machine.specs.Record.{blankNodes, idleThreads};
-ghost use Rattle.record.specs.Layout.{recordSize, isRecord, readNode, readKept, readThread, nodeIn, keptIn, threadIn, recordIn};
+ghost use Rattle.record.specs.Layout.{recordSize, isRecord, readNode, readKept, readThread, longIn, nodeIn, keptIn, threadIn, recordIn};
 use codec::long_at;
 use codec::word_at;
 use image::Content;
@@ -31,7 +31,7 @@ pub fn is_record(s: &[u8]) -> bool
     if s[2] != 77 {
         return false;
     }
-    if s[3] != 2 {
+    if s[3] != 3 {
         return false;
     }
     s[4] == 0
@@ -83,6 +83,21 @@ fn thread_at(s: &[u8], at: usize) -> Thread
     }
 }
 
+// The eight indices from a place on: those of the head lines, or their persisted copies.
+fn longs_in(s: &[u8], at: usize) -> [u64; 8]
+    requires { ⌜ (at ≤ 82) × (recordSize ≤ length (now s)) ⌝ }
+    ensures { λ r. ⌜ r ≡ front (longIn (now (s .entry)) at) 8 noHeads ⌝ }
+{
+    let mut l = no_heads();
+    let mut i = 0;
+    while i < 8 {
+        let x = long_at(s, at + i * 8);
+        l[i] = x;
+        i += 1;
+    }
+    l
+}
+
 fn nodes_in(s: &[u8]) -> [Node; 64]
     requires { ⌜ recordSize ≤ length (now s) ⌝ }
     ensures { λ r. ⌜ r ≡ front (nodeIn (now (s .entry))) 64 blankNodes ⌝ }
@@ -90,7 +105,7 @@ fn nodes_in(s: &[u8]) -> [Node; 64]
     let mut l = blank_nodes();
     let mut i = 0;
     while i < 64 {
-        let v = node_at(s, 34 + i * 28);
+        let v = node_at(s, 146 + i * 28);
         l[i] = v;
         i += 1;
     }
@@ -104,7 +119,7 @@ fn kept_in(s: &[u8]) -> [Content; 64]
     let mut l = no_contents();
     let mut i = 0;
     while i < 64 {
-        let v = kept_at(s, 34 + i * 28);
+        let v = kept_at(s, 146 + i * 28);
         l[i] = v;
         i += 1;
     }
@@ -118,7 +133,7 @@ fn threads_in(s: &[u8]) -> [Thread; 8]
     let mut l = idle_threads();
     let mut i = 0;
     while i < 8 {
-        let v = thread_at(s, 1826 + i * 18);
+        let v = thread_at(s, 1938 + i * 18);
         l[i] = v;
         i += 1;
     }
@@ -129,11 +144,9 @@ pub fn record_in(s: &[u8]) -> Machine
     requires { ⌜ recordSize ≤ length (now s) ⌝ }
     ensures { λ r. ⌜ r ≡ recordIn (now (s .entry)) ⌝ }
 {
-    let mut heads = no_heads();
-    heads[0] = long_at(s, 18);
     let free = long_at(s, 10);
-    let mut kept_heads = no_heads();
-    kept_heads[0] = long_at(s, 26);
+    let heads = longs_in(s, 18);
+    let kept_heads = longs_in(s, 82);
     let nodes = nodes_in(s);
     let kept = kept_in(s);
     let threads = threads_in(s);
@@ -149,6 +162,6 @@ pub fn record_in(s: &[u8]) -> Machine
         kept_heads,
         kept,
         threads,
-        last: s[1970],
+        last: s[2082],
     }
 }

@@ -3,7 +3,7 @@ ghost use mathlib.Core.Path.{_≡_};
 ghost use Prim.Native.Nat.{_+_, _≤_};
 ghost use lib.ListN.{length};
 ghost use Rattle.lists.specs.Tab.{over, joined};
-ghost use Rattle.record.specs.Layout.{recordSize, headBytes, nodeBytes, threadBytes, nodePart, threadPart, recordBytes};
+ghost use Rattle.record.specs.Layout.{recordSize, le8, headBytes, nodeBytes, threadBytes, longPart, nodePart, threadPart, recordBytes};
 use image::Content;
 use machine::Machine;
 use machine::Node;
@@ -81,16 +81,14 @@ fn thread_bytes(v: Thread) -> [u8; 18]
     ]
 }
 
-fn head_bytes(m: Machine) -> [u8; 34]
+fn head_bytes(m: Machine) -> [u8; 18]
     ensures { λ r. ⌜ r ≡ headBytes m ⌝ }
 {
-    let h = m.heads[0];
-    let p = m.kept_heads[0];
     [
         85,
         81,
         77,
-        2,
+        3,
         0,
         m.form,
         m.n,
@@ -105,45 +103,57 @@ fn head_bytes(m: Machine) -> [u8; 34]
         (m.free / 256 / 256 / 256 / 256 / 256 % 256) as u8,
         (m.free / 256 / 256 / 256 / 256 / 256 / 256 % 256) as u8,
         (m.free / 256 / 256 / 256 / 256 / 256 / 256 / 256 % 256) as u8,
-        (h % 256) as u8,
-        (h / 256 % 256) as u8,
-        (h / 256 / 256 % 256) as u8,
-        (h / 256 / 256 / 256 % 256) as u8,
-        (h / 256 / 256 / 256 / 256 % 256) as u8,
-        (h / 256 / 256 / 256 / 256 / 256 % 256) as u8,
-        (h / 256 / 256 / 256 / 256 / 256 / 256 % 256) as u8,
-        (h / 256 / 256 / 256 / 256 / 256 / 256 / 256 % 256) as u8,
-        (p % 256) as u8,
-        (p / 256 % 256) as u8,
-        (p / 256 / 256 % 256) as u8,
-        (p / 256 / 256 / 256 % 256) as u8,
-        (p / 256 / 256 / 256 / 256 % 256) as u8,
-        (p / 256 / 256 / 256 / 256 / 256 % 256) as u8,
-        (p / 256 / 256 / 256 / 256 / 256 / 256 % 256) as u8,
-        (p / 256 / 256 / 256 / 256 / 256 / 256 / 256 % 256) as u8,
     ]
+}
+
+fn long_bytes(x: u64) -> [u8; 8]
+    ensures { λ r. ⌜ r ≡ le8 x ⌝ }
+{
+    [
+        (x % 256) as u8,
+        (x / 256 % 256) as u8,
+        (x / 256 / 256 % 256) as u8,
+        (x / 256 / 256 / 256 % 256) as u8,
+        (x / 256 / 256 / 256 / 256 % 256) as u8,
+        (x / 256 / 256 / 256 / 256 / 256 % 256) as u8,
+        (x / 256 / 256 / 256 / 256 / 256 / 256 % 256) as u8,
+        (x / 256 / 256 / 256 / 256 / 256 / 256 / 256 % 256) as u8,
+    ]
+}
+
+// Eight indices from a place on: those of the head lines, or their persisted copies.
+fn put_longs(b: &mut [u8], at: usize, l: [u64; 8])
+    requires { ⌜ (at ≤ 82) × (recordSize ≤ length (now b)) ⌝ }
+    ensures { λ _. ⌜ now (b .exit) ≡ over (now (b .entry)) at (joined (longPart l) 8) ⌝ }
+{
+    let mut i = 0;
+    while i < 8 {
+        let a = long_bytes(l[i]);
+        copy(b, at + i * 8, &a);
+        i += 1;
+    }
 }
 
 fn put_nodes(b: &mut [u8], m: Machine)
     requires { ⌜ recordSize ≤ length (now b) ⌝ }
-    ensures { λ _. ⌜ now (b .exit) ≡ over (now (b .entry)) 34 (joined (nodePart m) 64) ⌝ }
+    ensures { λ _. ⌜ now (b .exit) ≡ over (now (b .entry)) 146 (joined (nodePart m) 64) ⌝ }
 {
     let mut i = 0;
     while i < 64 {
         let a = node_bytes(m.nodes[i], m.kept[i]);
-        copy(b, 34 + i * 28, &a);
+        copy(b, 146 + i * 28, &a);
         i += 1;
     }
 }
 
 fn put_threads(b: &mut [u8], m: Machine)
     requires { ⌜ recordSize ≤ length (now b) ⌝ }
-    ensures { λ _. ⌜ now (b .exit) ≡ over (now (b .entry)) 1826 (joined (threadPart m) 8) ⌝ }
+    ensures { λ _. ⌜ now (b .exit) ≡ over (now (b .entry)) 1938 (joined (threadPart m) 8) ⌝ }
 {
     let mut i = 0;
     while i < 8 {
         let a = thread_bytes(m.threads[i]);
-        copy(b, 1826 + i * 18, &a);
+        copy(b, 1938 + i * 18, &a);
         i += 1;
     }
 }
@@ -152,9 +162,13 @@ pub fn put_record(b: &mut [u8], m: Machine)
     requires { ⌜ recordSize ≤ length (now b) ⌝ }
     ensures { λ _. ⌜ now (b .exit) ≡ over (now (b .entry)) 0 (recordBytes m) ⌝ }
 {
+    let heads = m.heads;
+    let kept_heads = m.kept_heads;
     let a = head_bytes(m);
     copy(b, 0, &a);
+    put_longs(b, 18, heads);
+    put_longs(b, 82, kept_heads);
     put_nodes(b, m);
     put_threads(b, m);
-    b[1970] = m.last;
+    b[2082] = m.last;
 }

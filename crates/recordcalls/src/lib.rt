@@ -7,9 +7,9 @@ ghost use Rattle.calls.specs.Calls.{started, startWritten, happened, eventWritt
 use answer::Answer;
 use calls::packing::packed_of;
 use calls::packing::reply_of;
+use image::threads_fit;
 use machine::Event;
 use machine::Places;
-use machine::start::threads_fit;
 
 // `bytes` are a record's. Here the start of an image with T threads is written into them.
 pub fn start(image: &[u8], threads: u8, bytes: &mut [u8]) -> u64
@@ -19,7 +19,7 @@ pub fn start(image: &[u8], threads: u8, bytes: &mut [u8]) -> u64
     if !threads_fit(threads) {
         return packed_of(Answer::Threads, 0);
     }
-    let read = codec::read_image(image);
+    let read = codec::read_part(image, threads, 0);
     let a = read.answer;
     if !answer::is_taken(a) {
         return packed_of(a, 0);

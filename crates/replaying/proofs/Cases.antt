@@ -9,8 +9,8 @@ use Rattle.lists.specs.Tab.{tab, front}
 use Rattle.lists.specs.Word.{has, with, without, wordOf}
 use Rattle.answer.specs.declared.Answer.the-variants.{Taken, Kind, Number, NotZero, Idle, Clean}
 use Rattle.image.specs.Bytes.{atW}
-use Rattle.image.specs.Form.{known, widthOf, topOf, headsAt, nodeSize, headerSize}
-use Rattle.image.specs.Layout.{sameContent, noContents, marked, readNodes, imageIn, headLines, noHeads, headsOf, readHeads, formIn, nodePlace}
+use Rattle.image.specs.Form.{known, widthOf, topOf, headsAt, nodeSize, headerSize, headLines, ownThreads, perDesk, nodePlace, imageSize}
+use Rattle.image.specs.Layout.{sameContent, noContents, marked, shapeIn, readNodes, imageIn, noHeads, headsOf, readHeads, formIn}
 use Rattle.image.specs.Recovered.{largest, headOf, recovered, twins, hasTwin, firstTwin, dummyOf, firstUnclear}
 use Rattle.image.specs.Refusals.{startable, sound, imageAnswer}
 use Rattle.machine.specs.Record.{blankNodes, idleThreads}
@@ -47,8 +47,8 @@ pub holds :
     × (replayOf (probe 1 (seen 3 0 0 0 0)) ≡ nothingOdd (Idle 0))
     × (replayOf (probe 2 (seen 2 0 1 0 0 ++ seen 4 0 0 0 0)) ≡ nothingOdd (Clean 1))
     × (replayOf (probe 1 (seen 4 0 0 0 1)) ≡ nothingOdd (NotZero 0))
-unfolding probe seen dequeued least any tab front has with without wordOf sameContent noContents atW known widthOf topOf headsAt nodeSize headerSize marked formIn nodePlace readNodes imageIn
-    headLines noHeads headsOf readHeads largest headOf recovered twins hasTwin firstTwin dummyOf firstUnclear startable sound imageAnswer blankNodes idleThreads
+unfolding probe seen dequeued least any tab front has with without wordOf sameContent noContents atW known widthOf topOf headsAt nodeSize headerSize marked formIn nodePlace imageSize shapeIn readNodes imageIn
+    headLines ownThreads perDesk noHeads headsOf readHeads largest headOf recovered twins hasTwin firstTwin dummyOf firstUnclear startable sound imageAnswer blankNodes idleThreads
     lineAt putLine insert risen behind lastOf startWith nextFree releasedAt released others retired eventAt scheduleIn benchAt
     probeAnswer asked odd refusedAt oddAt firstRefused eventsAnswer replayAnswer firstOdd oddIn replayOf
 holds = (refl, refl, refl, refl, refl, refl, refl, refl, refl, refl)

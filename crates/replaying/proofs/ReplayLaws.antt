@@ -21,9 +21,11 @@ use Rattle.machine.specs.Start.{startOf}
 use Rattle.machine.specs.declared.Machine.{Machine}
 use Rattle.machine.specs.declared.Event.{Event}
 use Rattle.machine.specs.declared.Acted.{Acted}
-use Rattle.image.specs.Form.{known}
-use Rattle.image.specs.Layout.{formIn, imageIn}
-use Rattle.schedule.specs.Layout.{scheduleIn, countIn, imagePart, nodesIn, placeIn, fileAnswer, readBy, blankSchedule}
+use Rattle.image.specs.Form.{known, headLines}
+use Rattle.image.specs.Layout.{imageShape, shapeIn, imageIn}
+use Rattle.image.specs.declared.Shape.{Shape}
+use Rattle.image.proofs.ShapeLaws.{shaped-lines}
+use Rattle.schedule.specs.Layout.{scheduleIn, scheduleShape, countIn, threadsIn, imagePart, placeIn, fileAnswer, readBy, blankSchedule}
 use Rattle.schedule.specs.Run.{Bench, benchAt, opened}
 use Rattle.schedule.specs.declared.Schedule.{Schedule}
 use Rattle.schedule.specs.declared.Opened.{Opened}
@@ -135,28 +137,27 @@ module _ (s : List ℕ) where
   unfolding probeAnswer
   probe-taken a = codec.file-taken 82 12 s a
 
-  pub probe-fits : accepted (probeAnswer s) ≡ true → (i : ℕ) → i < n → (f k : ℕ) → f ≡ formIn (imagePart s) → k ≡ nodesIn s
-      → (known f ≡ true) × ((k ≤ 64) × (placeIn 12 f k i + 12 ≤ length s))
+  pub probe-fits : accepted (probeAnswer s) ≡ true → (i : ℕ) → i < n → (z : Shape) → z ≡ scheduleShape s → (known (z .form) ≡ true) × (placeIn 12 z i + 12 ≤ length s)
   unfolding probeAnswer
-  probe-fits a i h f k e q = rw (e, q) (let l = codec.file-lies 82 12 s a in (l .0, (l .1 .0, codec.file-fits 82 12 s i a h)))
+  probe-fits a i h z e =
+      subst (λ (z : Shape). (known (z .form) ≡ true) × (placeIn 12 z i + 12 ≤ length s)) (sym e) (codec.file-taken 82 12 s a .part .mark, codec.file-fits 82 12 s i a h)
 
-  pub probed-is : (i f k : ℕ) → f ≡ formIn (imagePart s) → k ≡ nodesIn s → (x : Probed) → x ≡ probedFrom s (placeIn 12 f k i) → x ≡ probedIn s i
-  probed-is i f k e q x xe = xe ∙ ap₂ (λ (f k : ℕ). probedFrom s (placeIn 12 f k i)) e q
+  pub probed-is : (i : ℕ) (z : Shape) → z ≡ scheduleShape s → (x : Probed) → x ≡ probedFrom s (placeIn 12 z i) → x ≡ probedIn s i
+  probed-is i z e x xe = xe ∙ ap (λ (z : Shape). probedFrom s (placeIn 12 z i)) e
 
-  pub form-is : (d : Schedule) → d ≡ scheduleIn s → d .image .form ≡ formIn (imagePart s)
-  unfolding scheduleIn imageIn
-  form-is d e = ap (λ (x : Schedule). x .image .form) e
-
-  pub nodes-is : (d : Schedule) → d ≡ scheduleIn s → d .image .n ≡ nodesIn s
-  unfolding scheduleIn imageIn
-  nodes-is d e = ap (λ (x : Schedule). x .image .n) e
+  pub shape-is : (d : Schedule) → d ≡ scheduleIn s → record { form = d .image .form; n = d .image .n; t = d .t } ≡ scheduleShape s
+  unfolding scheduleIn imageIn shapeIn
+  shape-is d e = ap (λ (x : Schedule). record { form = x .image .form; n = x .image .n; t = x .t }) e
 
   pub count-is : (d : Schedule) → d ≡ scheduleIn s → d .count ≡ n
   unfolding scheduleIn
   count-is d e = ap (λ (x : Schedule). x .count) e
 
-  pub nodes-small : (d : Schedule) → d ≡ scheduleIn s → accepted (probeAnswer s) ≡ true → d .image .n ≤ 64
-  nodes-small d e a = omega (arith, nodes-is d e, codec.nodes-most (nodesIn s) (probe-taken a .part .nodes))
+  pub nodes-small : (d : Schedule) → d ≡ scheduleIn s → accepted (probeAnswer s) ≡ true → (d .image .n ≤ 64) × (headLines (imageShape (d .image)) ≤ 8)
+  unfolding scheduleIn imageIn
+  nodes-small d e a =
+      subst (λ (x : Schedule). (x .image .n ≤ 64) × (headLines (imageShape (x .image)) ≤ 8)) (sym e)
+      (shaped-lines (threadsIn s) (shapeIn (imagePart s)) (probe-taken a .part .shape))
 
   pub opened-answer : (o : Opened) → o ≡ readBy (fileAnswer 82 12 s) s → o .answer ≡ probeAnswer s
   unfolding probeAnswer

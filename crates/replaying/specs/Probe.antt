@@ -8,12 +8,11 @@ use Rattle.answer.specs.Answers.{told, check}
 use Rattle.answer.specs.declared.Answer.{Answer}
 use Rattle.answer.specs.declared.Answer.the-variants.{Kind, NotZero}
 use Rattle.image.specs.Bytes.{at1, at4}
-use Rattle.image.specs.Layout.{formIn}
 use Rattle.machine.specs.declared.Event.{Event}
-use Rattle.schedule.specs.Layout.{imagePart, nodesIn, placeIn, eventFrom, fileAnswer}
+use Rattle.schedule.specs.Layout.{scheduleShape, placeIn, eventFrom, fileAnswer}
 use Rattle.replaying.specs.declared.Probed.{Probed}
 
--- 1, 2, 4, 5, 1, 2, 3, 1, 6, 7, 8, as a schedule's, with twelve bytes an event
+-- 1, 2, 4, 5, 1, 2, 3, 4, 1, 6, 7, 8, as a schedule's, with twelve bytes an event
 unfoldable pub probeAnswer : List ℕ → Answer
 probeAnswer s = fileAnswer 82 12 s
 
@@ -22,7 +21,7 @@ abbrev pub probedFrom : List ℕ → ℕ → Probed
 probedFrom s at = record { event = eventFrom s at; seen = at1 s (at + 6); item = at4 s (at + 7); last = at1 s (at + 11) }
 
 abbrev pub probedIn : List ℕ → ℕ → Probed
-probedIn s i = probedFrom s (placeIn 12 (formIn (imagePart s)) (nodesIn s) i)
+probedIn s i = probedFrom s (placeIn 12 (scheduleShape s) i)
 
 abbrev pub probedEvent : List ℕ → ℕ → Event
 probedEvent s i = probedIn s i .event

@@ -9,7 +9,8 @@ ghost use Rattle.replaying.specs.Probe.{probedFrom};
 use crate::Probed;
 use codec::event_from;
 use codec::word_at;
-use image::place_of;
+use image::Shape;
+use image::size_of;
 
 fn probed_from(s: &[u8], at: usize) -> Probed
     requires { ⌜ at + 12 ≤ length (now s) ⌝ }
@@ -25,10 +26,10 @@ fn probed_from(s: &[u8], at: usize) -> Probed
     }
 }
 
-// Event i of a file that is long enough, whose image is in this form, with n nodes.
-pub fn probed_at(s: &[u8], form: u8, n: usize, i: usize) -> Probed
-    requires { ⌜ (known form ≡ true) × ((n ≤ 64) × (placeIn 12 form n i + 12 ≤ length (now s))) ⌝ }
-    ensures { λ r. ⌜ r ≡ probedFrom (now (s .entry)) (placeIn 12 form n i) ⌝ }
+// Event i of a file that is long enough, whose machine has this shape.
+pub fn probed_at(s: &[u8], z: Shape, i: usize) -> Probed
+    requires { ⌜ (known (z .form) ≡ true) × (placeIn 12 z i + 12 ≤ length (now s)) ⌝ }
+    ensures { λ r. ⌜ r ≡ probedFrom (now (s .entry)) (placeIn 12 z i) ⌝ }
 {
-    probed_from(s, 8 + place_of(form, n) + i * 12)
+    probed_from(s, 8 + size_of(z) + i * 12)
 }

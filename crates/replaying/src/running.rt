@@ -12,6 +12,7 @@ use crate::asking::nothing_odd;
 use crate::reading::probed_at;
 use answer::Answer;
 use answer::is_taken;
+use image::Shape;
 use schedule::Schedule;
 
 // Up to the first event that is refused; past one that differs, since a later refusal refuses the file.
@@ -20,14 +21,17 @@ fn replay_events(s: &[u8], d: Schedule) -> Replayed
     ensures { λ r. ⌜ r ≡ replayOf (now (s .entry)) ⌝ }
 {
     let g = d.image;
-    let form = g.form;
-    let n = g.n as usize;
+    let z = Shape {
+        form: g.form,
+        n: g.n,
+        t: d.t,
+    };
     let count = d.count as usize;
     let mut m = machine::start::start(g, d.t);
     let mut known = nothing_odd(Answer::Taken);
     let mut i = 0;
     while i < count {
-        let x = probed_at(s, form, n, i);
+        let x = probed_at(s, z, i);
         let e = x.event;
         let out = events::act(i as u32, m, e);
         let a = out.answer;

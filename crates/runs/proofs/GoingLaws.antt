@@ -15,18 +15,20 @@ use Rattle.answer.specs.Answers.{accepted}
 use Rattle.answer.specs.declared.Answer.{Answer}
 use Rattle.answer.specs.declared.Answer.the-variants.{Taken}
 use Rattle.image.specs.declared.Content.{Content}
-use Rattle.machine.specs.Line.{lineCount, cachedAt}
+use Rattle.machine.specs.Line.{shapeOf, lineCount, cachedAt}
 use Rattle.machine.specs.Event.{Deed, crashes, unknown, deedOf, eventAt}
 use Rattle.machine.specs.declared.Machine.{Machine}
 use Rattle.machine.specs.Start.{startOf, startWith}
-use Rattle.machine.proofs.AnswerLaws as machines
+use Rattle.image.proofs.HeadLaws.{lines-few}
+use Rattle.image.proofs.ShapeLaws.{nodes-range, threads-range}
 use Rattle.codec.proofs.Accepted as codec
 use Rattle.machine.specs.declared.Event.{Event}
 use Rattle.machine.specs.declared.Acted.{Acted}
 use Rattle.schedule.specs.declared.Schedule.{Schedule}
-use Rattle.image.specs.Form.{known}
-use Rattle.image.specs.Layout.{formIn, imageIn}
-use Rattle.schedule.specs.Layout.{scheduleIn, scheduleAnswer, eventFrom, eventPlace, eventIn, eventsIn, countIn, imagePart, nodesIn}
+use Rattle.image.specs.Form.{known, headLines}
+use Rattle.image.specs.declared.Shape.{Shape}
+use Rattle.image.specs.Layout.{formIn, shapeIn, imageIn}
+use Rattle.schedule.specs.Layout.{scheduleIn, scheduleAnswer, eventFrom, eventPlace, eventIn, eventsIn, threadsIn, countIn, imagePart, nodesIn, scheduleShape}
 use Rattle.schedule.specs.Run.{Ran, Bench, forward, benchAt, run, ran, opened, begins, andBefore}
 use Rattle.page.specs.Refusals.{tableIn}
 use Rattle.page.specs.Contents.{tableOf}
@@ -42,12 +44,16 @@ use Rattle.pageproof.proofs.Even as evens
 use Rattle.pageproof.proofs.Runs as runs
 use Rattle.runs.specs.Rows.{atsOf, countsOf, openedRows, rowsTouched, rowsAfter}
 use Rattle.schedule.specs.Running.{Reached, benchTo, ranTo, openedRun, forwardRun}
-use Rattle.onward.proofs.Reached.{reached-opened, reached-next, forward-is}
+use Rattle.onward.proofs.Reached.{reached-opened, reached-next, shape-at, forward-is, event-lies}
 use Rattle.schedule.specs.declared.Running.{Running}
 use Rattle.runs.specs.Going.{Going, RunIs}
 use Rattle.runs.specs.declared.rows.Row.{Row}
 use Rattle.runs.specs.declared.running.Run.{Run}
 use Rattle.runs.proofs.RowLaws as rowlaws
+
+-- what the code's tables ask of a machine
+abbrev pub Small : Machine → Type 0
+Small m = (m .n ≤ 64) × (headLines (shapeOf m) ≤ 8)
 
 -- ---- kind 5 is the crash
 
@@ -85,24 +91,24 @@ module _ (s : List ℕ) where
   along : {t t′ : List (List Content)} {cs cs′ : List ℕ} {l : List (List Content)} → t′ ≡ t → cs′ ≡ cs → Tables t cs l → Tables t′ cs′ l
   along {t} {t′} {cs} {cs′} {l} p q h = subst (λ x. Tables x cs′ l) (sym p) (subst (λ y. Tables t y l) (sym q) h)
 
-  opened-ats : (m : Machine) → m .n ≤ 64 → atsOf (openedRows m) ≡ openedTable m (lineCount (m .n))
+  opened-ats : (m : Machine) → Small m → atsOf (openedRows m) ≡ openedTable m (lineCount (shapeOf m))
   unfolding openedRows
-  opened-ats m h = rowlaws.rows-ats (openedTable m (lineCount (m .n))) (openedCounts m (lineCount (m .n))) (benches.stands-begin m h .tables .tall)
+  opened-ats m h = rowlaws.rows-ats (openedTable m (lineCount (shapeOf m))) (openedCounts m (lineCount (shapeOf m))) (benches.stands-begin m (h .0) (h .1) .tables .tall)
 
-  opened-counts : (m : Machine) → m .n ≤ 64 → countsOf (openedRows m) ≡ openedCounts m (lineCount (m .n))
+  opened-counts : (m : Machine) → Small m → countsOf (openedRows m) ≡ openedCounts m (lineCount (shapeOf m))
   unfolding openedRows
-  opened-counts m h = rowlaws.rows-counts (openedTable m (lineCount (m .n))) (openedCounts m (lineCount (m .n))) (benches.stands-begin m h .tables .long)
+  opened-counts m h = rowlaws.rows-counts (openedTable m (lineCount (shapeOf m))) (openedCounts m (lineCount (shapeOf m))) (benches.stands-begin m (h .0) (h .1) .tables .long)
 
   -- what stands for a table and counts stands for rows that have them
   stands-rows : (b : Bench) (m : Machine) (t : List (List Content)) (cs : List ℕ) (rows : List Row)
       → atsOf rows ≡ t → countsOf rows ≡ cs → Stands b m t cs → Stands b m (atsOf rows) (countsOf rows)
-  stands-rows b m t cs rows p q h = record { machine = h .machine; small = h .small; timed = h .timed; tables = along p q (h .tables) }
+  stands-rows b m t cs rows p q h = record { machine = h .machine; small = h .small; few = h .few; timed = h .timed; tables = along p q (h .tables) }
 
-  pub going-start : (m : Machine) → m ≡ b₀ .machine → m .n ≤ 64 → Going s 0 m (openedRows m)
+  pub going-start : (m : Machine) → m ≡ b₀ .machine → Small m → Going s 0 m (openedRows m)
   unfolding benchAt tab ran eventsIn
   going-start m e h = record {
     stands = subst (λ (x : Machine). Stands (begins x) m (atsOf (openedRows m)) (countsOf (openedRows m))) e
-        (stands-rows (begins m) m _ _ (openedRows m) (opened-ats m h) (opened-counts m h) (benches.stands-begin m h));
+        (stands-rows (begins m) m _ _ (openedRows m) (opened-ats m h) (opened-counts m h) (benches.stands-begin m (h .0) (h .1)));
     taken = ap (λ (r : Ran). accepted (r .answer)) (nothing-yet b₀);
     come = ap (λ (r : Ran). r .bench) (nothing-yet b₀);
     answer = refl;
@@ -121,8 +127,8 @@ module _ (s : List ℕ) where
         subst (λ (x : Machine). Even x) (sym (g .stands .machine ∙ sym (ap (λ (x : Bench). x .machine) (g .come))))
         (runs.good-run (tab f i) 0 b₀ (record { timed = moments.timed-begins (b₀ .machine); even = evens.even-start (scheduleIn s .image) (scheduleIn s .t) }) (g .taken) .even)
 
-    pub going-small : m .n ≤ 64
-    going-small = subst (λ (x : Machine). x .n ≤ 64) (sym (g .stands .machine)) (g .stands .small)
+    pub going-small : Small m
+    going-small = subst Small (sym (g .stands .machine)) (g .stands .small, g .stands .few)
 
     -- an event that is refused ends the run
     pub going-refused : i < countIn s → accepted (eventAt i m (f i) .answer) ≡ false → eventAt i m (f i) .answer ≡ ran s .answer
@@ -164,7 +170,7 @@ module _ (s : List ℕ) where
       own = benches.stands-now b m (atsOf rows) (countsOf rows) (g .stands)
 
       abbrev w′ : Touched
-      w′ = touchedRow (m′ .n) (eventAt i (b .machine) e .touch)
+      w′ = touchedRow (shapeOf m′) (eventAt i (b .machine) e .touch)
 
       stands′ : Stands (forward i b e) m′ (atsOf (rowsAfter rows e (eventAt i (b .machine) e))) (countsOf (rowsAfter rows e (eventAt i (b .machine) e)))
       unfolding rowsAfter
@@ -174,7 +180,7 @@ module _ (s : List ℕ) where
               → Stands (forward i b e) m′ (atsOf (pick x (openedRows m′) (rowsTouched rows w′ m′))) (countsOf (pick x (openedRows m′) (rowsTouched rows w′ m′)))
           by true w =
               let st = benches.stands-crash i b e (atsOf rows) (countsOf rows) own taken′ (five (e .kind) w) in
-              let small : m′ .n ≤ 64 = subst (λ (x : Machine). x .n ≤ 64) (sym (st .machine)) (st .small) in
+              let small : Small m′ = subst Small (sym (st .machine)) (st .small, st .few) in
               stands-rows (forward i b e) m′ _ _ (openedRows m′) (opened-ats m′ small) (opened-counts m′ small) st
           by false w =
               let st = benches.stands-event i b e (atsOf rows) (countsOf rows) own taken′ even′ (not-five (e .kind) w) in
@@ -235,7 +241,7 @@ module _ (s : List ℕ) (g : Running) (rows : List Row) (w : Going s (g .place) 
       subst (λ (z : Running). (x : List Row) → x ≡ rowsAfter rows (z .event) (actedOf z) → Going s (z .place) (z .machine) x) (sym is)
       (λ x q. subst (Going s (g .place + 1) (eventAt (g .place) (g .machine) (eventIn s (g .place)) .machine)) (sym q) n)
 
-  pub going-on-small : not t ≡ false → r .machine .n ≤ 64
+  pub going-on-small : not t ≡ false → Small (r .machine)
   going-on-small h = going-small s (r .place) (r .machine) (rowsAfter rows (r .event) (actedOf r)) (going-on h (rowsAfter rows (r .event) (actedOf r)) refl)
 
   pub going-stop : not t ≡ true → (m : Machine) → RunIs s (record { answer = r .answer; machine = m; rows = rows })
@@ -250,10 +256,16 @@ module _ (s : List ℕ) (g : Running) (rows : List Row) (w : Going s (g .place) 
 
 -- ---- the beginning
 
+-- T of the machine is that of the image where each desk has a line
+begun-small : (s : List ℕ) → accepted (scheduleAnswer s) ≡ true → Small (opened (scheduleIn s) .machine)
+unfolding startWith scheduleIn imageIn shapeIn
+begun-small s a =
+    let t = codec.schedule-taken s a in
+    (nodes-range (nodesIn s) (t .part .nodes) .1, lines-few (scheduleShape s) (threads-range (threadsIn s) (t .threads) .1))
+
 module _ (s : List ℕ) (a : accepted (scheduleAnswer s) ≡ true) (g : Running) (is : g ≡ openedRun s) where
-  pub start-small : g .machine .n ≤ 64
-  unfolding startWith scheduleIn imageIn
-  start-small = omega (arith, ap (λ (x : Running). x .machine .n) is, machines.nodes-range (nodesIn s) (codec.schedule-taken s a .part .nodes) .1)
+  pub start-small : Small (g .machine)
+  start-small = subst (λ (x : Running). Small (x .machine)) (sym is) (begun-small s a)
 
   pub going-begun : (rows : List Row) → rows ≡ openedRows (g .machine) → Going s (g .place) (g .machine) rows
   going-begun rows e =
@@ -265,13 +277,14 @@ module _ (s : List ℕ) (a : accepted (scheduleAnswer s) ≡ true) (g : Running)
 
 -- what holds of a run on its way and its rows
 abbrev pub Under : List ℕ → Running → List Row → Type 0
-Under s g rows = (g .place ≤ g .count) × Going s (g .place) (g .machine) rows × Reached s g
+Under s g rows = (g .place ≤ g .count) × Going s (g .place) (g .machine) rows × Reached s g × (g .t ≡ threadsIn s)
 
 pub under-begun : (s : List ℕ) → accepted (scheduleAnswer s) ≡ true → (g : Running) → g ≡ openedRun s → (rows : List Row) → rows ≡ openedRows (g .machine) → Under s g rows
 under-begun s a g is rows e = (
   subst (λ (x : Running). x .place ≤ x .count) (sym is) (omega arith),
   going-begun s a g is rows e,
   subst (Reached s) (sym is) (reached-opened s a),
+  ap (λ (x : Running). x .t) is,
 )
 
 pub under-next : (s : List ℕ) (g : Running) (rows : List Row) → Under s g rows → g .place < g .count → (r : Running) → r ≡ forwardRun s g
@@ -281,6 +294,7 @@ under-next s g rows u below r is t told h x q =
       subst (λ (z : Running). z .place ≤ z .count) (sym is) (omega arith),
       going-on s g rows (u .1) (u .2 .count) below r is t told h x q,
       subst (Reached s) (sym is) (reached-next s g (u .2) a),
+      ap (λ (x : Running). x .t) is ∙ u .3,
     )
 
 -- ---- the loop's own values: the opened run g, how many events were taken, and the machine after them
@@ -304,29 +318,33 @@ under-start s a g is rows =
 
 -- an event e on the machine m, with the outcome o: t says whether it was taken
 module _ (s : List ℕ) (g : Running) (i : ℕ) (m : Machine) (rows : List Row) (u : Under s (runAt g i m) rows) (below : i < g .count) where
+  abbrev z : Shape
+  z = record { form = g .form; n = g .n; t = g .t }
+
+  shape-now : z ≡ scheduleShape s
+  shape-now = ap (λ (t : ℕ). record { form = g .form; n = g .n; t = t }) (u .3) ∙ shape-at s (g .form) (g .n) (u .2 .form) (u .2 .nodes)
+
   -- the event's bytes lie within the schedule's
-  pub under-fits : (known (g .form) ≡ true) × ((g .n ≤ 64) × (eventPlace (g .form) (g .n) i + 6 ≤ length s))
-  under-fits =
-      rw (u .2 .form, u .2 .nodes)
-      (let l = codec.schedule-lies s (u .2 .schedule) in (l .0, (l .1 .0, codec.event-fits s i (u .2 .schedule) (omega (arith, u .2 .count)))))
+  pub under-fits : (known (g .form) ≡ true) × (eventPlace (record { form = g .form; n = g .n; t = g .t }) i + 6 ≤ length s)
+  under-fits = event-lies s z i shape-now (u .2 .schedule) (omega (arith, u .2 .count))
 
   pub under-count : i < 4096
   under-count = omega (arith, u .2 .count, codec.schedule-taken s (u .2 .schedule) .count)
 
-  module _ (e : Event) (o : Acted) (is-e : e ≡ eventFrom s (eventPlace (g .form) (g .n) i)) (is-o : o ≡ eventAt i m e) (t : Bool) (told : t ≡ accepted (o .answer)) where
+  module _ (e : Event) (o : Acted) (is-e : e ≡ eventFrom s (eventPlace (record { form = g .form; n = g .n; t = g .t }) i)) (is-o : o ≡ eventAt i m e) (t : Bool) (told : t ≡ accepted (o .answer)) where
     abbrev further : Running
     further = record { t = g .t; n = g .n; form = g .form; count = g .count; place = i + 1; answer = o .answer; machine = o .machine; event = e; touch = o .touch }
 
     is : further ≡ forwardRun s (runAt g i m)
-    is = forward-is s (runAt g i m) (u .2 .nodes) (u .2 .form) e o is-e is-o
+    is = forward-is s (runAt g i m) z shape-now e o is-e is-o
 
     pub further-under : not t ≡ false → (x : List Row) → x ≡ rowsAfter rows e o → Under s (runAt g (i + 1) (o .machine)) x
     further-under h x q =
-        let z = under-next s (runAt g i m) rows u below further is t told h x q in
-        let r = z .2 in
-        (z .0, z .1, record { schedule = r .schedule; nodes = r .nodes; form = r .form; count = r .count; machine = r .machine; taken = r .taken; come = r .come })
+        let v = under-next s (runAt g i m) rows u below further is t told h x q in
+        let r = v .2 in
+        (v .0, v .1, record { schedule = r .schedule; nodes = r .nodes; form = r .form; count = r .count; machine = r .machine; taken = r .taken; come = r .come }, v .3)
 
-    pub further-small : not t ≡ false → o .machine .n ≤ 64
+    pub further-small : not t ≡ false → Small (o .machine)
     further-small = going-on-small s (runAt g i m) rows (u .1) (u .2 .count) below further is t told
 
     pub further-stop : not t ≡ true → (x : Machine) → RunIs s (record { answer = o .answer; machine = x; rows = rows })

@@ -1,5 +1,5 @@
 -- From the code's run to the page's answers and bytes.
-use Prim.Native.Nat.{ℕ, _+_, _*_, _<_, _≤_}
+use Prim.Native.Nat.{ℕ, _<_, _≤_}
 use mathlib.Core.Path.{_≡_, refl, sym, ap, ap₂, subst, _∙_}
 use mathlib.Core.Bool.{Bool, true, false}
 use mathlib.Core.List.{List}
@@ -14,13 +14,13 @@ use Rattle.answer.specs.Answers.{told, check, accepted}
 use Rattle.answer.specs.declared.Told.{Told}
 use Rattle.answer.specs.declared.Answer.{Answer}
 use Rattle.answer.specs.declared.Answer.the-variants.{Taken, NoEnding, Room}
-use Rattle.image.specs.Form.{known}
-use Rattle.image.specs.Layout.{inForm, nodePlace, imageIn, imageBytes}
+use Rattle.image.specs.Form.{known, headLines, ownThreads, imageSize}
+use Rattle.image.specs.Layout.{imageShape, shapeIn, imageIn, imageBytes}
 use Rattle.image.specs.declared.Content.{Content}
 use Rattle.image.specs.declared.Image.{Image}
-use Rattle.machine.specs.Line.{lineCount}
+use Rattle.image.specs.declared.Shape.{Shape}
+use Rattle.machine.specs.Line.{shapeOf, lineCount}
 use Rattle.machine.specs.declared.Machine.{Machine}
-use Rattle.image.proofs.HeadLaws.{one-head}
 use Rattle.schedule.specs.Layout.{scheduleIn, eventsIn, scheduleAnswer}
 use Rattle.schedule.specs.Run.{Ran, Bench, opened, ran}
 use Rattle.machine.specs.Start.{startWith}
@@ -66,20 +66,20 @@ module _ (s : List ℕ) (r : Run) (g : RunIs s r) (a : accepted (r .answer) ≡ 
   unfolding tableIn
   held = g .tables a
 
-  size : r .machine .n + 1 ≡ lineCount (ran s .bench .machine .n)
-  size = omega (arith, one-head (ran s .bench .machine .n), ap (λ (x : Machine). x .n) (g .machine a))
+  size : lineCount (shapeOf (r .machine)) ≡ lineCount (shapeOf (ran s .bench .machine))
+  size = ap (λ (x : Machine). lineCount (shapeOf x)) (g .machine a)
 
-  pub rows-counted : Counted (countsOf (r .rows)) (r .machine .n + 1)
+  pub rows-counted : Counted (countsOf (r .rows)) (lineCount (shapeOf (r .machine)))
   rows-counted = subst (Counted (countsOf (r .rows))) (sym size) (endings.bench-counted (ran s .bench) (atsOf (r .rows)) (countsOf (r .rows)) held)
 
-  pub page-taken : accepted (scheduleAnswer s) ≡ true → (c : Answer) → c ≡ countsAnswer (countsOf (r .rows)) (r .machine .n + 1)
+  pub page-taken : accepted (scheduleAnswer s) ≡ true → (c : Answer) → c ≡ countsAnswer (countsOf (r .rows)) (lineCount (shapeOf (r .machine)))
       → PageIs s (record { answer = c; machine = r .machine; rows = r .rows })
   unfolding tableIn
   page-taken h c e = record {
     answer = is ∙ page-table s h all-taken;
     taken = λ t. record {
       machine = g .machine a;
-      small = subst (λ (x : Machine). x .n ≤ 64) (g .machine a) (g .small a);
+      small = subst (λ (x : Machine). (x .n ≤ 64) × (headLines (shapeOf x) ≤ 8)) (g .machine a) (g .small a);
       tables = g .tables a;
       limits = ap accepted (sym is) ∙ t;
     };
@@ -122,22 +122,22 @@ module _ (s : List ℕ) (r : Run) (p : PageIs s r) (a : accepted (r .answer) ≡
   unfolding tableIn
   fits′ = t .limits
 
-  nodes-are : r .machine .n ≡ b .machine .n
-  nodes-are = ap (λ (x : Machine). x .n) (t .machine)
+  shapes-are : shapeOf (r .machine) ≡ shapeOf (b .machine)
+  shapes-are = ap shapeOf (t .machine)
 
   forms-are : r .machine .form ≡ b .machine .form
   forms-are = ap (λ (x : Machine). x .form) (t .machine)
 
-  lines-are : r .machine .n + 1 ≡ lineCount (b .machine .n)
-  lines-are = omega (arith, one-head (b .machine .n), nodes-are)
+  lines-are : lineCount (shapeOf (r .machine)) ≡ lineCount (shapeOf (b .machine))
+  lines-are = ap lineCount shapes-are
 
-  pub page-small : r .machine .n ≤ 64
-  page-small = omega (arith, nodes-are, t .small)
+  pub page-small : (r .machine .n ≤ 64) × (headLines (shapeOf (r .machine)) ≤ 8)
+  page-small = subst (λ (x : Machine). (x .n ≤ 64) × (headLines (shapeOf x) ≤ 8)) (sym (t .machine)) (t .small)
 
-  pub page-counted : Counted cs (r .machine .n + 1)
+  pub page-counted : Counted cs (lineCount (shapeOf (r .machine)))
   page-counted = subst (Counted cs) (sym lines-are) (endings.bench-counted b (atsOf (r .rows)) cs held′)
 
-  pub page-count : capped (prod cs (r .machine .n + 1)) ≡ endingCount s
+  pub page-count : capped (prod cs (lineCount (shapeOf (r .machine)))) ≡ endingCount s
   unfolding endingCount tableIn
   page-count = ap (λ (n : ℕ). capped (prod cs n)) lines-are ∙ endings.bench-count b (atsOf (r .rows)) cs held′ fits′
 
@@ -146,45 +146,44 @@ module _ (s : List ℕ) (r : Run) (p : PageIs s r) (a : accepted (r .answer) ≡
 
   -- the form is that of the schedule's image, and so one that is read
   pub page-form : known (r .machine .form) ≡ true
-  unfolding ran scheduleIn imageIn startWith
+  unfolding ran scheduleIn imageIn shapeIn startWith
   page-form =
       let h = page-schedule s page-yes in
       rw (forms-are, runs.run-form (eventsIn s) 0 (opened (scheduleIn s)) (holds.page-ran s page-yes)) (codec.schedule-taken s h .part .mark)
 
-  pub count-taken : capped (prod cs (r .machine .n + 1)) ≡ countOf s
+  pub count-taken : capped (prod cs (lineCount (shapeOf (r .machine)))) ≡ countOf s
   unfolding countOf
   count-taken = page-count ∙ rw page-yes
 
   -- picking an ending
-  pub page-ready : Ready cs (lineCount (r .machine .n))
-  page-ready = subst (λ (n : ℕ). Ready cs (lineCount n)) (sym nodes-are) (endings.bench-ready b (atsOf (r .rows)) cs held′ fits′)
+  pub page-ready : Ready cs (lineCount (shapeOf (r .machine)))
+  page-ready = subst (λ (z : Shape). Ready cs (lineCount z)) (sym shapes-are) (endings.bench-ready b (atsOf (r .rows)) cs held′ fits′)
 
-  pub page-filled : (k : ℕ) → Filled (picksOf cs (r .machine .n) k) (lineCount (r .machine .n))
-  page-filled k = subst (λ (n : ℕ). Filled (picksOf cs n k) (lineCount n)) (sym nodes-are) (endings.bench-filled b (atsOf (r .rows)) cs held′ fits′ k)
+  pub page-filled : (k : ℕ) → Filled (picksOf cs (shapeOf (r .machine)) k) (lineCount (shapeOf (r .machine)))
+  page-filled k = subst (λ (z : Shape). Filled (picksOf cs z k) (lineCount z)) (sym shapes-are) (endings.bench-filled b (atsOf (r .rows)) cs held′ fits′ k)
 
-  pub page-ending : (k : ℕ) → k < endingCount s → inForm (r .machine .form) (pickedImage (atsOf (r .rows)) (picksOf cs (r .machine .n) k) (r .machine .n)) ≡ endingIn s k
+  pub page-ending : (k : ℕ) → k < endingCount s → pickedImage (atsOf (r .rows)) (picksOf cs (shapeOf (r .machine)) k) (shapeOf (r .machine)) ≡ endingIn s k
   unfolding endingIn endingCount tableIn endingFrom
   page-ending k h =
-      ap₂ (λ (f n : ℕ). inForm f (pickedImage (atsOf (r .rows)) (picksOf cs n k) n)) forms-are nodes-are
-      ∙ ap (inForm (b .machine .form)) (endings.bench-ending b (atsOf (r .rows)) cs held′ fits′ k h)
+      ap (λ (z : Shape). pickedImage (atsOf (r .rows)) (picksOf cs z k) z) shapes-are ∙ endings.bench-ending b (atsOf (r .rows)) cs held′ fits′ k h
 
-  places-are : nodePlace (r .machine .form) (r .machine .n) ≡ nodePlace (b .machine .form) (b .machine .n)
-  places-are = ap₂ nodePlace forms-are nodes-are
+  places-are : imageSize (shapeOf (r .machine)) ≡ imageSize (shapeOf (b .machine))
+  places-are = ap imageSize shapes-are
 
   -- ---- the answers of an ending, in their order
 
-  ending-tests : (k room : ℕ) → endingAnswer s k room ≡ check (leb (endingCount s) k) NoEnding (check (ltb room (nodePlace (b .machine .form) (b .machine .n))) Room Taken)
+  ending-tests : (k room : ℕ) → endingAnswer s k room ≡ check (leb (endingCount s) k) NoEnding (check (ltb room (imageSize (shapeOf (b .machine)))) Room Taken)
   unfolding endingAnswer
   ending-tests k room = yes-of _ (pageAnswer s) (accepted (pageAnswer s)) page-yes
 
   pub ending-none : (k room : ℕ) → endingCount s ≤ k → NoEnding ≡ endingAnswer s k room
   ending-none k room h = sym (ending-tests k room ∙ rw (le-leb (endingCount s) k h))
 
-  pub ending-room : (k room : ℕ) → k < endingCount s → room < nodePlace (r .machine .form) (r .machine .n) → Room ≡ endingAnswer s k room
-  ending-room k room h l = sym (ending-tests k room ∙ rw (lt-leb (endingCount s) k h, lt-ltb room (nodePlace (b .machine .form) (b .machine .n)) (omega (arith, places-are))))
+  pub ending-room : (k room : ℕ) → k < endingCount s → room < imageSize (shapeOf (r .machine)) → Room ≡ endingAnswer s k room
+  ending-room k room h l = sym (ending-tests k room ∙ rw (lt-leb (endingCount s) k h, lt-ltb room (imageSize (shapeOf (b .machine))) (omega (arith, places-are))))
 
-  pub ending-taken : (k room : ℕ) → k < endingCount s → nodePlace (r .machine .form) (r .machine .n) ≤ room → Taken ≡ endingAnswer s k room
-  ending-taken k room h l = sym (ending-tests k room ∙ rw (lt-leb (endingCount s) k h, le-ltb room (nodePlace (b .machine .form) (b .machine .n)) (omega (arith, places-are))))
+  pub ending-taken : (k room : ℕ) → k < endingCount s → imageSize (shapeOf (r .machine)) ≤ room → Taken ≡ endingAnswer s k room
+  ending-taken k room h l = sym (ending-tests k room ∙ rw (lt-leb (endingCount s) k h, le-ltb room (imageSize (shapeOf (b .machine))) (omega (arith, places-are))))
 
 pub ending-refused : (s : List ℕ) (k room : ℕ) → accepted (pageAnswer s) ≡ false → pageAnswer s ≡ endingAnswer s k room
 unfolding endingAnswer
@@ -199,6 +198,6 @@ pub ending-bytes : (s : List ℕ) (k : ℕ) (b : List ℕ) → accepted (endingA
 unfolding endingWritten
 ending-bytes s k b h = sym (yes-of (over b 0 (imageBytes (endingIn s k))) b (accepted (endingAnswer s k (length b))) h)
 
-pub picked-nodes : (t : List (List Content)) (ps : List ℕ) (n : ℕ) → pickedImage t ps n .n ≡ n
+pub picked-shape : (t : List (List Content)) (ps : List ℕ) (z : Shape) → imageShape (pickedImage t ps z) ≡ record { form = z .form; n = z .n; t = ownThreads z }
 unfolding pickedImage
-picked-nodes t ps n = refl
+picked-shape t ps z = refl

@@ -5,6 +5,8 @@ use mathlib.Core.Bool.{Bool, true}
 use mathlib.Core.List.{List}
 use lib.ListN.{drop}
 use Rattle.answer.specs.Answers.{accepted}
+use Rattle.image.specs.Form.{headLines}
+use Rattle.machine.specs.Line.{shapeOf}
 use Rattle.machine.specs.declared.Machine.{Machine}
 use Rattle.schedule.specs.Layout.{eventsIn}
 use Rattle.schedule.specs.Run.{run, ran}
@@ -28,5 +30,5 @@ pub record Going (s : List ℕ) (i : ℕ) (m : Machine) (rows : List Row) : Type
 pub record RunIs (s : List ℕ) (r : Run) : Type 0 where
   pub answer : r .answer ≡ ran s .answer
   pub machine : accepted (r .answer) ≡ true → r .machine ≡ ran s .bench .machine
-  pub small : accepted (r .answer) ≡ true → r .machine .n ≤ 64
+  pub small : accepted (r .answer) ≡ true → (r .machine .n ≤ 64) × (headLines (shapeOf (r .machine)) ≤ 8)
   pub tables : accepted (r .answer) ≡ true → Tables (atsOf (r .rows)) (countsOf (r .rows)) (tableIn s)

@@ -5,6 +5,8 @@ use mathlib.Core.Bool.{Bool, true, false}
 use mathlib.Core.List.{List}
 use Rattle.lists.specs.Find.{pick}
 use Rattle.answer.specs.Answers.{accepted}
+use Rattle.image.specs.Form.{headLines}
+use Rattle.machine.specs.Line.{shapeOf}
 use Rattle.machine.specs.declared.Machine.{Machine}
 use Rattle.schedule.specs.Run.{Ran, Bench, ran}
 use Rattle.page.specs.Refusals.{tableIn, tableAnswer, pageAnswer, endingCount}
@@ -15,7 +17,7 @@ use Rattle.runs.specs.declared.running.Run.{Run}
 -- the page's answer and, where it is not refused, the machine and the contents of its lines
 pub record PageTaken (s : List ℕ) (r : Run) : Type 0 where
   pub machine : r .machine ≡ ran s .bench .machine
-  pub small : ran s .bench .machine .n ≤ 64
+  pub small : (ran s .bench .machine .n ≤ 64) × (headLines (shapeOf (ran s .bench .machine)) ≤ 8)
   pub tables : Tables (atsOf (r .rows)) (countsOf (r .rows)) (tableIn s)
   pub limits : accepted (tableAnswer (tableIn s)) ≡ true
 

@@ -1,7 +1,8 @@
 // The rows that a run keeps: for each line up to sixteen contents and their count, 17 standing for more.
 ghost use mathlib.Core.Path.{_≡_};
 ghost use Prim.Native.Nat.{_≤_, _<_};
-ghost use Rattle.machine.specs.Line.{lineCount};
+ghost use Rattle.image.specs.Form.{headLines};
+ghost use Rattle.machine.specs.Line.{shapeOf};
 ghost use Rattle.runs.specs.Rows.{rowsOf, openedRows, rowJoined, noRows};
 use endtable::opened::opened_counts;
 use endtable::opened::opened_table;
@@ -16,7 +17,7 @@ pub struct Row {
 }
 
 // Behind a contract, so that no goal has the rows written out.
-pub fn no_rows() -> [Row; 65]
+pub fn no_rows() -> [Row; 72]
     ensures { λ r. ⌜ r ≡ noRows ⌝ }
 {
     let zero = Content {
@@ -28,16 +29,16 @@ pub fn no_rows() -> [Row; 65]
         count: 0,
         at: [zero; 16],
     };
-    [row; 65]
+    [row; 72]
 }
 
 // The rows of a table and its counts.
-fn rows_of(t: [[Content; 16]; 65], counts: [u8; 65]) -> [Row; 65]
-    ensures { λ r. ⌜ r ≡ rowsOf t counts 65 ⌝ }
+fn rows_of(t: [[Content; 16]; 72], counts: [u8; 72]) -> [Row; 72]
+    ensures { λ r. ⌜ r ≡ rowsOf t counts 72 ⌝ }
 {
     let mut rows = no_rows();
     let mut i = 0;
-    while i < 65 {
+    while i < 72 {
         let at = t[i];
         rows[i] = Row {
             count: counts[i],
@@ -49,8 +50,8 @@ fn rows_of(t: [[Content; 16]; 65], counts: [u8; 65]) -> [Row; 65]
 }
 
 // After a start.
-pub fn opened_rows(m: Machine) -> [Row; 65]
-    requires { ⌜ m .n ≤ 64 ⌝ }
+pub fn opened_rows(m: Machine) -> [Row; 72]
+    requires { ⌜ (m .n ≤ 64) × (headLines (shapeOf m) ≤ 8) ⌝ }
     ensures { λ r. ⌜ r ≡ openedRows m ⌝ }
 {
     rows_of(opened_table(m), opened_counts(m))

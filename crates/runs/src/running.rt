@@ -10,6 +10,7 @@ use crate::rows::row_joined;
 use answer::Answer;
 use endtable::opened::cached_at;
 use endtable::touched::touched_row;
+use image::Shape;
 use machine::Machine;
 use onward::opened;
 use schedule::Schedule;
@@ -17,7 +18,7 @@ use schedule::Schedule;
 pub struct Run {
     pub answer: Answer,
     pub machine: Machine,
-    pub rows: [Row; 65],
+    pub rows: [Row; 72],
 }
 
 // Up to the first event that is refused.
@@ -30,7 +31,15 @@ pub fn run_events(s: &[u8], d: Schedule) -> Run
     let mut rows = opened_rows(m);
     let mut i = 0;
     while i < g.count {
-        let e = codec::event_at(s, g.form, g.n as usize, i);
+        let e = codec::event_at(
+            s,
+            Shape {
+                form: g.form,
+                n: g.n,
+                t: g.t,
+            },
+            i,
+        );
         let out = events::act(i as u32, m, e);
         let next = out.machine;
         m = next;
@@ -48,9 +57,14 @@ pub fn run_events(s: &[u8], d: Schedule) -> Run
             continue;
         }
         let touch = out.touch;
-        let w = touched_row(m.n, touch);
+        let z = Shape {
+            form: m.form,
+            n: m.n,
+            t: m.t,
+        };
+        let w = touched_row(z, touch);
         let l = w.line;
-        if 65 <= l {
+        if 72 <= l {
             continue;
         }
         let row = rows[l];

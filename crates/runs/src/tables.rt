@@ -6,12 +6,12 @@ use endtable::opened::blank_counts;
 use endtable::opened::blank_table;
 use image::Content;
 
-pub fn table_of(rows: [Row; 65]) -> [[Content; 16]; 65]
+pub fn table_of(rows: [Row; 72]) -> [[Content; 16]; 72]
     ensures { λ r. ⌜ r ≡ atsOf rows ⌝ }
 {
     let mut t = blank_table();
     let mut i = 0;
-    while i < 65 {
+    while i < 72 {
         let row = rows[i];
         let at = row.at;
         t[i] = at;
@@ -20,12 +20,12 @@ pub fn table_of(rows: [Row; 65]) -> [[Content; 16]; 65]
     t
 }
 
-pub fn counts_of(rows: [Row; 65]) -> [u8; 65]
+pub fn counts_of(rows: [Row; 72]) -> [u8; 72]
     ensures { λ r. ⌜ r ≡ countsOf rows ⌝ }
 {
     let mut counts = blank_counts();
     let mut i = 0;
-    while i < 65 {
+    while i < 72 {
         let row = rows[i];
         counts[i] = row.count;
         i += 1;

@@ -10,10 +10,11 @@ use Rattle.answer.specs.Answers.{check, accepted}
 use Rattle.answer.specs.declared.Answer.{Answer}
 use Rattle.answer.specs.declared.Answer.the-variants.{Length, Mark, Threads, Events}
 use Rattle.image.specs.Bytes.{at1, at2, at4}
-use Rattle.image.specs.Layout.{marked, formIn, nodePlace, imageIn}
-use Rattle.image.specs.Refusals.{imageAnswer, blankImage}
+use Rattle.image.specs.Form.{imageSize}
+use Rattle.image.specs.Layout.{marked, formIn, imageIn}
+use Rattle.image.specs.Refusals.{threadsFit, imageAnswer, blankImage}
 use Rattle.image.specs.declared.Image.{Image}
-use Rattle.machine.specs.Start.{threadsFit}
+use Rattle.image.specs.declared.Shape.{Shape}
 use Rattle.machine.specs.declared.Event.{Event}
 use Rattle.schedule.specs.declared.Schedule.{Schedule}
 use Rattle.schedule.specs.declared.Opened.{Opened}
@@ -42,29 +43,33 @@ scheduleIn s = record { t = threadsIn s; count = countIn s; image = imageIn (ima
 abbrev pub eventFrom : List ℕ → ℕ → Event
 eventFrom s at = record { kind = at1 s at; number = at1 s (at + 1); item = at4 s (at + 2) }
 
--- where event i of a file with w bytes an event begins whose image is in form f, with N nodes; of a schedule
-abbrev pub placeIn : ℕ → ℕ → ℕ → ℕ → ℕ
-placeIn w f n i = 8 + nodePlace f n + i * w
+-- where event i of a file with w bytes an event begins whose image has shape z; of a schedule
+abbrev pub placeIn : ℕ → Shape → ℕ → ℕ
+placeIn w z i = 8 + imageSize z + i * w
 
-abbrev pub eventPlace : ℕ → ℕ → ℕ → ℕ
+abbrev pub eventPlace : Shape → ℕ → ℕ
 eventPlace = placeIn 6
 
 abbrev pub nodesIn : List ℕ → ℕ
 nodesIn s = at1 (imagePart s) 5
 
+-- the shape of its machine: the form and N of its image, and T
+abbrev pub scheduleShape : List ℕ → Shape
+scheduleShape s = record { form = formIn (imagePart s); n = nodesIn s; t = threadsIn s }
+
 abbrev pub eventIn : List ℕ → ℕ → Event
-eventIn s i = eventFrom s (eventPlace (formIn (imagePart s)) (nodesIn s) i)
+eventIn s i = eventFrom s (eventPlace (scheduleShape s) i)
 
 unfoldable pub eventsIn : List ℕ → List Event
 eventsIn s = tab (eventIn s) (countIn s)
 
--- 1, 2, 4, 5, then the image, whose length allows for w bytes an event: 1, 2, 3, 1, 6, 7, 8
+-- 1, 2, 4, 5, then the image, for T threads, whose length allows for w bytes an event: 1, 2, 3, 4, 1, 6, 7, 8
 abbrev pub fileAnswer : ℕ → ℕ → List ℕ → Answer
 fileAnswer z w s =
     check (ltb (length s) 8) Length
     (check (not (isFile z s)) Mark
     (check (not (threadsFit (threadsIn s))) Threads
-    (check (ltb 4096 (countIn s)) Events (imageAnswer (countIn s * w) (imagePart s)))))
+    (check (ltb 4096 (countIn s)) Events (imageAnswer (threadsIn s) (countIn s * w) (imagePart s)))))
 
 -- a schedule has six bytes an event
 unfoldable pub scheduleAnswer : List ℕ → Answer

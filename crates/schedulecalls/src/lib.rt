@@ -9,7 +9,7 @@ use calls::packing::packed_of;
 pub fn check_image(image: &[u8]) -> u64
     ensures { λ r. ⌜ r ≡ imageChecked (now (image .entry)) ⌝ }
 {
-    let a = codec::check_part(image, 0);
+    let a = codec::check_alone(image);
     packed_of(a, 0)
 }
 

@@ -4,6 +4,7 @@ use mathlib.Core.Path.{_≡_, refl, sym, ap, ap₂, subst, _∙_}
 use mathlib.Core.Bool.{Bool, true, false}
 use mathlib.Core.List.{List, [], _++_, map, append-assoc}
 use native.Mathlib.Omega.{arith}
+use native.Mathlib.Decide.{decLt}
 use borrow.Author.Tests.{eq-eqb, ne-eqb, lt-ltb, le-ltb, eqb-true, ltb-true}
 use lib.Dec.{eqb, ltb}
 use lib.ListN.{length, getD, take, drop, List·getD-append}
@@ -15,15 +16,18 @@ use Rattle.lists.proofs.TabLaws as tabs
 use Rattle.lists.proofs.BoolLaws.{both-true}
 use Rattle.image.specs.declared.Content.{Content}
 use Rattle.image.specs.declared.Image.{Image}
-use Rattle.image.specs.Layout.{contentAt, headLines, noContents}
-use Rattle.image.specs.Recovered.{headOf, recovered, recoveredAt}
-use Rattle.image.proofs.HeadLaws.{one-head, heads-at, head-one}
+use Rattle.image.specs.Layout.{contentAt, imageShape, noContents}
+use Rattle.image.specs.Form.{headLines, ownThreads, perDesk}
+use Rattle.image.specs.declared.Shape.{Shape}
+use Rattle.image.specs.Recovered.{largest, headOf, recovered, recoveredAt}
+use Rattle.image.proofs.HeadLaws.{heads-at, head-is as largest-is, lines-same}
 use Rattle.machine.specs.Line.{lineCount}
 use Rattle.machine.specs.Start.{queueOf}
 use Rattle.page.specs.Printed.{itemsOf, itemsText, spaced, newline, endingLine}
 use Rattle.endtable.specs.Opened.{blankCounts}
 use Rattle.endtable.specs.Picks.{Ready, picksOf, digits, pickedAt, pickedNode, pickedImage}
 use Rattle.endtable.proofs.Digits as picks
+use Rattle.endtable.proofs.OwnLaws.{own-desks}
 use Rattle.sheet.specs.Marks.{slotContent, markOf, markAt, marksOf, itemsIn, slotCount}
 use Rattle.sheet.specs.Order.{ordered, rankIn}
 use Rattle.sheet.specs.Told.{isTold, pieceIf, pieceOf, pieceAt, headMark, toldTo, toldEnd, closing}
@@ -34,20 +38,37 @@ use Rattle.sheet.proofs.ChosenLaws as chosens
 use Rattle.sheet.proofs.TextLaws as texts
 
 -- each choice is one of its line's contents
-pub pick-below : (cs : List ℕ) (n k : ℕ) → Ready cs (lineCount n) → (l : ℕ) → l < lineCount n → getD (picksOf cs n k) l 0 < getD cs l 0
+pub pick-below : (cs : List ℕ) (z : Shape) (k : ℕ) → Ready cs (lineCount z) → (l : ℕ) → l < lineCount z → getD (picksOf cs z k) l 0 < getD cs l 0
 unfolding picksOf
-pick-below cs n k r l h =
-    let e = List·getD-append (digits cs (lineCount n) k) (drop (lineCount n) blankCounts) 0 l (omega (arith, picks.length-digits cs (lineCount n) k)) in
-    omega (arith, e, picks.digit-below cs (lineCount n) k (r .0) l h)
+pick-below cs z k r l h =
+    let e = List·getD-append (digits cs (lineCount z) k) (drop (lineCount z) blankCounts) 0 l (omega (arith, picks.length-digits cs (lineCount z) k)) in
+    omega (arith, e, picks.digit-below cs (lineCount z) k (r .0) l h)
 
-module _ (t : List (List Content)) (cs : List ℕ) (n : ℕ) (ps : List ℕ)
-    (below : (l : ℕ) → l < lineCount n → getD ps l 0 < getD cs l 0)
-    (few : (l : ℕ) → l < lineCount n → getD cs l 0 ≤ 16) where
+-- the largest index of one head line is that line's
+largest-one : (l : List ℕ) → largest l 1 ≡ getD l 0 0
+unfolding largest
+largest-one l = by (decLt 0 (getD l 0 0))
+  where
+    by : Dec (0 < getD l 0 0) → pick (ltb 0 (getD l 0 0)) (getD l 0 0) 0 ≡ getD l 0 0
+    by (yes h) = rw (lt-ltb 0 (getD l 0 0) h)
+    by (no h) = rw (le-ltb 0 (getD l 0 0) (omega arith)) (let e : 0 ≡ getD l 0 0 = omega arith in e)
+
+-- an image picked in a shape has its head lines
+picked-heads : (t : List (List Content)) (ps : List ℕ) (z : Shape) → headLines (imageShape (pickedImage t ps z)) ≡ headLines z
+unfolding pickedImage perDesk
+picked-heads t ps z = lines-same (z .form) (z .n) (ownThreads z) (z .n) (z .t) (λ d. sym (own-desks z (eqb-true (z .form) 4 d)))
+
+module _ (t : List (List Content)) (cs : List ℕ) (z : Shape) (one : headLines z ≡ 1) (ps : List ℕ)
+    (below : (l : ℕ) → l < lineCount z → getD ps l 0 < getD cs l 0)
+    (few : (l : ℕ) → l < lineCount z → getD cs l 0 ≤ 16) where
+  abbrev pub n : ℕ
+  n = z .n
+
   abbrev pub g : Image
-  g = pickedImage t ps n
+  g = pickedImage t ps z
 
   abbrev pub ranks : List ℕ
-  ranks = marksOf t cs n (slotCount n)
+  ranks = marksOf t cs (slotCount n)
 
   abbrev pub items : List ℕ
   items = itemsIn t (slotCount n)
@@ -61,7 +82,7 @@ module _ (t : List (List Content)) (cs : List ℕ) (n : ℕ) (ps : List ℕ)
   node : ℕ → ℕ
   node e = e / 16 - 1
 
-  pick-small : (l : ℕ) → l < lineCount n → getD ps l 0 < 16
+  pick-small : (l : ℕ) → l < lineCount z → getD ps l 0 < 16
   pick-small l h = omega (arith, below l h, few l h)
 
   -- ---- the head
@@ -70,12 +91,14 @@ module _ (t : List (List Content)) (cs : List ℕ) (n : ℕ) (ps : List ℕ)
   unfolding pickedImage pickedAt slotContent markAt
   head-is =
       let p = getD ps 0 0 in
-      let s = pick-small 0 (omega (arith, one-head n)) in
-      let m : getD ranks p 0 ≡ slotContent t p .index = marks.mark-at t cs n (slotCount n) p (omega (arith, one-head n)) ∙ sym (marks.mark-head (slotContent t p) p (getD cs (p / 16) 0) n s) in
+      let s = pick-small 0 (omega (arith, one)) in
+      let m : getD ranks p 0 ≡ slotContent t p .index = marks.mark-at t cs (slotCount n) p (omega (arith, one)) ∙ sym (marks.mark-head (slotContent t p) p (getD cs (p / 16) 0) s) in
       let a : p / 16 ≡ 0 = omega arith in
       let b : p % 16 ≡ p = omega arith in
-      head-one g
-      ∙ heads-at n (λ k. contentAt (getD t k []) (getD ps k 0) .index) 0 (omega (arith, one-head n))
+      sym (largest-is g)
+      ∙ ap (largest (g .heads)) (picked-heads t ps z ∙ one)
+      ∙ largest-one (g .heads)
+      ∙ heads-at z (λ k. contentAt (getD t k []) (getD ps k 0) .index) 0 (omega (arith, one))
       ∙ ap₂ (λ (l j : ℕ). contentAt (getD t l []) j .index) (sym a) (sym b)
       ∙ sym m
 
@@ -84,7 +107,7 @@ module _ (t : List (List Content)) (cs : List ℕ) (n : ℕ) (ps : List ℕ)
   content-is : (i : ℕ) → i < n → contentAt (g .nodes) i ≡ contentAt (getD t (1 + i) []) (getD ps (1 + i) 0)
   unfolding pickedImage pickedAt
   content-is i h =
-      tabs.front-at (pickedNode t ps n) n noContents i _ h ∙ ap (λ (l : ℕ). contentAt (getD t l []) (getD ps l 0)) (ap (λ (x : ℕ). x + i) (one-head n))
+      tabs.front-at (pickedNode t ps z) n noContents i _ h ∙ ap (λ (l : ℕ). contentAt (getD t l []) (getD ps l 0)) (ap (λ (x : ℕ). x + i) (one))
 
   slot-content : (i e : ℕ) → i < n → e / 16 ≡ 1 + i → getD ps (1 + i) 0 ≡ e % 16 → contentAt (g .nodes) i ≡ slotContent t e
   unfolding slotContent
@@ -94,8 +117,8 @@ module _ (t : List (List Content)) (cs : List ℕ) (n : ℕ) (ps : List ℕ)
   rank-is : (e : ℕ) → 16 ≤ e → e < slotCount n → e % 16 < getD cs (e / 16) 0 → getD ranks e 0 ≡ pick (eqb (slotContent t e .linked) 1) (slotContent t e .index) 0
   unfolding markAt markOf
   rank-is e h l j =
-      marks.mark-at t cs n (slotCount n) e l
-      ∙ ap₂ (λ (a b : Bool). pick a (slotContent t e .index) (pick b (pick (eqb (slotContent t e .linked) 1) (slotContent t e .index) 0) 0)) (le-ltb e (16 * headLines n) (omega (arith, one-head n))) (lt-ltb (e % 16) (getD cs (e / 16) 0) j)
+      marks.mark-at t cs (slotCount n) e l
+      ∙ ap₂ (λ (a b : Bool). pick a (slotContent t e .index) (pick b (pick (eqb (slotContent t e .linked) 1) (slotContent t e .index) 0) 0)) (le-ltb e 16 h) (lt-ltb (e % 16) (getD cs (e / 16) 0) j)
 
   rank-recovered : (h : ℕ) (c : Content) → ltb h (pick (eqb (c .linked) 1) (c .index) 0) ≡ recovered h c
   unfolding recovered
@@ -108,7 +131,7 @@ module _ (t : List (List Content)) (cs : List ℕ) (n : ℕ) (ps : List ℕ)
   -- ---- what the slots' order asks
 
   in-slots : (i j : ℕ) → i < n → j < 16 → (16 ≤ 16 + (i * 16 + j)) × (16 + (i * 16 + j) < slotCount n)
-  in-slots i j h l = (omega arith, omega (arith, one-head n))
+  in-slots i j h l = (omega arith, omega (arith, one))
 
   slot-line : (i j : ℕ) → j < 16 → ((16 + (i * 16 + j)) / 16 ≡ 1 + i) × ((16 + (i * 16 + j)) % 16 ≡ j)
   slot-line i j l = (omega arith, omega arith)
@@ -117,22 +140,22 @@ module _ (t : List (List Content)) (cs : List ℕ) (n : ℕ) (ps : List ℕ)
   unfolding sel
   slot-others i j h l x =
       let e = 16 + (i * 16 + j) in
-      let z = slot-line i j l in
+      let w = slot-line i j l in
       ap (λ (b : Bool). both b (ltb head (getD ranks e 0)))
-      (ap₂ (λ (l k : ℕ). eqb (getD ps l 0) k) (z .0) (z .1) ∙ ne-eqb (getD ps (1 + i) 0) j (λ q. x (sym q)))
+      (ap₂ (λ (l k : ℕ). eqb (getD ps l 0) k) (w .0) (w .1) ∙ ne-eqb (getD ps (1 + i) 0) j (λ q. x (sym q)))
 
   slot-told : (i : ℕ) → i < n → sel (16 + (i * 16 + getD ps (1 + i) 0)) ≡ recoveredAt g i
   unfolding sel
   slot-told i h =
       let j = getD ps (1 + i) 0 in
-      let s = pick-small (1 + i) (omega (arith, one-head n)) in
+      let s = pick-small (1 + i) (omega (arith, one)) in
       let e = 16 + (i * 16 + j) in
-      let z = slot-line i j s in
+      let w = slot-line i j s in
       let r = in-slots i j h s in
-      ap (λ (b : Bool). both b (ltb head (getD ranks e 0))) (ap₂ (λ (l k : ℕ). eqb (getD ps l 0) k) (z .0) (z .1) ∙ eq-eqb j j refl)
-      ∙ ap (ltb head) (rank-is e (r .0) (r .1) (subst (λ (l : ℕ). e % 16 < getD cs l 0) (sym (z .0)) (omega (arith, z .1, below (1 + i) (omega (arith, one-head n))))))
+      ap (λ (b : Bool). both b (ltb head (getD ranks e 0))) (ap₂ (λ (l k : ℕ). eqb (getD ps l 0) k) (w .0) (w .1) ∙ eq-eqb j j refl)
+      ∙ ap (ltb head) (rank-is e (r .0) (r .1) (subst (λ (l : ℕ). e % 16 < getD cs l 0) (sym (w .0)) (omega (arith, w .1, below (1 + i) (omega (arith, one))))))
       ∙ rank-recovered head (slotContent t e)
-      ∙ ap₂ recovered (sym head-is) (sym (slot-content i e h (z .0) (sym (z .1))))
+      ∙ ap₂ recovered (sym head-is) (sym (slot-content i e h (w .0) (sym (w .1))))
 
   slot-node : (i j : ℕ) → i < n → j < 16 → node (16 + (i * 16 + j)) ≡ i
   unfolding node
@@ -162,8 +185,8 @@ module _ (t : List (List Content)) (cs : List ℕ) (n : ℕ) (ps : List ℕ)
   slot-ranks e s h l =
       let q = sel-says e s in
       let i = node-in e h l in
-      let c : e % 16 < getD cs (e / 16) 0 = omega (arith, q .0, below (e / 16) (omega (arith, one-head n, i .0, i .1))) in
-      let r = rank-is e h (omega (arith, one-head n)) c in
+      let c : e % 16 < getD cs (e / 16) 0 = omega (arith, q .0, below (e / 16) (omega (arith, one, i .0, i .1))) in
+      let r = rank-is e h (omega (arith, one)) c in
       r
       ∙ above-none (slotContent t e .index) (eqb (slotContent t e .linked) 1) head (omega (arith, q .1, r))
       ∙ ap (λ (v : Content). v .index) (sym (told-content e s h l))
@@ -181,7 +204,7 @@ module _ (t : List (List Content)) (cs : List ℕ) (n : ℕ) (ps : List ℕ)
   items-are =
       let q : queueOf g ≡ map node (chosen (rankIn ranks) sel 16 (n * 16)) =
       sym (chosens.chosen-risen g n (rankIn ranks) sel 16 node (λ i. getD ps (1 + i) 0)
-      (λ i h. pick-small (1 + i) (omega (arith, one-head n)))
+      (λ i h. pick-small (1 + i) (omega (arith, one)))
       slot-others
       slot-told
       slot-node
@@ -191,7 +214,7 @@ module _ (t : List (List Content)) (cs : List ℕ) (n : ℕ) (ps : List ℕ)
       ∙ texts.map-map (λ i. contentAt (g .nodes) i .item) node (chosen (rankIn ranks) sel 16 (n * 16))
       ∙ texts.map-each (λ e. contentAt (g .nodes) (node e) .item) (λ e. getD items e 0) (chosen (rankIn ranks) sel 16 (n * 16))
       (orders.each-map (λ e. (sel e ≡ true) × (16 ≤ e) × (e < 16 + n * 16)) (λ e. contentAt (g .nodes) (node e) .item ≡ getD items e 0) (chosen (rankIn ranks) sel 16 (n * 16))
-      (λ e z. ap (λ (v : Content). v .item) (told-content e (z .0) (z .1) (z .2)) ∙ sym (marks.item-at t (slotCount n) e (omega (arith, one-head n, z .2))))
+      (λ e z. ap (λ (v : Content). v .item) (told-content e (z .0) (z .1) (z .2)) ∙ sym (marks.item-at t (slotCount n) e (omega (arith, one, z .2))))
       (chosens.chosen-among (rankIn ranks) sel 16 (n * 16)))
       ∙ ap (map (λ e. getD items e 0)) (sym kept-chosen)
 

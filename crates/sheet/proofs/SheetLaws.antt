@@ -6,9 +6,9 @@ use native.Mathlib.Omega.{arith}
 use lib.ListN.{length, getD, take}
 use lib.Seq.{getD-take}
 use Rattle.lists.specs.Text.{decimal}
-use Rattle.image.specs.Layout.{headLines}
+use Rattle.image.specs.Form.{headLines}
 use Rattle.image.specs.declared.Content.{Content}
-use Rattle.image.proofs.HeadLaws.{one-head}
+use Rattle.image.specs.declared.Shape.{Shape}
 use Rattle.machine.specs.Line.{lineCount}
 use Rattle.endtable.specs.Picks.{Ready, picksOf, pickedImage, endingFrom}
 use Rattle.printing.specs.Lines.{lineFrom}
@@ -22,65 +22,64 @@ use Rattle.sheet.proofs.OrderLaws as orders
 use Rattle.sheet.proofs.EndLaws as ends
 
 -- at the code's numbers
-slots-from : (n : ℕ) → (16 * headLines n ≡ 16) × (slotCount n - 16 * headLines n ≡ n * 16)
-slots-from n = (omega (arith, one-head n), omega (arith, one-head n))
-
 pub sheet-made : (t : List (List Content)) (cs : List ℕ) (n : ℕ) (ranks items slots starts : List ℕ) (count lines : ℕ)
-    → ranks ≡ marksOf t cs n (slotCount n) → items ≡ itemsIn t (slotCount n) → lines ≡ n + 1
+    → ranks ≡ marksOf t cs (slotCount n) → items ≡ itemsIn t (slotCount n) → lines ≡ n + 1
     → count ≡ length (ordered (rankIn ranks) 16 (lines * 16 - 16)) → take count slots ≡ ordered (rankIn ranks) 16 (lines * 16 - 16)
     → starts ≡ startsOf slots count cs lines → IsSheet t cs n ranks items slots starts count
 sheet-made t cs n ranks items slots starts count lines r i l c p s =
-    let a : 16 ≡ 16 * headLines n = omega (arith, one-head n) in
-    let b : lines * 16 - 16 ≡ slotCount n - 16 * headLines n = omega (arith, one-head n) in
-    let o = ap₂ (ordered (rankIn ranks)) a b in
+    let o = ap (ordered (rankIn ranks) 16) (let b : lines * 16 - 16 ≡ n * 16 = omega arith in b) in
     record {
       ranked = r;
       itemed = i;
       counted = c ∙ ap length o;
       placed = p ∙ o;
-      begun = s ∙ ap (startsOf slots count cs) (let z : lines ≡ lineCount n = omega (arith, one-head n) in z);
+      begun = s ∙ ap (startsOf slots count cs) (let e : lines ≡ 1 + n = omega arith in e);
     }
 
 module _ (t : List (List Content)) (cs : List ℕ) (n : ℕ) (ranks items slots starts : List ℕ) (count : ℕ) (s : IsSheet t cs n ranks items slots starts count) where
-  order-is : ordered (rankIn ranks) (16 * headLines n) (slotCount n - 16 * headLines n) ≡ ordered (rankIn (marksOf t cs n (slotCount n))) 16 (n * 16)
-  order-is =
-      ap₂ (ordered (rankIn ranks)) (slots-from n .0) (slots-from n .1)
-      ∙ ap (λ (r : List ℕ). ordered (rankIn r) 16 (n * 16)) (s .ranked)
+  order-is : ordered (rankIn ranks) 16 (n * 16) ≡ ordered (rankIn (marksOf t cs (slotCount n))) 16 (n * 16)
+  order-is = ap (λ (r : List ℕ). ordered (rankIn r) 16 (n * 16)) (s .ranked)
 
   pub sheet-count : count ≤ slotCount n
-  sheet-count = omega (arith, s .counted, orders.ordered-few (rankIn ranks) (16 * headLines n) (slotCount n - 16 * headLines n))
+  sheet-count = omega (arith, s .counted, orders.ordered-few (rankIn ranks) 16 (n * 16))
 
   pub sheet-slots : SlotsOf n slots count
   sheet-slots p l =
-      let o = ordered (rankIn ranks) (16 * headLines n) (slotCount n - 16 * headLines n) in
-      let a = orders.each-at (λ e. (16 * headLines n ≤ e) × (e < 16 * headLines n + (slotCount n - 16 * headLines n))) o (orders.ordered-among (rankIn ranks) (16 * headLines n) (slotCount n - 16 * headLines n)) p (omega (arith, s .counted)) in
+      let o = ordered (rankIn ranks) 16 (n * 16) in
+      let a = orders.each-at (λ e. (16 ≤ e) × (e < 16 + n * 16)) o (orders.ordered-among (rankIn ranks) 16 (n * 16)) p (omega (arith, s .counted)) in
       let g : getD slots p 0 ≡ getD o p 0 = sym (getD-take count slots p 0 l) ∙ ap (λ (q : List ℕ). getD q p 0) (s .placed) in
-      omega (arith, g, a .1, one-head n)
+      omega (arith, g, a .1)
 
-  module _ (ready : Ready cs (lineCount n)) where
-    below : (k l : ℕ) → l < lineCount n → getD (picksOf cs n k) l 0 < getD cs l 0
-    below k = ends.pick-below cs n k ready
+-- the sheet of a page whose shape has one head line
+module _ (t : List (List Content)) (cs : List ℕ) (z : Shape) (one : headLines z ≡ 1) (ranks items slots starts : List ℕ) (count : ℕ) (s : IsSheet t cs (z .n) ranks items slots starts count)
+    (ready : Ready cs (lineCount z)) where
+  below : (k l : ℕ) → l < lineCount z → getD (picksOf cs z k) l 0 < getD cs l 0
+  below k = ends.pick-below cs z k ready
 
-    -- the line that is told is the ending's
-    pub sheet-line : (k : ℕ) → lineTold ranks items slots count cs n k ≡ lineFrom t cs n k
-    unfolding lineTold lineFrom endingFrom
-    sheet-line k =
-        ap₂ (λ (r i : List ℕ). decimal k ++ toldEnd r i slots (picksOf cs n k) (headMark r (picksOf cs n k)) count) (s .ranked) (s .itemed)
-        ∙ sym (ends.line-told t cs n (picksOf cs n k) (below k) (ready .1) slots count k (s .placed ∙ order-is) (s .counted ∙ ap length order-is))
+  order′ : ordered (rankIn ranks) 16 (z .n * 16) ≡ ordered (rankIn (marksOf t cs (slotCount (z .n)))) 16 (z .n * 16)
+  order′ = order-is t cs (z .n) ranks items slots starts count s
 
-    small-kept : (it : ℕ → ℕ) (q : List ℕ) → ((e : ℕ) → it e < 4294967296) → AllSmall (map it q)
-    small-kept it [] h = tt
-    small-kept it (e ∷ q) h = (h e, small-kept it q h)
+  -- the line that is told is the ending's
+  pub sheet-line : (k : ℕ) → lineTold ranks items slots count cs z k ≡ lineFrom t cs z k
+  unfolding lineTold lineFrom endingFrom
+  sheet-line k =
+      ap₂ (λ (r i : List ℕ). decimal k ++ toldEnd r i slots (picksOf cs z k) (headMark r (picksOf cs z k)) count) (s .ranked) (s .itemed)
+      ∙ sym (ends.line-told t cs z one (picksOf cs z k) (below k) (ready .1) slots count k (s .placed ∙ order′) (s .counted ∙ ap length order′))
 
-    -- and no longer than a line is
-    pub sheet-short : Small ranks items → n ≤ 64 → (k : ℕ) → k < 65536 → length (lineFrom t cs n k) ≤ lineRoom 64
-    unfolding lineFrom endingFrom pickedImage
-    sheet-short m h k l =
-        let ps = picksOf cs n k in
-        let g = pickedImage t ps n in
-        let hd = ends.head-is t cs n ps (below k) (ready .1) in
-        let it = ends.items-are t cs n ps (below k) (ready .1) in
-        short.image-short 64 k g (omega arith) l
-        (subst (λ (x : ℕ). x < 18446744073709551616) (sym (hd ∙ ap (λ (r : List ℕ). headMark r ps) (sym (s .ranked)))) (m (getD ps 0 0) .0))
-        (subst AllSmall (sym it) (small-kept (λ e. getD (itemsIn t (slotCount n)) e 0) (orders.kept (ends.sel t cs n ps (below k) (ready .1)) (ordered (rankIn (marksOf t cs n (slotCount n))) 16 (n * 16))) (λ e. subst (λ (i : List ℕ). getD i e 0 < 4294967296) (s .itemed) (m e .1))))
-        h
+  small-kept : (it : ℕ → ℕ) (q : List ℕ) → ((e : ℕ) → it e < 4294967296) → AllSmall (map it q)
+  small-kept it [] h = tt
+  small-kept it (e ∷ q) h = (h e, small-kept it q h)
+
+  -- and no longer than a line is
+  pub sheet-short : Small ranks items → z .n ≤ 64 → (k : ℕ) → k < 65536 → length (lineFrom t cs z k) ≤ lineRoom 64
+  unfolding lineFrom endingFrom pickedImage
+  sheet-short m h k l =
+      let n = z .n in
+      let ps = picksOf cs z k in
+      let g = pickedImage t ps z in
+      let hd = ends.head-is t cs z one ps (below k) (ready .1) in
+      let it = ends.items-are t cs z one ps (below k) (ready .1) in
+      short.image-short 64 k g (omega arith) l
+      (subst (λ (x : ℕ). x < 18446744073709551616) (sym (hd ∙ ap (λ (r : List ℕ). headMark r ps) (sym (s .ranked)))) (m (getD ps 0 0) .0))
+      (subst AllSmall (sym it) (small-kept (λ e. getD (itemsIn t (slotCount n)) e 0) (orders.kept (ends.sel t cs z one ps (below k) (ready .1)) (ordered (rankIn (marksOf t cs (slotCount n))) 16 (n * 16))) (λ e. subst (λ (i : List ℕ). getD i e 0 < 4294967296) (s .itemed) (m e .1))))
+      h

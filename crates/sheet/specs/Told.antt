@@ -22,7 +22,7 @@ pieceIf item false = []
 unfoldable pub pieceOf : ℕ → ℕ → ℕ → ℕ → ℕ → List ℕ
 pieceOf d j head rank item = pieceIf item (isTold d j head rank)
 
--- the head index of the choices ps
+-- the head index of the choices ps: there is one head line
 abbrev pub headMark : List ℕ → List ℕ → ℕ
 headMark ranks ps = getD ranks (getD ps 0 0) 0
 

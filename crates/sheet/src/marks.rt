@@ -4,7 +4,7 @@ ghost use Prim.Native.Nat.{_≤_};
 ghost use Rattle.sheet.specs.Marks.{markOf, blankSlots, marksOf, itemsIn, slotCount};
 use image::Content;
 
-// A slot's rank, a head line's index; and its item.
+// A slot's rank, the head line's index; and its item.
 pub struct Marks {
     pub ranks: [u64; 1040],
     pub items: [u32; 1040],
@@ -23,8 +23,8 @@ fn no_items() -> [u32; 1040]
 }
 
 // What slot e holds the content v for; its line has `count` contents.
-fn mark_of(v: Content, e: usize, count: u8, n: u8) -> u64
-    ensures { λ r. ⌜ r ≡ markOf v e count n ⌝ }
+fn mark_of(v: Content, e: usize, count: u8) -> u64
+    ensures { λ r. ⌜ r ≡ markOf v e count ⌝ }
 {
     if e < 16 {
         return v.index;
@@ -38,9 +38,9 @@ fn mark_of(v: Content, e: usize, count: u8, n: u8) -> u64
     0
 }
 
-pub fn marks_of(t: [[Content; 16]; 65], counts: [u8; 65], n: u8) -> Marks
+pub fn marks_of(t: [[Content; 16]; 72], counts: [u8; 72], n: u8) -> Marks
     requires { ⌜ n ≤ 64 ⌝ }
-    ensures { λ r. ⌜ r ≡ record { ranks = marksOf t counts n (slotCount n); items = itemsIn t (slotCount n) } ⌝ }
+    ensures { λ r. ⌜ r ≡ record { ranks = marksOf t counts (slotCount n); items = itemsIn t (slotCount n) } ⌝ }
 {
     let mut ranks = no_ranks();
     let mut items = no_items();
@@ -49,7 +49,7 @@ pub fn marks_of(t: [[Content; 16]; 65], counts: [u8; 65], n: u8) -> Marks
     while e < last {
         let l = e / 16;
         let v = t[l][e % 16];
-        ranks[e] = mark_of(v, e, counts[l], n);
+        ranks[e] = mark_of(v, e, counts[l]);
         items[e] = v.item;
         e += 1;
     }

@@ -1,4 +1,4 @@
-// All that a page's lines are told from, made once a page.
+// All that the lines of a page with one head line are told from, made once a page.
 use crate::marks::marks_of;
 use crate::order::ranked;
 use crate::order::starts_of;
@@ -14,7 +14,7 @@ pub struct Sheet {
     pub count: usize,
 }
 
-pub fn sheet_of(t: [[Content; 16]; 65], counts: [u8; 65], n: u8) -> Sheet
+pub fn sheet_of(t: [[Content; 16]; 72], counts: [u8; 72], n: u8) -> Sheet
     requires { ⌜ n ≤ 64 ⌝ }
     ensures sheet { λ r. ⌜ IsSheet t counts n (r .ranks) (r .items) (r .slots) (r .starts) (r .count) ⌝ }
     ensures small { λ r. ⌜ Small (r .ranks) (r .items) ⌝ }

@@ -3,6 +3,7 @@ use crate::tell::tell_anew;
 use crate::tell::tell_on;
 use crate::turn::turn;
 use endtable::ending::ending_picks;
+use image::Shape;
 use printing::put;
 use printing::put_decimal;
 use printing::stretch::Stretch;
@@ -12,6 +13,7 @@ ghost use Prim.Native.Nat.{_+_, _-_, _≤_, _<_};
 ghost use lib.ListN.{length, take};
 ghost use Rattle.lists.specs.Tab.{over};
 ghost use Rattle.lists.specs.Text.{decimal};
+ghost use Rattle.image.specs.Form.{headLines};
 ghost use Rattle.machine.specs.Line.{lineCount};
 ghost use Rattle.page.specs.Filled.{linesOn, fitting};
 ghost use Rattle.endtable.specs.Picks.{Ready};
@@ -58,8 +60,8 @@ fn fit_line(b: &mut [u8], at: usize, k: u32, end: &[u8], n: usize) -> usize
 pub fn write_endings(
     b: &mut [u8],
     at: usize,
-    counts: [u8; 65],
-    n: u8,
+    counts: [u8; 72],
+    z: Shape,
     slots: &[usize; 1040],
     count: usize,
     ranks: &[u64; 1040],
@@ -68,14 +70,13 @@ pub fn write_endings(
     from: u32,
     to: u32,
 ) -> Stretch
-    requires { ⌜ (n ≤ 64) × Ready counts (lineCount n) × (from ≤ to) × (to ≤ 65536) × (at ≤ length (now b)) ⌝ }
-    requires { ⌜ (count ≤ 1040) × SlotsOf n (now slots) count × (now starts ≡ startsOf (now slots) count counts (lineCount n)) ⌝ }
-    ensures next { λ r. ⌜ r .next ≡ from + fitting (lineTold (now (ranks .entry)) (now (items .entry)) (now (slots .entry)) count counts n) from (to - from) (length (now (b .entry)) - at) ⌝ }
-    ensures place { λ r. ⌜ r .place ≡ at + length (linesOn (lineTold (now (ranks .entry)) (now (items .entry)) (now (slots .entry)) count counts n) from (r .next - from)) ⌝ }
-    ensures bytes { λ r. ⌜ now (b .exit) ≡ over (now (b .entry)) at (linesOn (lineTold (now (ranks .entry)) (now (items .entry)) (now (slots .entry)) count counts n) from (r .next - from)) ⌝ }
+    requires { ⌜ (z .n ≤ 64) × (headLines z ≡ 1) × Ready counts (lineCount z) × (from ≤ to) × (to ≤ 65536) × (at ≤ length (now b)) ⌝ }
+    requires { ⌜ (count ≤ 1040) × SlotsOf (z .n) (now slots) count × (now starts ≡ startsOf (now slots) count counts (1 + z .n)) ⌝ }
+    ensures next { λ r. ⌜ r .next ≡ from + fitting (lineTold (now (ranks .entry)) (now (items .entry)) (now (slots .entry)) count counts z) from (to - from) (length (now (b .entry)) - at) ⌝ }
+    ensures place { λ r. ⌜ r .place ≡ at + length (linesOn (lineTold (now (ranks .entry)) (now (items .entry)) (now (slots .entry)) count counts z) from (r .next - from)) ⌝ }
+    ensures bytes { λ r. ⌜ now (b .exit) ≡ over (now (b .entry)) at (linesOn (lineTold (now (ranks .entry)) (now (items .entry)) (now (slots .entry)) count counts z) from (r .next - from)) ⌝ }
 {
-    let lines = n as usize + 1;
-    let mut picks = ending_picks(counts, n, from);
+    let mut picks = ending_picks(counts, z, from);
     let mut end = [0u8; 11468];
     let mut ends = [0usize; 1041];
     let mut len = tell_anew(&mut end, &mut ends, slots, count, ranks, items, &picks);
@@ -87,7 +88,7 @@ pub fn write_endings(
             return Stretch { next: k, place: p };
         }
         p = q;
-        let i = turn(&mut picks, &counts, lines);
+        let i = turn(&mut picks, &counts, z.n as usize + 1);
         len = tell_on(
             &mut end,
             &mut ends,

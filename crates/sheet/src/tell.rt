@@ -34,7 +34,7 @@ fn tell_slots(
     count: usize,
     ranks: &[u64; 1040],
     items: &[u32; 1040],
-    picks: &[u8; 65],
+    picks: &[u8; 72],
     head: u64,
 ) -> usize
     requires { ⌜ (from ≤ count) × (count ≤ 1040) × Slots (now slots) count × (length (now end) ≡ 11468) × (length (now ends) ≡ 1041) ⌝ }
@@ -82,7 +82,7 @@ fn tell_from(
     count: usize,
     ranks: &[u64; 1040],
     items: &[u32; 1040],
-    picks: &[u8; 65],
+    picks: &[u8; 72],
     head: u64,
 ) -> usize
     requires { ⌜ (from ≤ count) × (count ≤ 1040) × Slots (now slots) count × (length (now end) ≡ 11468) × (length (now ends) ≡ 1041) ⌝ }
@@ -119,7 +119,7 @@ pub fn tell_anew(
     count: usize,
     ranks: &[u64; 1040],
     items: &[u32; 1040],
-    picks: &[u8; 65],
+    picks: &[u8; 72],
 ) -> usize
     requires { ⌜ (count ≤ 1040) × Slots (now slots) count × (length (now end) ≡ 11468) × (length (now ends) ≡ 1041) ⌝ }
     ensures told { λ r. ⌜ Told (now (ranks .entry)) (now (items .entry)) (now (slots .entry)) (now (picks .entry)) (headMark (now (ranks .entry)) (now (picks .entry))) count (now (end .exit)) (now (ends .exit)) ⌝ }
@@ -140,7 +140,7 @@ pub fn tell_on(
     count: usize,
     ranks: &[u64; 1040],
     items: &[u32; 1040],
-    picks: &[u8; 65],
+    picks: &[u8; 72],
     starts: &[usize; 65],
     i: usize,
 ) -> usize

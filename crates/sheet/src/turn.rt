@@ -12,8 +12,8 @@ fn next(d: u8, count: u8) -> u8
 }
 
 // As endtable::turned; gives the line that turned. The lines before it keep their choices.
-pub fn turn(picks: &mut [u8; 65], counts: &[u8; 65], lines: usize) -> usize
-    requires { ⌜ (lines ≤ 65) × Counted (now counts) lines ⌝ }
+pub fn turn(picks: &mut [u8; 72], counts: &[u8; 72], lines: usize) -> usize
+    requires { ⌜ (lines ≤ 72) × Counted (now counts) lines ⌝ }
     ensures line { λ r. ⌜ r ≡ turnsAt (now (counts .entry)) lines (now (picks .entry)) ⌝ }
     ensures picks { λ r. ⌜ now (picks .exit) ≡ turnedOf (now (counts .entry)) lines (now (picks .entry)) ⌝ }
 {

@@ -12,17 +12,20 @@ use Rattle.lists.specs.Tab.{over, front}
 use Rattle.lists.proofs.TabLaws as tabs
 use Rattle.answer.specs.Answers.{accepted, check}
 use Rattle.answer.specs.declared.Answer.{Answer}
-use Rattle.answer.specs.declared.Answer.the-variants.{Taken, Mark, Nodes, Threads}
+use Rattle.answer.specs.declared.Answer.the-variants.{Taken, Threads}
 use Rattle.image.specs.declared.Content.{Content}
 use Rattle.image.specs.declared.Image.{Image}
 use Rattle.image.specs.declared.Read.{Read}
-use Rattle.image.specs.Form.{known}
-use Rattle.image.specs.Layout.{noContent, noContents, nodePlace, contentAt, headsOf, inForm, imageBytes}
-use Rattle.image.specs.Refusals.{nodesFit, sound, readImage, writeAnswer}
+use Rattle.image.specs.Form.{Form, plain, wide, pair, desks, formOf, heldThreads, ownThreads, imageSize}
+use Rattle.image.specs.Layout.{noContent, noContents, contentAt, imageShape, noHeads, headsOf, imageBytes}
+use Rattle.image.specs.declared.Shape.{Shape}
+use Rattle.image.specs.Refusals.{threadsFit, whole, readImage, writeAnswer}
 use Rattle.image.proofs.HeadLaws.{heads-at, heads-same}
-use Rattle.machine.specs.Line.{numberOf}
+use Rattle.image.proofs.ShapeLaws.{Shaped, shape-is, agree-own}
+use Rattle.pages.proofs.OwnLaws.{owned, own-lines, own-size}
+use Rattle.machine.specs.Line.{shapeOf, numberOf}
 use Rattle.machine.specs.declared.Line.the-variants.{OfHead as ofHead, OfNode as ofNode}
-use Rattle.machine.specs.Start.{threadsFit, startAnswer}
+use Rattle.machine.specs.Start.{startAnswer}
 use Rattle.machine.specs.declared.Machine.{Machine}
 use Rattle.schedule.specs.Layout.{threadsIn}
 use Rattle.schedule.specs.Run.{Bench, Ran, ran}
@@ -41,15 +44,27 @@ use Rattle.signed.specs.Images.{ReadsAs, ReadsBack, BytesApart, AllEndin
 use Rattle.signed.proofs.Demand3.{ending-held}
 use Rattle.signed.proofs.Images.{reads-is}
 
+-- T as it is held is held so
+own-twice : (z : Shape) → ownThreads (owned z) ≡ ownThreads z
+unfolding ownThreads
+own-twice z = by (formOf (z .form))
+  where
+    by : (f : Form) → heldThreads f (heldThreads f (z .t)) ≡ heldThreads f (z .t)
+    by plain = refl
+    by wide = refl
+    by pair = refl
+    by desks = refl
+
 -- nothing stands beyond the lines that an ending chooses for
-ending-blank : (f n : ℕ) (c : List Content) → trimmed (inForm f (imageOf n c)) ≡ inForm f (imageOf n c)
-unfolding imageOf
-ending-blank form n c =
-    let f : ℕ → ℕ = λ k. contentAt c (numberOf n (ofHead k)) .index in
-    let h : ℕ → Content = λ i. contentAt c (numberOf n (ofNode i)) in
-    let x = heads-same n (λ k. getD (headsOf n f) k 0) f (heads-at n f) in
-    let y = tabs.front-same (contentAt (front h n noContents)) h n noContents (λ i p. tabs.front-at h n noContents i noContent p) in
-    λ k. record { form = form; n = n; heads = x k; nodes = y k }
+ending-blank : (z : Shape) (c : List Content) → trimmed (imageOf z c) ≡ imageOf z c
+unfolding imageOf headsOf
+ending-blank z c =
+    let f : ℕ → ℕ = λ k. contentAt c (numberOf z (ofHead k)) .index in
+    let h : ℕ → Content = λ i. contentAt c (numberOf z (ofNode i)) in
+    let x = ap (λ (m : ℕ). front (λ k. getD (headsOf z f) k 0) m noHeads) (own-lines z) ∙ heads-same z (λ k. getD (headsOf z f) k 0) f (heads-at z f) in
+    let y = tabs.front-same (contentAt (front h (z .n) noContents)) h (z .n) noContents (λ i p. tabs.front-at h (z .n) noContents i noContent p) in
+    let o = own-twice z in
+    λ k. record { form = z .form; n = z .n; t = o k; heads = x k; nodes = y k }
 
 module _ (s : List ℕ) (bytes : Bytes s) (h : accepted (pageAnswer s) ≡ true) (k : ℕ) (lt : k < endingCount s) where
   ending-items : Items (endingIn s k)
@@ -57,20 +72,20 @@ module _ (s : List ℕ) (bytes : Bytes s) (h : accepted (pageAnswer s) ≡ true)
 
   ending-whole : trimmed (endingIn s k) ≡ endingIn s k
   unfolding endingIn ending
-  ending-whole = ending-blank (ran s .bench .machine .form) (ran s .bench .machine .n) (getD (choices (tableIn s)) k [])
+  ending-whole = ending-blank (shapeOf (ran s .bench .machine)) (getD (choices (tableIn s)) k [])
 
-  size : nodePlace (endingIn s k .form) (endingIn s k .n) ≡ endingSize s
+  size : imageSize (imageShape (endingIn s k)) ≡ endingSize s
   unfolding endingIn ending imageOf
-  size = refl
+  size = own-size (shapeOf (ran s .bench .machine))
 
   -- it starts, so its contents are taken for writing
   sound-ending : accepted (writeAnswer (endingIn s k) (endingSize s)) ≡ true
   unfolding startAnswer
   sound-ending =
       let x = pass (not (threadsFit (threadsIn s))) Threads _ refl (page-lawful s bytes h k lt .starts) in
-      let f = pass (not (known (endingIn s k .form))) Mark _ refl (x .1) in
-      let y = pass (not (nodesFit (endingIn s k .n))) Nodes _ refl (f .1) in
-      ap accepted (acc.write-taken (endingIn s k) (endingSize s) (not-false _ (f .0)) (not-false _ (y .0)) (y .1) (omega (arith, size)))
+      let y = shape-is (threadsIn s) (imageShape (endingIn s k)) (whole (endingIn s k) Taken) (x .1) in
+      let f : Shaped (endingIn s k .t) (imageShape (endingIn s k)) = record { form = y .0 .form; nodes = y .0 .nodes; own = y .0 .own; agrees = agree-own (imageShape (endingIn s k)) } in
+      ap accepted (acc.write-taken (endingIn s k) (endingSize s) f (y .1) (omega (arith, size)))
 
   pub bytes-read : readImage (imageBytes (endingIn s k)) ≡ record { answer = Taken; image = endingIn s k }
   bytes-read =
@@ -80,7 +95,7 @@ module _ (s : List ℕ) (bytes : Bytes s) (h : accepted (pageAnswer s) ≡ true)
   -- what the call leaves in the first bytes of a lent buffer
   pub bytes-are : (b : List ℕ) → endingSize s ≤ length b → (a : Answer) (z : List ℕ) → Writes s k b a z → take (endingSize s) z ≡ imageBytes (endingIn s k)
   bytes-are b l a z (κs, x, y, y′, e, f, g, p) =
-      let long : length (imageBytes (endingIn s k)) ≡ endingSize s = size-back (endingIn s k) (acc.contents-taken (endingIn s k) (endingSize s) sound-ending .form) ∙ size in
+      let long : length (imageBytes (endingIn s k)) ≡ endingSize s = size-back (endingIn s k) (acc.contents-taken (endingIn s k) (endingSize s) sound-ending .shape .form) ∙ size in
       let w = sym g ∙ p .1 ∙ ap (λ (t : List ℕ). endingWritten t k (now y)) e ∙ ap (λ (t : List ℕ). endingWritten s k t) f ∙ ending-held s h k lt b l in
       ap (take (endingSize s)) (w ∙ over-front b (imageBytes (endingIn s k)) (omega (arith, long)))
       ∙ take-at (imageBytes (endingIn s k)) (drop (length (imageBytes (endingIn s k))) b) (endingSize s) long

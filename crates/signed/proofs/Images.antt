@@ -9,7 +9,8 @@ use Rattle.answer.specs.Answers.{accepted}
 use Rattle.answer.specs.declared.Answer.{Answer}
 use Rattle.answer.specs.declared.Answer.the-variants.{Taken}
 use Rattle.answer.proofs.Injective.{told-injective}
-use Rattle.image.specs.Layout.{nodePlace}
+use Rattle.image.specs.Form.{imageSize}
+use Rattle.image.specs.Layout.{imageShape}
 use Rattle.image.specs.Refusals.{readImage, writeAnswer, written}
 use Rattle.image.specs.declared.Image.{Image}
 use Rattle.image.specs.declared.Read.{Read}
@@ -45,11 +46,11 @@ read-then-written s r b a z y p h l w =
 -- "a written image reads back as the same contents"
 pub written-then-read :
     (g : Image) (b : List ℕ) (a : Answer) (z : List ℕ) (r : Read) → Items g → WritesAs g b a z → accepted a ≡ true →
-    ReadsAs (take (nodePlace (g .form) (g .n)) z) r → (r .answer ≡ Taken) × (r .image ≡ trimmed g)
+    ReadsAs (take (imageSize (imageShape g)) z) r → (r .answer ≡ Taken) × (r .image ≡ trimmed g)
 written-then-read g b a z r f w h p =
-    let e = reads-is (take (nodePlace (g .form) (g .n)) z) r p in
+    let e = reads-is (take (imageSize (imageShape g)) z) r p in
     let t = ap accepted (sym (writes-answer g b a z w)) ∙ h in
-    let o = e ∙ ap (λ (l : List ℕ). readImage (take (nodePlace (g .form) (g .n)) l)) (writes-bytes g b a z w) ∙ written-read g b f t in (
+    let o = e ∙ ap (λ (l : List ℕ). readImage (take (imageSize (imageShape g)) l)) (writes-bytes g b a z w) ∙ written-read g b f t in (
       ap (λ (x : Read). x .answer) o,
       ap (λ (x : Read). x .image) o,
     )

@@ -11,7 +11,9 @@ use Rattle.answer.specs.Answers.{told, accepted}
 use Rattle.answer.specs.declared.Told.{Told}
 use Rattle.answer.specs.declared.Answer.{Answer}
 use Rattle.answer.specs.declared.Answer.the-variants.{Taken}
-use Rattle.image.specs.Layout.{nodePlace, imageBytes}
+use Rattle.image.specs.Form.{imageSize}
+use Rattle.image.specs.Layout.{imageBytes}
+use Rattle.machine.specs.Line.{shapeOf}
 use Rattle.schedule.specs.Run.{Bench, Ran, ran}
 use Rattle.page.specs.Refusals.{pageAnswer, endingCount, endingIn}
 use Rattle.lawful.specs.Demand3.{Bytes, PageHolds, PageLawful}
@@ -29,9 +31,9 @@ Writes s k b a z =
     (κs : Lfts 2) × (x : RefT (List ℕ)) × (y : RefT (List ℕ)) × (y′ : RefT (List ℕ))
     × (now x ≡ s) × (now y ≡ b) × (now y′ ≡ z) × writing.Post κs (x, (k, (y, tt))) a (x, (k, (y′, tt)))
 
--- how many bytes an ending takes, by the form of the schedule's image
+-- how many bytes an ending takes, by the shape of the schedule's machine
 abbrev pub endingSize : List ℕ → ℕ
-endingSize s = nodePlace (ran s .bench .machine .form) (ran s .bench .machine .n)
+endingSize s = imageSize (shapeOf (ran s .bench .machine))
 
 -- a result that was taken
 pub record Page (s : List ℕ) (r : Count) : Type 0 where

@@ -10,14 +10,15 @@ use Rattle.lists.specs.Tab.{over}
 use Rattle.lists.specs.Text.{text, decimal}
 use Rattle.answer.specs.Answers.{check, accepted}
 use Rattle.answer.specs.declared.Answer.{Answer}
-use Rattle.answer.specs.declared.Answer.the-variants.{Taken, NoEnding, Room}
+use Rattle.answer.specs.declared.Answer.the-variants.{Taken, Mark, NoEnding, Room}
 use Rattle.image.specs.Bytes.{atW}
-use Rattle.image.specs.Form.{widthOf, headsAt}
-use Rattle.image.specs.Layout.{formIn, nodePlace, readContent}
+use Rattle.image.specs.Form.{widthOf, headsAt, nodePlace, perDesk}
+use Rattle.image.specs.Layout.{formIn, readContent}
 use Rattle.image.specs.declared.Content.{Content}
 use Rattle.machine.specs.declared.Event.{Event}
 use Rattle.schedule.specs.Layout.{threadsIn, countIn, nodesIn, imagePart, eventIn, scheduleAnswer}
 use Rattle.page.specs.Printed.{newline}
+use Rattle.spelling.specs.Layout.{spelledShape}
 use Rattle.page.specs.Filled.{linesOn, fitting}
 
 -- ---- lines
@@ -51,7 +52,7 @@ unfoldable pub headIndex : List ℕ → ℕ
 headIndex s = atW (widthOf (imageForm s)) (imagePart s) (headsAt (imageForm s))
 
 abbrev pub nodeAt : List ℕ → ℕ → Content
-nodeAt s i = readContent (imageForm s) (imagePart s) (nodePlace (imageForm s) i)
+nodeAt s i = readContent (imageForm s) (imagePart s) (nodePlace (spelledShape (imageForm s) 0) i)
 
 abbrev pub isBlankNode : Content → Bool
 isBlankNode v = both (eqb (v .linked) 0) (both (eqb (v .index) 0) (eqb (v .item) 0))
@@ -89,10 +90,10 @@ wordsOf s = linesOn (entryOf s) 0 (entriesIn s)
 
 -- ---- as many entries as fit from entry k on, into a lent buffer of `room` bytes
 
--- the schedule's refusals up to its events; then 16 where there is no entry k, 17 where entry k does not fit
+-- the schedule's refusals up to its events; 2 where its image is "UQP", which has no words; then 16 where there is no entry k, 17 where entry k does not fit
 unfoldable pub spellAnswer : List ℕ → ℕ → ℕ → Answer
 spellAnswer s k room = elim (accepted (scheduleAnswer s)) [
-  | true ↦ check (not (ltb k (entriesIn s))) NoEnding (check (ltb room (length (entryOf s k))) Room Taken)
+  | true ↦ check (perDesk (imageForm s)) Mark (check (not (ltb k (entriesIn s))) NoEnding (check (ltb room (length (entryOf s k))) Room Taken))
   | false ↦ scheduleAnswer s
 ]
 

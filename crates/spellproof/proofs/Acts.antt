@@ -15,12 +15,12 @@ use Rattle.lists.specs.Text.{text, decimal}
 use Rattle.lists.proofs.BoolLaws.{both-true, no-way, false-true}
 use Rattle.answer.specs.Answers.{accepted}
 use Rattle.image.specs.Bytes.{at4, atW}
-use Rattle.image.specs.Form.{widthOf, topOf, headsAt}
-use Rattle.image.specs.Layout.{marked, formIn, nodePlace}
+use Rattle.image.specs.Form.{widthOf, topOf, headsAt, nodePlace}
+use Rattle.image.specs.Layout.{marked, formIn}
 use Rattle.image.specs.declared.Content.{Content}
 use Rattle.machine.specs.declared.Event.{Event}
-use Rattle.machine.specs.Start.{threadsFit}
-use Rattle.schedule.specs.Layout.{threadsIn, countIn, nodesIn, imagePart, eventIn, eventPlace, scheduleAnswer}
+use Rattle.image.specs.Refusals.{threadsFit}
+use Rattle.schedule.specs.Layout.{threadsIn, countIn, nodesIn, imagePart, scheduleShape, eventIn, eventPlace, scheduleAnswer}
 use Rattle.page.specs.Filled.{linesOn}
 use Rattle.page.specs.Printed.{newline}
 use Rattle.printing.proofs.Fittings as fits
@@ -28,6 +28,7 @@ use Rattle.image.proofs.ByteLaws as num
 use Rattle.image.proofs.FormLaws as forms
 use Rattle.codec.proofs.Accepted as acc
 use Rattle.spelling.specs.declared.Act.{Act}
+use Rattle.spelling.specs.Layout.{spelledShape}
 use Rattle.spelling.specs.Words.{noLine, ended, wordOn, keyOf, grown, letterMore}
 use Rattle.spelling.specs.Lines.{act, keyIn, shapeOf, saidBy, said, actsFrom, actsOf}
 use Rattle.spelling.specs.Writing.{versionLine, headLine, nodeLine, eventLine, imageForm, headIndex, nodeAt, isBlankNode, nodeEntry, isStep, follows, runEnd, eventEntry, entryOf, entriesIn, wordsOf}
@@ -155,12 +156,13 @@ version-says f h = by (eqb f 1)
 module _ (s : List ℕ) (bs : num.Bytes s) (few : nodesIn s ≤ 64) (short : countIn s ≤ 4096) where
   pub form-small : imageForm s ≤ 255
   unfolding formIn
-  form-small = by (marked 85 81 73 1 (imagePart s)) (marked 85 81 73 2 (imagePart s))
+  form-small = by (marked 85 81 73 1 (imagePart s)) (marked 85 81 73 2 (imagePart s)) (marked 85 81 80 1 (imagePart s))
     where
-      by : (a b : Bool) → pick a 1 (pick b 2 0) ≤ 255
-      by true b = omega arith
-      by false true = omega arith
-      by false false = omega arith
+      by : (a b c : Bool) → pick a 1 (pick b 2 (pick c 4 0)) ≤ 255
+      by true b c = omega arith
+      by false true c = omega arith
+      by false false true = omega arith
+      by false false false = omega arith
 
   pub head-wide : headIndex s ≤ 18446744073709551615
   unfolding headIndex
@@ -177,7 +179,7 @@ module _ (s : List ℕ) (bs : num.Bytes s) (few : nodesIn s ≤ 64) (short : cou
           (record {
             on = λ r.
                 let f = imageForm s in
-                let p = nodePlace f i in
+                let p = nodePlace (spelledShape f 0) i in
                 back.node-said i (nodeAt s i .linked) (nodeAt s i .index) (nodeAt s i .item) r (omega arith) (omega (arith, part-bytes s bs p))
                 (index-wide f (imagePart s) (p + 1) (part-bytes s bs)) (small4 (imagePart s) (p + 1 + widthOf f) (part-bytes s bs));
           })
@@ -190,8 +192,8 @@ module _ (s : List ℕ) (bs : num.Bytes s) (few : nodesIn s ≤ 64) (short : cou
       by true e = rw e says-none
       by false e =
           rw e
-          (line-says (eventIn s j) (runEnd s j - j) (omega (arith, bs (eventPlace (imageForm s) (nodesIn s) j))) (omega (arith, bs (eventPlace (imageForm s) (nodesIn s) j + 1)))
-          (small4 s (eventPlace (imageForm s) (nodesIn s) j + 2) bs) (omega (arith, runs.run-le s j h)) (λ q. omega (arith, runs.run-one s j h q)))
+          (line-says (eventIn s j) (runEnd s j - j) (omega (arith, bs (eventPlace (scheduleShape s) j))) (omega (arith, bs (eventPlace (scheduleShape s) j + 1)))
+          (small4 s (eventPlace (scheduleShape s) j + 2) bs) (omega (arith, runs.run-le s j h)) (λ q. omega (arith, runs.run-one s j h q)))
 
   nodes-at : (i : ℕ) → i < nodesIn s → entryOf s (3 + i) ≡ nodeEntry s i
   unfolding entryOf

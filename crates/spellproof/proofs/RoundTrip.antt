@@ -1,6 +1,6 @@
 -- The words of a schedule, read, are the schedule.
 use Prim.Native.Nat.{ℕ, zero, suc, _+_, _-_, _*_, _/_, _%_, _≤_, _<_}
-use mathlib.Core.Path.{_≡_, refl, sym, ap, ap₂, _∙_}
+use mathlib.Core.Path.{_≡_, refl, sym, ap, ap₂, subst, _∙_}
 use mathlib.Core.Bool.{Bool, true, false, not}
 use mathlib.Core.List.{List, [], _∷_, _++_, append-assoc}
 use native.Mathlib.Omega.{arith}
@@ -16,22 +16,23 @@ use Rattle.lists.proofs.BoolLaws.{both-true}
 use Rattle.lists.proofs.TabLaws as tabs
 use Rattle.answer.specs.Answers.{accepted}
 use Rattle.image.specs.Bytes.{le4, atW}
-use Rattle.image.specs.Form.{known, widthOf, topOf, headsAt, nodeSize, headerSize}
-use Rattle.image.specs.Layout.{nodePlace, nodeBytes, headBytes}
+use Rattle.image.specs.Form.{known, widthOf, topOf, headsAt, nodeSize, headerSize, nodePlace, imageSize}
+use Rattle.image.specs.Layout.{nodeBytes, shapeIn, headBytes}
+use Rattle.image.specs.declared.Shape.{Shape}
 use Rattle.machine.specs.declared.Event.{Event}
-use Rattle.schedule.specs.Layout.{threadsIn, countIn, nodesIn, imagePart, isSchedule, eventIn, scheduleAnswer}
+use Rattle.schedule.specs.Layout.{threadsIn, countIn, nodesIn, imagePart, isSchedule, scheduleShape, eventIn, eventPlace, scheduleAnswer}
 use Rattle.image.proofs.ByteLaws as num
 use Rattle.image.proofs.FormLaws as forms
-use Rattle.image.proofs.HeadLaws.{one-head}
 use Rattle.codec.proofs.Accepted as acc
 use Rattle.codec.proofs.ReadWrite as again
 use Rattle.spelling.specs.declared.Act.{Act}
 use Rattle.spelling.specs.declared.Survey.{Survey}
 use Rattle.spelling.specs.declared.Said.the-variants.{Taken}
 use Rattle.spelling.specs.Lines.{act, actsOf}
-use Rattle.spelling.specs.Layout.{nodeStart, eventsPlace, sizeOf, headOf, nodeSaid}
+use Rattle.spelling.specs.Layout.{worded, spelledShape, nodeStart, eventsPlace, sizeOf, headOf, nodeSaid}
 use Rattle.spelling.specs.Reading.{noSurvey, versionForm, indexSaid, nodesSaid, versionSaid, eventsSaid, behindNodes, surveyed, surveyFrom, surveyOf, blankFile, times, putBy, reachBy, putAll, fileOf, readAnswer}
 use Rattle.spelling.specs.Writing.{imageForm, headIndex, nodeAt, isBlankNode, follows, runEnd, wordsOf}
+use Rattle.spelling.proofs.WordedLaws.{worded-known, lines-worded, shape-spelled, place-same}
 use Rattle.spellproof.proofs.Acts as acts
 use Rattle.spellproof.proofs.Parts.{byte2, six, marks-of}
 use Rattle.spellproof.proofs.Runs as runs
@@ -57,26 +58,40 @@ reach-also z p (y ∷ a) b = reach-also z (reachBy z p y) a b
 -- a blank node's bytes
 blank-node : (f : ℕ) → known f ≡ true → nodeBytes f (record { linked = 0; index = 0; item = 0 }) ≡ replicate (nodeSize f) 0
 unfolding widthOf nodeSize
-blank-node f h = forms.by-form (λ f. nodeBytes f (record { linked = 0; index = 0; item = 0 }) ≡ replicate (nodeSize f) 0) f h refl refl
+blank-node f h = forms.by-form (λ f. nodeBytes f (record { linked = 0; index = 0; item = 0 }) ≡ replicate (nodeSize f) 0) f h refl refl refl
 
-module _ (s : List ℕ) (bs : num.Bytes s) (h : accepted (scheduleAnswer s) ≡ true) where
+module _ (s : List ℕ) (bs : num.Bytes s) (h : accepted (scheduleAnswer s) ≡ true) (w : worded (imageForm s) ≡ true) where
   abbrev taken : acc.ScheduleTaken s
   taken = acc.schedule-taken s h
 
-  -- the image's form, and where its nodes stand in the schedule
+  -- the image's form and shape, and where its nodes stand in the schedule
   abbrev F : ℕ
   F = imageForm s
 
   kf : known F ≡ true
-  kf = saying.kf s bs h
+  kf = worded-known F w
+
+  abbrev S : Shape
+  S = spelledShape F (nodesIn s)
+
+  -- where its nodes stand in it goes by the form alone
+  abbrev S₀ : Shape
+  S₀ = spelledShape F 0
+
+  shape-is : shapeIn (imagePart s) ≡ S
+  shape-is = shape-spelled (imagePart s) w
+
+  shape-size : imageSize (shapeIn (imagePart s)) ≡ nodePlace S₀ (nodesIn s)
+  shape-size = ap imageSize shape-is ∙ sym (forms.size-at S) ∙ place-same S (nodesIn s) w
+
+  shape-header : headerSize S ≡ nodePlace S₀ 0
+  shape-header = sym (forms.place-zero S) ∙ place-same S 0 w
 
   abbrev at : ℕ → ℕ
   at i = nodeStart F i
 
   size : length s ≡ at (nodesIn s) + countIn s * 6
-  size =
-      let z : length (imagePart s) ≡ nodePlace F (nodesIn s) + countIn s * 6 = taken .part .size in
-      omega (arith, taken .long, z, length-drop 8 s)
+  size = omega (arith, taken .long, taken .part .size, shape-size, length-drop 8 s)
 
   -- ---- the bytes
 
@@ -91,30 +106,33 @@ module _ (s : List ℕ) (bs : num.Bytes s) (h : accepted (scheduleAnswer s) ≡ 
       rw (t, c0, c1) (sym (rw (m .m0, m .m1, m .m2, m .m3, m .m4) at (tabs.take-drop-tab s 0 0 8 (omega (arith, taken .long)))))
 
   -- the image's bytes before its nodes
-  image-head : headBytes F (nodesIn s % 256) (λ k. headIndex s) ≡ take (headerSize F) (imagePart s)
+  image-head : headBytes (spelledShape F (nodesIn s % 256)) (λ k. headIndex s) ≡ take (headerSize S) (imagePart s)
   unfolding headIndex
   image-head =
-      let n : nodesIn s % 256 ≡ nodesIn s = omega (arith, saying.few s bs h) in
+      let p = imagePart s in
+      let n : nodesIn s % 256 ≡ nodesIn s = omega (arith, saying.few s bs h w) in
       let e : headsAt F + 0 * widthOf F ≡ headsAt F = omega (arith, zero-mul (widthOf F)) in
-      let l : headerSize F ≤ length (imagePart s) = omega (arith, size, taken .long, length-drop 8 s, forms.place-from F (nodesIn s)) in
-      ap (λ n. headBytes F n (λ k. headIndex s)) n
-      ∙ again.heads-there F (nodesIn s) (λ k. headIndex s) (λ k. atW (widthOf F) (imagePart s) (headsAt F + k * widthOf F))
-      (λ k p.
-      let z : k ≡ 0 = omega (arith, one-head (nodesIn s)) in
-      ap (atW (widthOf F) (imagePart s)) (sym (ap (λ k. headsAt F + k * widthOf F) z ∙ e)))
-      ∙ again.head-there (imagePart s) (acts.part-bytes s bs) kf l
+      let l : headerSize S ≤ length p = omega (arith, size, taken .long, length-drop 8 s, shape-header, forms.place-from S₀ (nodesIn s), forms.place-zero S₀) in
+      ap (λ n. headBytes (spelledShape F n) (λ k. headIndex s)) n
+      ∙ again.heads-there S (λ k. headIndex s) (λ k. atW (widthOf F) p (headsAt F + k * widthOf F))
+      (λ k q.
+      let z : k ≡ 0 = omega (arith, q, lines-worded S w) in
+      ap (atW (widthOf F) p) (sym (ap (λ k. headsAt F + k * widthOf F) z ∙ e)))
+      ∙ subst
+      (λ (z : Shape). headerSize z ≤ length p → headBytes z (λ k. atW (widthOf (z .form)) p (headsAt (z .form) + k * widthOf (z .form))) ≡ take (headerSize z) p)
+      shape-is (again.head-there p (acts.part-bytes s bs) kf) l
 
-  head-there : headOf (saying.surveys s bs h (countIn s)) ≡ take (at 0) s
+  head-there : headOf (saying.surveys s bs h w (countIn s)) ≡ take (at 0) s
   unfolding headOf
   head-there =
       ap₂ (λ (a b : List ℕ). a ++ b) eight image-head
-      ∙ sym (take-add 8 (headerSize F) s)
-      ∙ ap (λ k. take (8 + k) s) (sym (forms.place-zero F))
+      ∙ sym (take-add 8 (headerSize S) s)
+      ∙ ap (λ k. take (8 + k) s) shape-header
 
-  blank-there : blankFile (saying.surveys s bs h (countIn s)) ≡ zeroed.file s (at 0)
+  blank-there : blankFile (saying.surveys s bs h w (countIn s)) ≡ zeroed.file s (at 0)
   unfolding blankFile
   blank-there =
-      let e : nodesIn s * nodeSize F + countIn s * 6 ≡ length s - at 0 = omega (arith, size, forms.place-from F (nodesIn s), forms.place-zero F) in
+      let e : nodesIn s * nodeSize F + countIn s * 6 ≡ length s - at 0 = omega (arith, size, forms.place-from S₀ (nodesIn s), forms.place-zero S₀) in
       ap₂ (λ a n. a ++ zeroed.zero n) head-there e
 
   -- the size
@@ -140,7 +158,7 @@ module _ (s : List ℕ) (bs : num.Bytes s) (h : accepted (scheduleAnswer s) ≡ 
   -- ---- nodes
 
   node-place : (i : ℕ) → i < nodesIn s → at i + nodeSize F ≤ length s
-  node-place i p = omega (arith, size, forms.place-within F i (nodesIn s) p)
+  node-place i p = omega (arith, size, forms.place-within S₀ i (nodesIn s) p)
 
   abbrev said : ℕ → Act
   said i = act 4 i (nodeAt s i .linked) (nodeAt s i .index) (nodeAt s i .item)
@@ -148,11 +166,11 @@ module _ (s : List ℕ) (bs : num.Bytes s) (h : accepted (scheduleAnswer s) ≡ 
   node-bytes : (i : ℕ) → i < nodesIn s → nodeSaid F (said i) ≡ take (nodeSize F) (drop (at i) s)
   node-bytes i p =
       let b = acts.part-bytes s bs in
-      let x : nodeAt s i .linked % 256 ≡ nodeAt s i .linked = omega (arith, b (nodePlace F i)) in
-      let y : nodeAt s i .item % 4294967296 ≡ nodeAt s i .item = omega (arith, acts.small4 (imagePart s) (nodePlace F i + 1 + widthOf F) b) in
+      let x : nodeAt s i .linked % 256 ≡ nodeAt s i .linked = omega (arith, b (nodePlace S₀ i)) in
+      let y : nodeAt s i .item % 4294967296 ≡ nodeAt s i .item = omega (arith, acts.small4 (imagePart s) (nodePlace S₀ i + 1 + widthOf F) b) in
       ap₂ (λ l v. nodeBytes F (record { linked = l; index = nodeAt s i .index; item = v })) x y
-      ∙ again.node-there F (imagePart s) (nodePlace F i) b kf (omega (arith, node-place i p, length-drop 8 s))
-      ∙ ap (take (nodeSize F)) (drop-drop (nodePlace F i) 8 s)
+      ∙ again.node-there F (imagePart s) (nodePlace S₀ i) b kf (omega (arith, node-place i p, length-drop 8 s))
+      ∙ ap (take (nodeSize F)) (drop-drop (nodePlace S₀ i) 8 s)
 
   blank-bytes : (i : ℕ) → i < nodesIn s → isBlankNode (nodeAt s i) ≡ true → take (nodeSize F) (drop (at i) s) ≡ replicate (nodeSize F) 0
   blank-bytes i p e =
@@ -199,7 +217,7 @@ module _ (s : List ℕ) (bs : num.Bytes s) (h : accepted (scheduleAnswer s) ≡ 
   unfolding joined putAll
   nodes-put q zero p = refl
   nodes-put q (suc m) p =
-      let e : at m + nodeSize F ≡ at (suc m) = omega (arith, forms.place-next F m, ap (nodePlace F) (add-one m)) in
+      let e : at m + nodeSize F ≡ at (suc m) = omega (arith, forms.place-next S₀ m, ap (nodePlace S₀) (add-one m)) in
       put-also F Z (zeroed.file s (at 0)) q (joined (acts.nodeActs s) m) (acts.nodeActs s m)
       ∙ ap₂ (λ x z. putAll F Z x z (acts.nodeActs s m)) (nodes-put q m (omega arith)) (nodes-reach q m)
       ∙ node-puts q m (omega arith)
@@ -211,7 +229,9 @@ module _ (s : List ℕ) (bs : num.Bytes s) (h : accepted (scheduleAnswer s) ≡ 
   place j = at (nodesIn s) + j * 6
 
   event-six : (j : ℕ) → j < countIn s → eventIn s j .kind % 256 ∷ eventIn s j .number % 256 ∷ le4 (eventIn s j .item) ≡ take 6 (drop (place j) s)
-  event-six j p = six s (place j) bs (omega (arith, size))
+  event-six j p =
+      let e : eventPlace (scheduleShape s) j ≡ place j = omega (arith, acc.schedule-size s h, shape-size) in
+      six s (eventPlace (scheduleShape s) j) bs (omega (arith, size, e)) ∙ ap (λ q. take 6 (drop q s)) e
 
   abbrev sixOf : Event → List ℕ
   sixOf e = e .kind % 256 ∷ e .number % 256 ∷ le4 (e .item)
@@ -248,15 +268,15 @@ module _ (s : List ℕ) (bs : num.Bytes s) (h : accepted (scheduleAnswer s) ≡ 
       by : (b : Bool) → follows s j ≡ b
           → putAll F Z (zeroed.file s (place (runs.upto s j))) (place (runs.upto s j)) (acts.eventActs s j) ≡ zeroed.file s (place (runs.upto s (suc j)))
       by true e =
-          ap (putAll F Z (zeroed.file s (place (runs.upto s j))) (place (runs.upto s j))) (saying.joins s bs h j e)
+          ap (putAll F Z (zeroed.file s (place (runs.upto s j))) (place (runs.upto s j))) (saying.joins s bs h w j e)
           ∙ none-put (zeroed.file s (place (runs.upto s j))) (place (runs.upto s j))
-          ∙ ap (λ u. zeroed.file s (place u)) (runs.upto-follows s j p e ∙ sym (saying.next s bs h j p))
+          ∙ ap (λ u. zeroed.file s (place u)) (runs.upto-follows s j p e ∙ sym (saying.next s bs h w j p))
       by false e =
           let g = runs.run-ge s j in
           let l = runs.run-le s j p in
-          let d : place j + (runEnd s j - j) * 6 ≡ place (runs.upto s (suc j)) = omega (arith, saying.next s bs h j p, g) in
+          let d : place j + (runEnd s j - j) * 6 ≡ place (runs.upto s (suc j)) = omega (arith, saying.next s bs h w j p, g) in
           ap (λ u. putAll F Z (zeroed.file s (place u)) (place u) (acts.eventActs s j)) (runs.upto-leads s j p e)
-          ∙ ap (putAll F Z (zeroed.file s (place j)) (place j)) (saying.leads s bs h j e)
+          ∙ ap (putAll F Z (zeroed.file s (place j)) (place j)) (saying.leads s bs h w j e)
           ∙ one-put (zeroed.file s (place j)) (place j) (eventIn s j .kind) (eventIn s j .number) (eventIn s j .item) (runEnd s j - j) (omega (arith, g, l))
           ∙ ap (over (zeroed.file s (place j)) (place j)) (run-bytes j (runEnd s j - j) (omega (arith, g)) p)
           ∙ zeroed.put-next s (place j) ((runEnd s j - j) * 6) (omega (arith, size, g, l))
@@ -267,12 +287,12 @@ module _ (s : List ℕ) (bs : num.Bytes s) (h : accepted (scheduleAnswer s) ≡ 
     where
       by : (b : Bool) → follows s j ≡ b → reachAll Z (place (runs.upto s j)) (acts.eventActs s j) ≡ place (runs.upto s (suc j))
       by true e =
-          ap (reachAll Z (place (runs.upto s j))) (saying.joins s bs h j e) ∙ none-reach (place (runs.upto s j))
-          ∙ ap place (runs.upto-follows s j p e ∙ sym (saying.next s bs h j p))
+          ap (reachAll Z (place (runs.upto s j))) (saying.joins s bs h w j e) ∙ none-reach (place (runs.upto s j))
+          ∙ ap place (runs.upto-follows s j p e ∙ sym (saying.next s bs h w j p))
       by false e =
-          let d : place j + (runEnd s j - j) * 6 ≡ place (runs.upto s (suc j)) = omega (arith, saying.next s bs h j p, runs.run-ge s j) in
+          let d : place j + (runEnd s j - j) * 6 ≡ place (runs.upto s (suc j)) = omega (arith, saying.next s bs h w j p, runs.run-ge s j) in
           ap (λ u. reachAll Z (place u) (acts.eventActs s j)) (runs.upto-leads s j p e)
-          ∙ ap (reachAll Z (place j)) (saying.leads s bs h j e)
+          ∙ ap (reachAll Z (place j)) (saying.leads s bs h w j e)
           ∙ one-reach (place j) (eventIn s j .kind) (eventIn s j .number) (eventIn s j .item) (runEnd s j - j) (omega (arith, runs.run-ge s j, runs.run-le s j p))
           ∙ d
 
@@ -309,7 +329,7 @@ module _ (s : List ℕ) (bs : num.Bytes s) (h : accepted (scheduleAnswer s) ≡ 
       nothing [] = refl
       nothing (x ∷ l) = ap (λ z. x ∷ z) (nothing l)
 
-  -- the words of a schedule that is taken up to its events, read, are that schedule
+  -- the words of a schedule that is taken up to its events and whose form has words, read, are that schedule
   pub words-back : fileOf (wordsOf s) ≡ s
   unfolding fileOf
   words-back =
@@ -325,8 +345,8 @@ module _ (s : List ℕ) (bs : num.Bytes s) (h : accepted (scheduleAnswer s) ≡ 
       let abc : putAll F Z f p (a ++ b ++ c) ≡ s =
       put-also F Z f p (a ++ b) c ∙ ap₂ (λ x q. putAll F Z x q c) ab r ∙ events-put (countIn s) (omega arith)
       ∙ ap (λ u. zeroed.file s (place u)) (runs.upto-all s) ∙ all-there in
-      ap (λ (v : Survey). putAll (v .form) (sizeOf v) (blankFile v) (eventsPlace v) (actsOf (wordsOf s))) (saying.words-survey s bs h)
-      ∙ ap₂ (λ x l. putAll F Z x p l) blank-there (acts.words-acts s bs (saying.few s bs h) (taken .count))
+      ap (λ (v : Survey). putAll (v .form) (sizeOf v) (blankFile v) (eventsPlace v) (actsOf (wordsOf s))) (saying.words-survey s bs h w)
+      ∙ ap₂ (λ x l. putAll F Z x p l) blank-there (acts.words-acts s bs (saying.few s bs h w) (taken .count))
       ∙ put-also F Z f p (a ++ b ++ c) z
       ∙ last-puts (putAll F Z f p (a ++ b ++ c)) (reachAll Z p (a ++ b ++ c))
       ∙ abc
@@ -334,4 +354,4 @@ module _ (s : List ℕ) (bs : num.Bytes s) (h : accepted (scheduleAnswer s) ≡ 
   -- and they are taken, where there is room for it
   pub words-taken : (room : ℕ) → length s ≤ room → readAnswer (wordsOf s) room ≡ Taken
   unfolding readAnswer
-  words-taken room q = rw (saying.words-survey s bs h) (rw (le-ltb room (Z) (omega (arith, size))))
+  words-taken room q = rw (saying.words-survey s bs h w) (rw (le-ltb room (Z) (omega (arith, size))))

@@ -10,17 +10,17 @@ use borrow.Author.Tests.{le-ltb, lt-ltb, le-leb}
 use lib.ListN.{length}
 use Rattle.lists.specs.Tab.{joined}
 use Rattle.answer.specs.Answers.{accepted}
-use Rattle.image.specs.Form.{known, widthOf, topOf, headsAt}
-use Rattle.image.specs.Layout.{nodePlace}
+use Rattle.image.specs.Form.{widthOf, topOf, headsAt, nodePlace}
 use Rattle.image.proofs.ByteLaws as num
-use Rattle.image.proofs.FormLaws as forms
 use Rattle.schedule.specs.Layout.{threadsIn, countIn, nodesIn, imagePart, eventIn, scheduleAnswer}
 use Rattle.codec.proofs.Accepted as acc
 use Rattle.spelling.specs.declared.Act.{Act}
 use Rattle.spelling.specs.declared.Survey.{Survey}
 use Rattle.spelling.specs.Lines.{act}
+use Rattle.spelling.specs.Layout.{worded, spelledShape}
 use Rattle.spelling.specs.Reading.{noSurvey, versionForm, indexSaid, nodesSaid, versionSaid, eventsSaid, behindNodes, surveyed, surveyFrom, surveyOf}
 use Rattle.spelling.specs.Writing.{imageForm, headIndex, nodeAt, isBlankNode, follows, runEnd, wordsOf}
+use Rattle.spelling.proofs.WordedLaws.{by-worded}
 use Rattle.spellproof.proofs.Acts as acts
 use Rattle.spellproof.proofs.Runs as runs
 
@@ -38,15 +38,15 @@ survey-also i v (x ∷ a) b =
 abbrev pub begun : ℕ → ℕ → ℕ → ℕ → ℕ → Survey
 begun f n t x c = record { fault = 0; line = 0; begun = true; settled = true; form = f; n = n; t = t; head = x; count = c }
 
-heads-begin : (f n t x : ℕ) → known f ≡ true → n ≤ 255 → x ≤ topOf f
+heads-begin : (f n t x : ℕ) → worded f ≡ true → n ≤ 255 → x ≤ topOf f
     → surveyFrom 0 noSurvey (act 1 n 0 0 0 ∷ act 2 t 0 0 0 ∷ (acts.versionActs f ++ (act 3 x 0 0 0 ∷ []))) ≡ begun f n t x 0
 unfolding surveyFrom surveyed nodesSaid behindNodes versionSaid versionForm indexSaid topOf widthOf
 heads-begin f n t x h l =
-    forms.by-form (λ f. x ≤ topOf f → surveyFrom 0 noSurvey (act 1 n 0 0 0 ∷ act 2 t 0 0 0 ∷ (acts.versionActs f ++ (act 3 x 0 0 0 ∷ []))) ≡ begun f n t x 0) f h
+    by-worded (λ f. x ≤ topOf f → surveyFrom 0 noSurvey (act 1 n 0 0 0 ∷ act 2 t 0 0 0 ∷ (acts.versionActs f ++ (act 3 x 0 0 0 ∷ []))) ≡ begun f n t x 0) f h
     (λ p. rw (le-ltb 255 n l, le-ltb 4294967295 x p))
     (λ p. rw (le-ltb 255 n l, le-ltb 18446744073709551615 x p))
 
-module _ (s : List ℕ) (bs : num.Bytes s) (h : accepted (scheduleAnswer s) ≡ true) where
+module _ (s : List ℕ) (bs : num.Bytes s) (h : accepted (scheduleAnswer s) ≡ true) (w : worded (imageForm s) ≡ true) where
   abbrev pub taken : acc.ScheduleTaken s
   taken = acc.schedule-taken s h
 
@@ -57,11 +57,8 @@ module _ (s : List ℕ) (bs : num.Bytes s) (h : accepted (scheduleAnswer s) ≡ 
   abbrev pub F : ℕ
   F = imageForm s
 
-  pub kf : known F ≡ true
-  kf = taken .part .mark
-
   index-fits : (i : ℕ) → nodeAt s i .index ≤ topOf F
-  index-fits i = acts.index-small F (imagePart s) (nodePlace F i + 1) (acts.part-bytes s bs)
+  index-fits i = acts.index-small F (imagePart s) (nodePlace (spelledShape F 0) i + 1) (acts.part-bytes s bs)
 
   head-fits : headIndex s ≤ topOf F
   unfolding headIndex
@@ -72,7 +69,7 @@ module _ (s : List ℕ) (bs : num.Bytes s) (h : accepted (scheduleAnswer s) ≡ 
   surveys c = begun F (nodesIn s) (threadsIn s) (headIndex s) c
 
   heads-say : surveyFrom 0 noSurvey (acts.headActs s) ≡ surveys 0
-  heads-say = heads-begin F (nodesIn s) (threadsIn s) (headIndex s) kf (omega (arith, few)) head-fits
+  heads-say = heads-begin F (nodesIn s) (threadsIn s) (headIndex s) w (omega (arith, few)) head-fits
 
   node-says : (k i : ℕ) → i < nodesIn s → surveyFrom k (surveys 0) (acts.nodeActs s i) ≡ surveys 0
   unfolding surveyFrom surveyed behindNodes indexSaid

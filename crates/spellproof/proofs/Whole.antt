@@ -11,16 +11,16 @@ use Rattle.lists.specs.Find.{pick, both}
 use Rattle.lists.specs.Text.{text, decimal}
 use Rattle.lists.proofs.BoolLaws.{no-of}
 use Rattle.answer.specs.Answers.{accepted}
-use Rattle.image.specs.Form.{widthOf}
-use Rattle.image.specs.Layout.{nodePlace}
+use Rattle.image.specs.Form.{widthOf, nodePlace}
 use Rattle.image.specs.declared.Content.{Content}
 use Rattle.image.proofs.ByteLaws as num
 use Rattle.machine.specs.declared.Event.{Event}
-use Rattle.schedule.specs.Layout.{threadsIn, countIn, nodesIn, imagePart, eventIn, eventPlace, scheduleAnswer}
+use Rattle.schedule.specs.Layout.{threadsIn, countIn, nodesIn, imagePart, scheduleShape, eventIn, eventPlace, scheduleAnswer}
 use Rattle.page.specs.Filled.{fitting}
 use Rattle.page.specs.Printed.{newline}
 use Rattle.printing.proofs.Short as short
 use Rattle.codec.proofs.Accepted as acc
+use Rattle.spelling.specs.Layout.{spelledShape}
 use Rattle.spelling.specs.Writing.{versionLine, headLine, nodeLine, eventLine, imageForm, headIndex, nodeAt, isBlankNode, nodeEntry, follows, runEnd, eventEntry, entryOf, entriesIn}
 use Rattle.spellproof.proofs.Acts as acts
 use Rattle.spellproof.proofs.Runs as runs
@@ -89,14 +89,14 @@ module _ (s : List ℕ) (bs : num.Bytes s) (few : nodesIn s ≤ 64) (many : coun
   unfolding nodeEntry
   node-entry i p =
       let f = imageForm s in
-      let at = nodePlace f i in
+      let at = nodePlace (spelledShape f 0) i in
       either (isBlankNode (nodeAt s i)) [] (nodeLine i (nodeAt s i)) (omega arith)
       (node-short i (nodeAt s i) (omega arith) (omega (arith, part at)) (acts.index-wide f (imagePart s) (at + 1) part) (acts.small4 (imagePart s) (at + 1 + widthOf f) part))
 
   event-entry : (j : ℕ) → j < countIn s → length (eventEntry s j) ≤ 64
   unfolding eventEntry
   event-entry j p =
-      let at = eventPlace (imageForm s) (nodesIn s) j in
+      let at = eventPlace (scheduleShape s) j in
       either (follows s j) [] (eventLine (eventIn s j) (runEnd s j - j)) (omega arith)
       (event-short (eventIn s j) (runEnd s j - j) (omega (arith, bs at)) (omega (arith, bs (at + 1))) (acts.small4 s (at + 2) bs) (omega (arith, runs.run-le s j p)))
 

@@ -9,13 +9,12 @@ use borrow.Author.Tests.{ltb-true, leb-true, eqb-true, eqb-false, not-true, lt-l
 use Rattle.lists.specs.Find.{pick, both, any}
 use Rattle.lists.proofs.BoolLaws.{both-true, both-of}
 use Rattle.lists.proofs.FindLaws.{any-hit}
-use Rattle.image.specs.Form.{known, topOf}
-use Rattle.image.specs.Layout.{headLines}
-use Rattle.image.specs.Refusals.{nodesFit}
+use Rattle.image.specs.Form.{known, topOf, headLines}
+use Rattle.image.specs.Refusals.{nodesFit, threadsFit}
 use Rattle.image.specs.declared.Content.{Content}
 use Rattle.machine.specs.Record.{none, node, kept, headAt, keptHead, thread}
 use Rattle.machine.specs.Stage.{lastStep, own, t, theHead, theNext, uses, stage}
-use Rattle.machine.specs.Start.{threadsFit}
+use Rattle.machine.specs.Line.{shapeOf}
 use Rattle.machine.specs.Range.{isNode, isLink, isFlag, sizesFit, endsFit, freeFits, nodeFits, readFits, nextFits, threadFits, rangesFit, isIndex, headFits, indexFits, formFits, inRange}
 use Rattle.machine.specs.declared.Machine.{Machine}
 use Rattle.machine.specs.declared.Node.{Node}
@@ -87,8 +86,9 @@ pub record NodeFit (n t : ℕ) (v : Node) (c : Content) : Type 0 where
   pub kept-flag : c .linked ≤ 1
   pub waits-in : v .waits < 2 ^ t
 
-pub record ThreadFit (n : ℕ) (v : Thread) : Type 0 where
-  pub step-in : v .step ≤ lastStep
+-- of n nodes, and steps up to s
+pub record ThreadFit (n s : ℕ) (v : Thread) : Type 0 where
+  pub step-in : v .step ≤ s
   pub node-link : Link n (v .node)
   pub tail-link : Link n (v .tail)
   pub head-link : Link n (v .head)
@@ -108,7 +108,7 @@ pub record SizeFit (n t head tail free last : ℕ) : Type 0 where
 pub record Fit (m : Machine) : Type 0 where
   pub sizes : SizeFit (m .n) (m .t) (m .head) (m .tail) (m .free) (m .last)
   pub nodes : (i : ℕ) → i < m .n → NodeFit (m .n) (m .t) (node m i) (kept m i)
-  pub threads : (k : ℕ) → k < m .t → ThreadFit (m .n) (thread m k)
+  pub threads : (k : ℕ) → k < m .t → ThreadFit (m .n) (lastStep m) (thread m k)
 
 -- what thread k's next step uses
 pub record Used (m : Machine) (k : ℕ) : Type 0 where
@@ -175,7 +175,7 @@ of-node m i p =
 
 -- of a thread, with the tests that 18 adds
 record Tests (m : Machine) (k : ℕ) : Type 0 where
-  step-in : leb (thread m k .step) lastStep ≡ true
+  step-in : leb (thread m k .step) (lastStep m) ≡ true
   own-read : readFits m (uses (stage m k) own) (thread m k .node) ≡ true
   t-read : readFits m (uses (stage m k) t) (thread m k .tail) ≡ true
   head-read : readFits m (uses (stage m k) theHead) (thread m k .head) ≡ true
@@ -194,7 +194,7 @@ tests-of m k h =
     let d = readFits m (uses s theNext) (v .next) in
     let e = isLink m (v .held) in
     let f = nextFits m (eqb (v .step) 12) (v .tail) in
-    let p0 = both-true (leb (v .step) lastStep) (both a (both b (both c (both d (both e f))))) h in
+    let p0 = both-true (leb (v .step) (lastStep m)) (both a (both b (both c (both d (both e f))))) h in
     let p1 = both-true a (both b (both c (both d (both e f)))) (p0 .1) in
     let p2 = both-true b (both c (both d (both e f))) (p1 .1) in
     let p3 = both-true c (both d (both e f)) (p2 .1) in
@@ -210,9 +210,9 @@ tests-of m k h =
       t-next = p5 .1;
     }
 
-thread-tests : (m : Machine) (k : ℕ) → Tests m k → ThreadFit (m .n) (thread m k)
+thread-tests : (m : Machine) (k : ℕ) → Tests m k → ThreadFit (m .n) (lastStep m) (thread m k)
 thread-tests m k h = record {
-  step-in = leb-true (thread m k .step) lastStep (h .step-in);
+  step-in = leb-true (thread m k .step) (lastStep m) (h .step-in);
   node-link = read-link m (uses (stage m k) own) (thread m k .node) (h .own-read);
   tail-link = read-link m (uses (stage m k) t) (thread m k .tail) (h .t-read);
   head-link = read-link m (uses (stage m k) theHead) (thread m k .head) (h .head-read);
@@ -229,7 +229,7 @@ used-tests m k h = record {
   t-next = λ e. next-some m (eqb (thread m k .step) 12) (thread m k .tail) (h .t-next) (eq-eqb (thread m k .step) 12 e);
 }
 
-thread-of : (m : Machine) (k : ℕ) → threadNumbers m k ≡ true → ThreadFit (m .n) (thread m k)
+thread-of : (m : Machine) (k : ℕ) → threadNumbers m k ≡ true → ThreadFit (m .n) (lastStep m) (thread m k)
 unfolding threadNumbers
 thread-of m k h =
     let v = thread m k in
@@ -238,10 +238,10 @@ thread-of m k h =
     let c = isLink m (v .head) in
     let d = isLink m (v .next) in
     let e = isLink m (v .held) in
-    let p0 = both-true (leb (v .step) lastStep) (both a (both b (both c (both d e)))) h in
+    let p0 = both-true (leb (v .step) (lastStep m)) (both a (both b (both c (both d e)))) h in
     let p = parts5 a b c d e (p0 .1) in
     record {
-      step-in = leb-true (v .step) lastStep (p0 .0);
+      step-in = leb-true (v .step) (lastStep m) (p0 .0);
       node-link = link-of (m .n) (v .node) (p .0);
       tail-link = link-of (m .n) (v .tail) (p .1);
       head-link = link-of (m .n) (v .head) (p .2);
@@ -249,7 +249,7 @@ thread-of m k h =
       held-link = link-of (m .n) (v .held) (p .4);
     }
 
-of-thread : (m : Machine) (k : ℕ) → ThreadFit (m .n) (thread m k) → threadNumbers m k ≡ true
+of-thread : (m : Machine) (k : ℕ) → ThreadFit (m .n) (lastStep m) (thread m k) → threadNumbers m k ≡ true
 unfolding threadNumbers
 of-thread m k p =
     let v = thread m k in
@@ -259,7 +259,7 @@ of-thread m k p =
     let c = isLink m (v .head) in
     let d = isLink m (v .next) in
     let e = isLink m (v .held) in
-    both-of (leb (v .step) lastStep) (both a (both b (both c (both d e)))) (le-leb (v .step) lastStep (p .step-in))
+    both-of (leb (v .step) (lastStep m)) (both a (both b (both c (both d e)))) (le-leb (v .step) (lastStep m) (p .step-in))
     (both-of a (both b (both c (both d e))) (of-link n (v .node) (p .node-link))
     (both-of b (both c (both d e)) (of-link n (v .tail) (p .tail-link))
     (both-of c (both d e) (of-link n (v .head) (p .head-link))
@@ -270,7 +270,7 @@ of-thread m k p =
 -- every index of the record is within the width of its form
 pub record Narrow (m : Machine) : Type 0 where
   pub form : known (m .form) ≡ true
-  pub head : (k : ℕ) → k < headLines (m .n) → (headAt m k ≤ topOf (m .form)) × (keptHead m k ≤ topOf (m .form))
+  pub head : (k : ℕ) → k < headLines (shapeOf m) → (headAt m k ≤ topOf (m .form)) × (keptHead m k ≤ topOf (m .form))
   pub node : (i : ℕ) → i < m .n → (node m i .index ≤ topOf (m .form)) × (kept m i .index ≤ topOf (m .form))
   pub thread : (k : ℕ) → k < m .t → thread m k .index ≤ topOf (m .form)
 
@@ -278,7 +278,7 @@ narrow-of : (m : Machine) → formFits m ≡ true → Narrow m
 unfolding formFits headFits indexFits
 narrow-of m h =
     let top = topOf (m .form) in
-    let hs = not (any (λ k. not (headFits m k)) (headLines (m .n))) in
+    let hs = not (any (λ k. not (headFits m k)) (headLines (shapeOf m))) in
     let ns = not (any (λ i. not (indexFits m i)) (m .n)) in
     let ts = not (any (λ k. not (isIndex m (thread m k .index))) (m .t)) in
     let a = both-true (known (m .form)) (both hs (both ns ts)) h in
@@ -286,7 +286,7 @@ narrow-of m h =
     let c = both-true ns ts (b .1) in
     record {
       form = a .0;
-      head = λ k l. let p = both-true (isIndex m (headAt m k)) (isIndex m (keptHead m k)) (all-of (headFits m) (headLines (m .n)) (b .0) k l) in (leb-true (headAt m k) top (p .0), leb-true (keptHead m k) top (p .1));
+      head = λ k l. let p = both-true (isIndex m (headAt m k)) (isIndex m (keptHead m k)) (all-of (headFits m) (headLines (shapeOf m)) (b .0) k l) in (leb-true (headAt m k) top (p .0), leb-true (keptHead m k) top (p .1));
       node = λ i l. let p = both-true (isIndex m (node m i .index)) (isIndex m (kept m i .index)) (all-of (indexFits m) (m .n) (c .0) i l) in (leb-true (node m i .index) top (p .0), leb-true (kept m i .index) top (p .1));
       thread = λ k l. leb-true (thread m k .index) top (all-of (λ k. isIndex m (thread m k .index)) (m .t) (c .1) k l);
     }
@@ -295,12 +295,12 @@ of-narrow : (m : Machine) → Narrow m → formFits m ≡ true
 unfolding formFits headFits indexFits
 of-narrow m w =
     let top = topOf (m .form) in
-    let hs = not (any (λ k. not (headFits m k)) (headLines (m .n))) in
+    let hs = not (any (λ k. not (headFits m k)) (headLines (shapeOf m))) in
     let ns = not (any (λ i. not (indexFits m i)) (m .n)) in
     let ts = not (any (λ k. not (isIndex m (thread m k .index))) (m .t)) in
     both-of (known (m .form)) (both hs (both ns ts)) (w .form)
     (both-of hs (both ns ts)
-    (of-all (headFits m) (headLines (m .n)) (λ k l. both-of (isIndex m (headAt m k)) (isIndex m (keptHead m k)) (le-leb (headAt m k) top (w .head k l .0)) (le-leb (keptHead m k) top (w .head k l .1))))
+    (of-all (headFits m) (headLines (shapeOf m)) (λ k l. both-of (isIndex m (headAt m k)) (isIndex m (keptHead m k)) (le-leb (headAt m k) top (w .head k l .0)) (le-leb (keptHead m k) top (w .head k l .1))))
     (both-of ns ts
     (of-all (indexFits m) (m .n) (λ i l. both-of (isIndex m (node m i .index)) (isIndex m (kept m i .index)) (le-leb (node m i .index) top (w .node i l .0)) (le-leb (kept m i .index) top (w .node i l .1))))
     (of-all (λ k. isIndex m (thread m k .index)) (m .t) (λ k l. le-leb (thread m k .index) top (w .thread k l)))))

@@ -14,7 +14,8 @@ use Rattle.lists.proofs.FindLaws as find
 use Rattle.lists.proofs.WordLaws as words
 use Rattle.image.specs.Layout.{noContent}
 use Rattle.image.specs.declared.Content.{Content}
-use Rattle.machine.specs.Record.{zeroNode, zeroThread, node, kept, withWaits, idleThread, putTail, putFree, putLast, putKeptHead, putHead, putNode, putKept, putThread}
+use Rattle.machine.specs.Record.{zeroNode, zeroThread, node, kept, withWaits, idleThread, putTail, putFree, putLast, putKeptHead, putHead, putHeadNode, putHeadAt, putNode, putKept, putThread}
+use Rattle.machine.specs.Stage.{lastStep}
 use Rattle.machine.specs.Retire.{nextFree, handOut, lastWait, releasedAt, released, left, others, retired}
 use Rattle.machine.specs.declared.Machine.{Machine}
 use Rattle.machine.specs.declared.Node.{Node}
@@ -36,11 +37,11 @@ none-link d = absurd (d refl)
 
 -- ---- one thing of the record replaced
 
-pub fit-thread : (m : Machine) (k : ℕ) (v : Thread) → Fit m → ThreadFit (m .n) v → Fit (putThread m k v)
+pub fit-thread : (m : Machine) (k : ℕ) (v : Thread) → Fit m → ThreadFit (m .n) (lastStep m) v → Fit (putThread m k v)
 fit-thread m k v f p = record {
   sizes = f .sizes;
   nodes = f .nodes;
-  threads = λ j l. set-ind (ThreadFit (m .n)) (m .threads) k j v zeroThread p (f .threads j l);
+  threads = λ j l. set-ind (ThreadFit (m .n) (lastStep m)) (m .threads) k j v zeroThread p (f .threads j l);
 }
 
 pub fit-node : (m : Machine) (i : ℕ) (v : Node) → Fit m → Link (m .n) (v .next) → v .linked ≤ 1 → v .waits < 2 ^ m .t → Fit (putNode m i v)
@@ -81,6 +82,19 @@ fit-head m h x f l =
       nodes = f .nodes;
       threads = f .threads;
     }
+
+-- Head as a node number alone; the index in head line k
+pub fit-head-node : (m : Machine) (h : ℕ) → Fit m → h < m .n → Fit (putHeadNode m h)
+fit-head-node m h f l =
+    let s = f .sizes in
+    record {
+      sizes = record { n-lo = s .n-lo; n-hi = s .n-hi; t-lo = s .t-lo; t-hi = s .t-hi; head-in = l; tail-in = s .tail-in; free-in = s .free-in; last-in = s .last-in };
+      nodes = f .nodes;
+      threads = f .threads;
+    }
+
+pub fit-head-at : (m : Machine) (k x : ℕ) → Fit m → Fit (putHeadAt m k x)
+fit-head-at m k x f = record { sizes = f .sizes; nodes = f .nodes; threads = f .threads }
 
 pub fit-free : (m : Machine) (x : ℕ) → Fit m → x < 2 ^ m .n → Fit (putFree m x)
 fit-free m x f h =
@@ -137,7 +151,7 @@ unfolding released
 fit-released m k zero f h = f
 fit-released m k (suc c) f h = fit-released-at (released m k c) k c (fit-released m k c f (omega arith)) (omega (arith, released-n m k c))
 
-idle-fit : {n : ℕ} (x : ℕ) → Link n x → ThreadFit n (idleThread x)
+idle-fit : {n s : ℕ} (x : ℕ) → Link n x → ThreadFit n s (idleThread x)
 idle-fit x h = record {
   step-in = omega arith;
   node-link = none-link;

@@ -1,19 +1,19 @@
 -- Every event but a crash keeps a record's indices within the width of its form.
 use Prim.Native.Nat.{ℕ, zero, suc, _+_, _≤_, _<_}
-use mathlib.Core.Path.{_≡_, refl}
+use mathlib.Core.Path.{_≡_, refl, sym, subst}
 use mathlib.Core.Bool.{Bool, true, false}
 use native.Mathlib.Omega.{arith}
 use lib.Dec.{eqb, leb}
-use borrow.Author.Tests.{leb-false, eqb-false}
+use borrow.Author.Tests.{leb-false, eqb-true, eqb-false}
 use Rattle.lists.specs.Find.{pick, both}
 use Rattle.lists.specs.Word.{with, without}
-use Rattle.image.specs.Form.{topOf}
-use Rattle.image.specs.Layout.{noContent, headLines}
+use Rattle.image.specs.Form.{topOf, headLines, perDesk}
+use Rattle.image.specs.Layout.{noContent}
 use Rattle.image.specs.declared.Content.{Content}
-use Rattle.image.proofs.HeadLaws.{one-head}
-use Rattle.machine.specs.Record.{none, zeroNode, zeroThread, node, thread, kept, headAt, keptHead, contentOf, ownNode, readTail, readNext, readItem, readHead, atStep, withItem, withNext, withLinked, withIndex, withWaits, idleThread, putNode, putTail, putFree, putHead, putKept, putKeptHead, putThread}
-use Rattle.machine.specs.Stage.{Stage, noStep, A1, A2, A3, A4, A5, A6, A7, A8, A9, A10, A11, A12, D1, D2, D3, D4, D5, D6, D7, stage}
-use Rattle.machine.specs.Line.{persist}
+use Rattle.image.proofs.HeadLaws.{lines-desks, lines-some}
+use Rattle.machine.specs.Record.{none, zeroNode, zeroThread, node, thread, kept, headAt, keptHead, contentOf, ownNode, readTail, readNext, readItem, readHead, atStep, withItem, withNext, withLinked, withIndex, withWaits, idleThread, putNode, putTail, putFree, putHead, putHeadNode, putHeadAt, putKept, putKeptHead, putThread}
+use Rattle.machine.specs.Stage.{Stage, noStep, A1, A2, A3, A4, A5, A6, A7, A8, A9, A10, A11, A12, D1, D2, D3, D4, D5, D6, D7, S3, S6, stage}
+use Rattle.machine.specs.Line.{shapeOf, ownHead, persist}
 use Rattle.machine.specs.declared.Line.{Line}
 use Rattle.machine.specs.declared.Line.the-variants.{OfHead as ofHead, OfNode as ofNode}
 use Rattle.answer.specs.declared.Answer.the-variants.{Full, WornOut}
@@ -68,6 +68,17 @@ narrow-head m h x w b = record {
   thread = w .thread;
 }
 
+narrow-head-node : (m : Machine) (x : ℕ) → Narrow m → Narrow (putHeadNode m x)
+narrow-head-node m x w = record { form = w .form; head = w .head; node = w .node; thread = w .thread }
+
+narrow-head-at : (m : Machine) (i x : ℕ) → Narrow m → x ≤ topOf (m .form) → Narrow (putHeadAt m i x)
+narrow-head-at m i x w h = record {
+  form = w .form;
+  head = λ k l. (set-ind (λ (y : ℕ). y ≤ topOf (m .form)) (m .heads) i k x 0 h (w .head k l .0), w .head k l .1);
+  node = w .node;
+  thread = w .thread;
+}
+
 narrow-tail : (m : Machine) (x : ℕ) → Narrow m → Narrow (putTail m x)
 narrow-tail m x w = record { form = w .form; head = w .head; node = w .node; thread = w .thread }
 
@@ -97,6 +108,20 @@ narrow-retired m k x w l =
     let v = withWaits (node m x) (others m k) in
     narrow-free (putNode m x v) (pick (eqb (others m k) 0) (with (m .free) x) (m .free)) (narrow-node m x v w (w .node x l .0))
 
+-- ---- the head line that a thread persists is one that there is
+
+pub own-in : (m : Machine) (k : ℕ) → k < m .t → ownHead m k < headLines (shapeOf m)
+unfolding perDesk
+own-in m k l = by (eqb (m .form) 4) refl
+  where
+    by : (b : Bool) → eqb (m .form) 4 ≡ b → pick b k 0 < headLines (shapeOf m)
+    by true e = subst (λ x. k < x) (lines-desks (shapeOf m) (eqb-true (m .form) 4 e)) l
+    by false e = lines-some (shapeOf m) (omega arith)
+
+pick-index : (b : Bool) (x top : ℕ) → x ≤ top → pick b 0 x ≤ top
+pick-index true x top h = omega arith
+pick-index false x top h = h
+
 -- ---- each step
 
 module _ (m : Machine) (k : ℕ) (w : Narrow m) (u : Used m k) (l : k < m .t) (held-in : (thread m k .held ≡ none → ⊥) → thread m k .held < m .n) where
@@ -111,7 +136,10 @@ module _ (m : Machine) (k : ℕ) (w : Narrow m) (u : Used m k) (l : k < m .t) (h
   stores i v s h = goes (putNode m i v) (narrow-node m i v w h) (thread m k) mine s
 
   head-in : headAt m 0 ≤ topOf (m .form)
-  head-in = w .head 0 (omega (arith, one-head (m .n))) .0
+  head-in = w .head 0 (lines-some (shapeOf m) (omega arith)) .0
+
+  own-index : headAt m (ownHead m k) ≤ topOf (m .form)
+  own-index = w .head (ownHead m k) (own-in m k l) .0
 
   A1-by : (b : Bool) → Narrow (pick b (answering Full m k) (moving (handOut m (nextFree m)) k (ownNode (thread m k) (nextFree m)) 2) .machine)
   A1-by true = narrow-left m k (thread m k .held) w
@@ -138,13 +166,14 @@ module _ (m : Machine) (k : ℕ) (w : Narrow m) (u : Used m k) (l : k < m .t) (h
   A12-by true = let x = node m (thread m k .tail) .next in goes (putTail m x) (narrow-tail m x w) (thread m k) mine 5
   A12-by false = goes m w (thread m k) mine 5
 
-  D4-by : thread m k .next < m .n → (b : Bool)
-      → Narrow (pick b (storing (ofHead 0) (going (putHead m (thread m k .next) (node m (thread m k .next) .index)) k 17)) (going m k 13) .machine)
-  D4-by h true =
+  D4-by : thread m k .next < m .n → (b d : Bool)
+      → Narrow (pick b (pick d (going (putHeadNode m (thread m k .next)) k 17) (storing (ofHead 0) (going (putHead m (thread m k .next) (node m (thread m k .next) .index)) k 17))) (going m k 13) .machine)
+  D4-by h true true = let x = thread m k .next in goes (putHeadNode m x) (narrow-head-node m x w) (thread m k) mine 17
+  D4-by h true false =
       let x = thread m k .next in
       let i = node m x .index in
       goes (putHead m x i) (narrow-head m x i w (w .node x h .0)) (thread m k) mine 17
-  D4-by h false = goes m w (thread m k) mine 13
+  D4-by h false d = goes m w (thread m k) mine 13
 
   D7-by : (b : Bool) → eqb (thread m k .held) none ≡ b → Narrow (left (pick b m (retired m k (thread m k .held))) k (thread m k .head))
   D7-by true e = narrow-left m k (thread m k .head) w
@@ -168,13 +197,17 @@ module _ (m : Machine) (k : ℕ) (w : Narrow m) (u : Used m k) (l : k < m .t) (h
       goes (putKept m i (contentOf (node m i))) (narrow-kept m i (contentOf (node m i)) w (w .node i (u .own-in (rw e)) .0)) (thread m k) mine 11
   narrow-step A11 e = A11-by (eqb (m .tail) (thread m k .tail))
   narrow-step A12 e = A12-by (eqb (m .tail) (thread m k .tail))
-  narrow-step D1 e = goes m w (readHead (thread m k) (m .head) (headAt m 0)) head-in 14
-  narrow-step D2 e = let x = node m (thread m k .head) .next in goes m w (readNext (thread m k) x) mine (pick (eqb x none) 15 16)
-  narrow-step D3 e = narrow-left (putKeptHead m 0 (headAt m 0)) k (thread m k .held) (narrow-kept-head m 0 (headAt m 0) w head-in)
-  narrow-step D4 e = D4-by (u .next-in (rw e)) (both (eqb (m .head) (thread m k .head)) (eqb (headAt m 0) (thread m k .index)))
-  narrow-step D5 e = goes m w (readItem (thread m k) (node m (thread m k .next) .item)) mine 18
-  narrow-step D6 e = goes (putKeptHead m 0 (headAt m 0)) (narrow-kept-head m 0 (headAt m 0) w head-in) (thread m k) mine 19
+  narrow-step D1 e = let d = perDesk (m .form) in goes m w (readHead (thread m k) (m .head) (pick d 0 (headAt m 0))) (pick-index d (headAt m 0) (topOf (m .form)) head-in) 14
+  narrow-step D2 e = let x = node m (thread m k .head) .next in goes m w (readNext (thread m k) x) mine (pick (eqb x none) (pick (perDesk (m .form)) 20 15) 16)
+  narrow-step D3 e = let h = ownHead m k in narrow-left (putKeptHead m h (headAt m h)) k (thread m k .held) (narrow-kept-head m h (headAt m h) w own-index)
+  narrow-step D4 e =
+      let d = perDesk (m .form) in
+      D4-by (u .next-in (rw e)) (both (eqb (m .head) (thread m k .head)) (pick d true (eqb (headAt m 0) (thread m k .index)))) d
+  narrow-step D5 e = goes m w (readItem (thread m k) (node m (thread m k .next) .item)) mine (pick (perDesk (m .form)) 21 18)
+  narrow-step D6 e = let h = ownHead m k in goes (putKeptHead m h (headAt m h)) (narrow-kept-head m h (headAt m h) w own-index) (thread m k) mine 19
   narrow-step D7 e = D7-by (eqb (thread m k .held) none) refl
+  narrow-step S3 e = let i = thread m k .head in goes (putHeadAt m k (node m i .index)) (narrow-head-at m k (node m i .index) w (w .node i (u .head-in (rw e)) .0)) (thread m k) mine 15
+  narrow-step S6 e = let i = thread m k .next in goes (putHeadAt m k (node m i .index)) (narrow-head-at m k (node m i .index) w (w .node i (u .next-in (rw e)) .0)) (thread m k) mine 18
 
 -- ---- a begin, a write-back
 
@@ -182,6 +215,6 @@ pub narrow-begun : (m : Machine) (k s v : ℕ) → Narrow m → Narrow (begun m 
 narrow-begun m k s v w =
     narrow-thread m k (record { step = s; node = 255; tail = 255; head = 255; index = 0; next = 255; item = v; held = thread m k .held }) w (omega arith)
 
-pub narrow-persist : (m : Machine) (l : Line) → Narrow m → LineIn (m .n) l → Narrow (persist m l)
+pub narrow-persist : (m : Machine) (l : Line) → Narrow m → LineIn (shapeOf m) l → Narrow (persist m l)
 narrow-persist m (ofHead k) w h = narrow-kept-head m k (headAt m k) w (w .head k h .0)
 narrow-persist m (ofNode i) w h = narrow-kept m i (contentOf (node m i)) w (w .node i h .0)

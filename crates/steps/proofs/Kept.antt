@@ -9,10 +9,10 @@ use Rattle.lists.specs.Find.{pick, both}
 use Rattle.lists.specs.Word.{with}
 use Rattle.lists.proofs.WordLaws as words
 use Rattle.answer.specs.declared.Answer.the-variants.{Full, WornOut}
-use Rattle.image.specs.Form.{topOf}
-use Rattle.machine.specs.Record.{none, node, thread, headAt, contentOf, ownNode, readTail, readNext, readItem, readHead, atStep, withItem, withNext, withLinked, withIndex, putNode, putTail, putHead}
-use Rattle.machine.specs.Stage.{Stage, noStep, A1, A2, A3, A4, A5, A6, A7, A8, A9, A10, A11, A12, D1, D2, D3, D4, D5, D6, D7, lastStep, stage}
-use Rattle.machine.specs.Line.{persist}
+use Rattle.image.specs.Form.{topOf, perDesk}
+use Rattle.machine.specs.Record.{none, node, thread, headAt, contentOf, ownNode, readTail, readNext, readItem, readHead, atStep, withItem, withNext, withLinked, withIndex, putNode, putTail, putHead, putHeadNode, putHeadAt}
+use Rattle.machine.specs.Stage.{Stage, noStep, A1, A2, A3, A4, A5, A6, A7, A8, A9, A10, A11, A12, D1, D2, D3, D4, D5, D6, D7, S3, S6, lastStep, stage}
+use Rattle.machine.specs.Line.{shapeOf, ownHead, persist}
 use Rattle.machine.specs.declared.Line.{Line}
 use Rattle.machine.specs.declared.Line.the-variants.{OfHead as ofHead, OfNode as ofNode}
 use Rattle.machine.specs.Retire.{moving, going, answering, storing, nextFree, handOut, freed, left, retired}
@@ -26,11 +26,11 @@ use Rattle.machine.proofs.StageLaws.{step-number}
 use Rattle.steps.specs.Numbers.{numbersFit}
 use Rattle.steps.proofs.Fit.{Link, link, ThreadFit, Fit, Used, fit-range, fit-numbers, narrow-range, narrow-numbers, used-range, numbers-fit}
 use Rattle.steps.proofs.KeepIndex.{narrow-step, narrow-begun, narrow-persist}
-use Rattle.steps.proofs.Keep.{none-link, fit-thread, fit-node, fit-kept, fit-kept-head, fit-tail, fit-head, fit-free, next-free-lt, fit-hand-out, fit-left, fit-retired}
+use Rattle.steps.proofs.Keep.{none-link, fit-thread, fit-node, fit-kept, fit-kept-head, fit-tail, fit-head, fit-head-node, fit-head-at, fit-free, next-free-lt, fit-hand-out, fit-left, fit-retired}
 
 -- ---- a thread with one thing replaced
 
-at-step : {n : ℕ} (v : Thread) (s : ℕ) → ThreadFit n v → s ≤ lastStep → ThreadFit n (atStep v s)
+at-step : {n u : ℕ} (v : Thread) (s : ℕ) → ThreadFit n u v → s ≤ u → ThreadFit n u (atStep v s)
 at-step v s p h = record {
   step-in = h;
   node-link = p .node-link;
@@ -40,7 +40,7 @@ at-step v s p h = record {
   held-link = p .held-link;
 }
 
-own-node : {n : ℕ} (v : Thread) (x : ℕ) → ThreadFit n v → Link n x → ThreadFit n (ownNode v x)
+own-node : {n u : ℕ} (v : Thread) (x : ℕ) → ThreadFit n u v → Link n x → ThreadFit n u (ownNode v x)
 own-node v x p h = record {
   step-in = p .step-in;
   node-link = h;
@@ -50,7 +50,7 @@ own-node v x p h = record {
   held-link = p .held-link;
 }
 
-read-tail : {n : ℕ} (v : Thread) (x : ℕ) → ThreadFit n v → Link n x → ThreadFit n (readTail v x)
+read-tail : {n u : ℕ} (v : Thread) (x : ℕ) → ThreadFit n u v → Link n x → ThreadFit n u (readTail v x)
 read-tail v x p h = record {
   step-in = p .step-in;
   node-link = p .node-link;
@@ -60,7 +60,7 @@ read-tail v x p h = record {
   held-link = p .held-link;
 }
 
-read-head : {n : ℕ} (v : Thread) (h x : ℕ) → ThreadFit n v → Link n h → ThreadFit n (readHead v h x)
+read-head : {n u : ℕ} (v : Thread) (h x : ℕ) → ThreadFit n u v → Link n h → ThreadFit n u (readHead v h x)
 read-head v h x p l = record {
   step-in = p .step-in;
   node-link = p .node-link;
@@ -70,7 +70,7 @@ read-head v h x p l = record {
   held-link = p .held-link;
 }
 
-read-next : {n : ℕ} (v : Thread) (x : ℕ) → ThreadFit n v → Link n x → ThreadFit n (readNext v x)
+read-next : {n u : ℕ} (v : Thread) (x : ℕ) → ThreadFit n u v → Link n x → ThreadFit n u (readNext v x)
 read-next v x p h = record {
   step-in = p .step-in;
   node-link = p .node-link;
@@ -80,7 +80,7 @@ read-next v x p h = record {
   held-link = p .held-link;
 }
 
-read-item : {n : ℕ} (v : Thread) (x : ℕ) → ThreadFit n v → ThreadFit n (readItem v x)
+read-item : {n u : ℕ} (v : Thread) (x : ℕ) → ThreadFit n u v → ThreadFit n u (readItem v x)
 read-item v x p = record {
   step-in = p .step-in;
   node-link = p .node-link;
@@ -90,16 +90,29 @@ read-item v x p = record {
   held-link = p .held-link;
 }
 
+-- ---- steps that a machine of every form has, and the two that the form decides on
+
+by-form : (b : Bool) (x y : ℕ) → x ≤ 21 → y ≤ 19 → pick b x y ≤ pick b 21 19
+by-form true x y h k = h
+by-form false x y h k = k
+
+within : (m : Machine) (s : ℕ) → s ≤ 19 → s ≤ lastStep m
+within m s h = by (perDesk (m .form))
+  where
+    by : (b : Bool) → s ≤ pick b 21 19
+    by true = omega arith
+    by false = h
+
 -- thread k, now v, goes on to step s
-fit-moving : (m : Machine) (k : ℕ) (v : Thread) (s : ℕ) → Fit m → ThreadFit (m .n) v → s ≤ lastStep → Fit (moving m k v s .machine)
+fit-moving : (m : Machine) (k : ℕ) (v : Thread) (s : ℕ) → Fit m → ThreadFit (m .n) (lastStep m) v → s ≤ lastStep m → Fit (moving m k v s .machine)
 fit-moving m k v s f p h = fit-thread m k (atStep v s) f (at-step v s p h)
 
-fit-going : (m : Machine) (k s : ℕ) → Fit m → k < m .t → s ≤ lastStep → Fit (going m k s .machine)
-fit-going m k s f l h = fit-moving m k (thread m k) s f (f .threads k l) h
+fit-going : (m : Machine) (k s : ℕ) → Fit m → k < m .t → s ≤ 19 → Fit (going m k s .machine)
+fit-going m k s f l h = fit-moving m k (thread m k) s f (f .threads k l) (within m s h)
 
-pick-le : (b : Bool) (x y : ℕ) → x ≤ lastStep → y ≤ lastStep → pick b x y ≤ lastStep
-pick-le true x y h k = h
-pick-le false x y h k = k
+pick-le : (b : Bool) (x y s : ℕ) → x ≤ s → y ≤ s → pick b x y ≤ s
+pick-le true x y s h k = h
+pick-le false x y s h k = k
 
 -- ---- each step
 
@@ -110,7 +123,7 @@ module _ (m : Machine) (k : ℕ) (f : Fit m) (u : Used m k) (l : k < m .t) where
   A1-by false e =
       let h = next-free-lt m f (eqb-false (m .free) 0 e) in
       fit-moving (handOut m (nextFree m)) k (ownNode (thread m k) (nextFree m)) 2 (fit-hand-out m (nextFree m) f h)
-      (own-node (thread m k) (nextFree m) (f .threads k l) (link h)) (omega arith)
+      (own-node (thread m k) (nextFree m) (f .threads k l) (link h)) (within m 2 (omega arith))
 
   A7-by : thread m k .node < m .n → (b : Bool)
       → Fit (pick b (answering WornOut (freed m (thread m k .node)) k) (storing (ofNode (thread m k .node)) (going (putNode m (thread m k .node) (withIndex (node m (thread m k .node)) (node m (thread m k .tail) .index + 1))) k 8)) .machine)
@@ -140,13 +153,14 @@ module _ (m : Machine) (k : ℕ) (f : Fit m) (u : Used m k) (l : k < m .t) where
   A12-by true h = let x = node m (thread m k .tail) .next in fit-going (putTail m x) k 5 (fit-tail m x f h) l (omega arith)
   A12-by false h = fit-going m k 5 f l (omega arith)
 
-  D4-by : thread m k .next < m .n → (b : Bool)
-      → Fit (pick b (storing (ofHead 0) (going (putHead m (thread m k .next) (node m (thread m k .next) .index)) k 17)) (going m k 13) .machine)
-  D4-by h true =
+  D4-by : thread m k .next < m .n → (b d : Bool)
+      → Fit (pick b (pick d (going (putHeadNode m (thread m k .next)) k 17) (storing (ofHead 0) (going (putHead m (thread m k .next) (node m (thread m k .next) .index)) k 17))) (going m k 13) .machine)
+  D4-by h true true = let x = thread m k .next in fit-going (putHeadNode m x) k 17 (fit-head-node m x f h) l (omega arith)
+  D4-by h true false =
       let x = thread m k .next in
       let i = node m x .index in
       fit-going (putHead m x i) k 17 (fit-head m x i f h) l (omega arith)
-  D4-by h false = fit-going m k 13 f l (omega arith)
+  D4-by h false d = fit-going m k 13 f l (omega arith)
 
   D7-by : thread m k .head < m .n → (b : Bool) → eqb (thread m k .held) none ≡ b → Fit (left (pick b m (retired m k (thread m k .held))) k (thread m k .head))
   unfolding retired
@@ -156,7 +170,7 @@ module _ (m : Machine) (k : ℕ) (f : Fit m) (u : Used m k) (l : k < m .t) where
       fit-left (retired m k x) k (thread m k .head) (fit-retired m k x f (f .threads k l .held-link (eqb-false x none e))) (link h)
 
   -- a store to the thread's own node, and on to step s
-  stores : (v : Node) (s : ℕ) → Link (m .n) (v .next) → v .linked ≤ 1 → v .waits < 2 ^ m .t → s ≤ lastStep → Fit (going (putNode m (thread m k .node) v) k s .machine)
+  stores : (v : Node) (s : ℕ) → Link (m .n) (v .next) → v .linked ≤ 1 → v .waits < 2 ^ m .t → s ≤ 19 → Fit (going (putNode m (thread m k .node) v) k s .machine)
   stores v s a b w h = fit-going (putNode m (thread m k .node) v) k s (fit-node m (thread m k .node) v f a b w) l h
 
   pub fit-step : (s : Stage) → stage m k ≡ s → Fit (stepped m k s .machine)
@@ -165,8 +179,8 @@ module _ (m : Machine) (k : ℕ) (f : Fit m) (u : Used m k) (l : k < m .t) where
   fit-step A2 e = let p = f .nodes (thread m k .node) (u .own-in (rw e)) in stores (withItem (node m (thread m k .node)) (thread m k .item)) 3 (p .next-link) (p .flag) (p .waits-in) (omega arith)
   fit-step A3 e = let p = f .nodes (thread m k .node) (u .own-in (rw e)) in stores (withNext (node m (thread m k .node)) none) 4 none-link (p .flag) (p .waits-in) (omega arith)
   fit-step A4 e = let p = f .nodes (thread m k .node) (u .own-in (rw e)) in stores (withLinked (node m (thread m k .node)) 0) 5 (p .next-link) (omega arith) (p .waits-in) (omega arith)
-  fit-step A5 e = fit-moving m k (readTail (thread m k) (m .tail)) 6 f (read-tail (thread m k) (m .tail) (f .threads k l) (link (f .sizes .tail-in))) (omega arith)
-  fit-step A6 e = let b = eqb (node m (thread m k .tail) .next) none in fit-going m k (pick b 7 12) f l (pick-le b 7 12 (omega arith) (omega arith))
+  fit-step A5 e = fit-moving m k (readTail (thread m k) (m .tail)) 6 f (read-tail (thread m k) (m .tail) (f .threads k l) (link (f .sizes .tail-in))) (within m 6 (omega arith))
+  fit-step A6 e = let b = eqb (node m (thread m k .tail) .next) none in fit-going m k (pick b 7 12) f l (pick-le b 7 12 19 (omega arith) (omega arith))
   fit-step A7 e = A7-by (u .own-in (rw e)) (leb (topOf (m .form)) (node m (thread m k .tail) .index))
   fit-step A8 e = A8-by (u .t-in (rw e)) (eqb (node m (thread m k .tail) .next) none)
   fit-step A9 e = let p = f .nodes (thread m k .node) (u .own-in (rw e)) in stores (withLinked (node m (thread m k .node)) 1) 10 (p .next-link) (omega arith) (p .waits-in) (omega arith)
@@ -176,19 +190,27 @@ module _ (m : Machine) (k : ℕ) (f : Fit m) (u : Used m k) (l : k < m .t) where
   fit-step A11 e = A11-by (u .own-in (rw e)) (eqb (m .tail) (thread m k .tail))
   fit-step A12 e =
       A12-by (eqb (m .tail) (thread m k .tail)) (f .nodes (thread m k .tail) (u .t-in (rw e)) .next-link (u .t-next (step-number (thread m k .step) A12 e (omega arith))))
-  fit-step D1 e = fit-moving m k (readHead (thread m k) (m .head) (headAt m 0)) 14 f (read-head (thread m k) (m .head) (headAt m 0) (f .threads k l) (link (f .sizes .head-in))) (omega arith)
+  fit-step D1 e =
+      let x = pick (perDesk (m .form)) 0 (headAt m 0) in
+      fit-moving m k (readHead (thread m k) (m .head) x) 14 f (read-head (thread m k) (m .head) x (f .threads k l) (link (f .sizes .head-in))) (within m 14 (omega arith))
   fit-step D2 e =
       let x = node m (thread m k .head) .next in
       let b = eqb x none in
-      fit-moving m k (readNext (thread m k) x) (pick b 15 16) f (read-next (thread m k) x (f .threads k l) (f .nodes (thread m k .head) (u .head-in (rw e)) .next-link))
-      (pick-le b 15 16 (omega arith) (omega arith))
-  fit-step D3 e = fit-left (persist m (ofHead 0)) k (thread m k .held) (fit-kept-head m 0 (headAt m 0) f) (f .threads k l .held-link)
-  fit-step D4 e = D4-by (u .next-in (rw e)) (both (eqb (m .head) (thread m k .head)) (eqb (headAt m 0) (thread m k .index)))
+      let d = perDesk (m .form) in
+      fit-moving m k (readNext (thread m k) x) (pick b (pick d 20 15) 16) f (read-next (thread m k) x (f .threads k l) (f .nodes (thread m k .head) (u .head-in (rw e)) .next-link))
+      (pick-le b (pick d 20 15) 16 (lastStep m) (by-form d 20 15 (omega arith) (omega arith)) (within m 16 (omega arith)))
+  fit-step D3 e = let h = ownHead m k in fit-left (persist m (ofHead h)) k (thread m k .held) (fit-kept-head m h (headAt m h) f) (f .threads k l .held-link)
+  fit-step D4 e =
+      let d = perDesk (m .form) in
+      D4-by (u .next-in (rw e)) (both (eqb (m .head) (thread m k .head)) (pick d true (eqb (headAt m 0) (thread m k .index)))) d
   fit-step D5 e =
       let x = node m (thread m k .next) .item in
-      fit-moving m k (readItem (thread m k) x) 18 f (read-item (thread m k) x (f .threads k l)) (omega arith)
-  fit-step D6 e = fit-going (persist m (ofHead 0)) k 19 (fit-kept-head m 0 (headAt m 0) f) l (omega arith)
+      let d = perDesk (m .form) in
+      fit-moving m k (readItem (thread m k) x) (pick d 21 18) f (read-item (thread m k) x (f .threads k l)) (by-form d 21 18 (omega arith) (omega arith))
+  fit-step D6 e = let h = ownHead m k in fit-going (persist m (ofHead h)) k 19 (fit-kept-head m h (headAt m h) f) l (omega arith)
   fit-step D7 e = D7-by (u .head-in (rw e)) (eqb (thread m k .held) none) refl
+  fit-step S3 e = let x = node m (thread m k .head) .index in fit-going (putHeadAt m k x) k 15 (fit-head-at m k x f) l (omega arith)
+  fit-step S6 e = let x = node m (thread m k .next) .index in fit-going (putHeadAt m k x) k 18 (fit-head-at m k x f) l (omega arith)
 
 -- ---- the laws
 
@@ -201,18 +223,18 @@ kept-step m k h l =
     (narrow-step m k (narrow-range m h) u l (f .threads k l .held-link) (stage m k) refl)
 
 -- a begin
-pub kept-begun : (m : Machine) (k s v : ℕ) → numbersFit m ≡ true → k < m .t → s ≤ lastStep → numbersFit (begun m k s v) ≡ true
+pub kept-begun : (m : Machine) (k s v : ℕ) → numbersFit m ≡ true → k < m .t → s ≤ 19 → numbersFit (begun m k s v) ≡ true
 kept-begun m k s v h l q =
     let f = fit-numbers m h in
     numbers-fit (begun m k s v)
     (fit-thread m k (record { step = s; node = 255; tail = 255; head = 255; index = 0; next = 255; item = v; held = thread m k .held }) f
-    (record { step-in = q; node-link = none-link; tail-link = none-link; head-link = none-link; next-link = none-link; held-link = f .threads k l .held-link }))
+    (record { step-in = within m s q; node-link = none-link; tail-link = none-link; head-link = none-link; next-link = none-link; held-link = f .threads k l .held-link }))
     (narrow-begun m k s v (narrow-numbers m h))
 
-fit-persist : (m : Machine) (l : Line) → Fit m → LineIn (m .n) l → Fit (persist m l)
+fit-persist : (m : Machine) (l : Line) → Fit m → LineIn (shapeOf m) l → Fit (persist m l)
 fit-persist m (ofHead k) f h = fit-kept-head m k (headAt m k) f
 fit-persist m (ofNode i) f h = fit-kept m i (contentOf (node m i)) f (f .nodes i (omega arith) .flag)
 
 -- a write-back
-pub kept-persist : (m : Machine) (l : Line) → numbersFit m ≡ true → LineIn (m .n) l → numbersFit (persist m l) ≡ true
+pub kept-persist : (m : Machine) (l : Line) → numbersFit m ≡ true → LineIn (shapeOf m) l → numbersFit (persist m l) ≡ true
 kept-persist m l h i = numbers-fit (persist m l) (fit-persist m l (fit-numbers m h) i) (narrow-persist m l (narrow-numbers m h) i)

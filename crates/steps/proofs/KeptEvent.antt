@@ -14,10 +14,9 @@ use Rattle.answer.specs.declared.Answer.the-variants.{Taken, Busy, Idle, Number
 use Rattle.image.specs.Layout.{contentAt}
 use Rattle.image.specs.Recovered.{firstUnclear}
 use Rattle.image.specs.Refusals.{startable, sound, fitting, whole}
-use Rattle.image.proofs.HeadLaws.{one-head}
 use Rattle.image.proofs.SoundLaws.{Fitting, sound-then, is-fitting}
 use Rattle.machine.specs.Stage.{busy}
-use Rattle.machine.specs.Line.{lineCount, lineAt, persisted}
+use Rattle.machine.specs.Line.{shapeOf, lineCount, lineAt, persisted}
 use Rattle.machine.specs.Start.{startOf, startAnswer}
 use Rattle.machine.proofs.AnswerLaws.{answer-whole}
 use Rattle.machine.specs.Retire.{out, quiet}
@@ -31,6 +30,7 @@ use Rattle.machine.proofs.RangeLaws.{start-in-range}
 use Rattle.machine.proofs.LineLaws.{line-in}
 use Rattle.steps.specs.Numbers.{numbersFit}
 use Rattle.steps.proofs.Fit.{fit-range, narrow-range, range-numbers}
+use Rattle.steps.proofs.Own.{own-lines, own-shaped}
 use Rattle.steps.proofs.Kept.{kept-step, kept-begun, kept-persist}
 
 -- ---- what a taken event has passed
@@ -64,7 +64,7 @@ unfolding sound
 persisted-sound m h a = rw (clear m h) a
 
 persisted-fits : (m : Machine) → inRange m ≡ true → Fitting (persisted m)
-persisted-fits m h = let w = narrow-range m h in record { head = w .head 0 (omega (arith, one-head (m .n))) .1; at = λ i l. w .node i l .1 }
+persisted-fits m h = let w = narrow-range m h in record { head = λ k l. w .head k (omega (arith, own-lines m)) .1; at = λ i l. w .node i l .1 }
 
 persisted-whole : (m : Machine) → inRange m ≡ true → accepted (startable (persisted m) Taken) ≡ true → whole (persisted m) Taken ≡ Taken
 unfolding whole
@@ -75,7 +75,7 @@ restart m h a =
     let s = fit-range m h .sizes in
     let ts = both-of (leb 1 (m .t)) (leb (m .t) 8) (le-leb 1 (m .t) (s .t-lo)) (le-leb (m .t) 8 (s .t-hi)) in
     let ns = both-of (leb 2 (m .n)) (leb (m .n) 64) (le-leb 2 (m .n) (s .n-lo)) (le-leb (m .n) 64 (s .n-hi)) in
-    ap accepted (answer-whole (persisted m) (m .t) ts (narrow-range m h .form) ns ∙ persisted-whole m h a)
+    ap accepted (answer-whole (persisted m) (m .t) ts (own-shaped m (narrow-range m h .form) ns ts) ∙ persisted-whole m h a)
 
 kept-crash : (m : Machine) → inRange m ≡ true → accepted (startable (persisted m) Taken) ≡ true → numbersFit (startOf (persisted m) (m .t)) ≡ true
 kept-crash m h a = range-numbers (startOf (persisted m) (m .t)) (start-in-range (persisted m) (m .t) (restart m h a))
@@ -95,8 +95,8 @@ kept-done p m e steps h a =
     let l = leb-false (m .t) (e .number) (passed-number (threadTooLarge m e) p (check (itemNotZero e) (NotZero p) (check (not (busy m (e .number))) (Idle p) Taken)) a) in
     kept-step m (e .number) h l
 kept-done p m e writesBack h a =
-    let l = leb-false (lineCount (m .n)) (e .number) (passed-number (lineTooLarge m e) p (check (itemNotZero e) (NotZero p) (check (clean m (lineAt (m .n) (e .number))) (Clean p) Taken)) a) in
-    kept-persist m (lineAt (m .n) (e .number)) (range-numbers m h) (line-in (m .n) (e .number) l)
+    let l = leb-false (lineCount (shapeOf m)) (e .number) (passed-number (lineTooLarge m e) p (check (itemNotZero e) (NotZero p) (check (clean m (lineAt (shapeOf m) (e .number))) (Clean p) Taken)) a) in
+    kept-persist m (lineAt (shapeOf m) (e .number)) (range-numbers m h) (line-in (shapeOf m) (e .number) l)
 kept-done p m e crashes h a = kept-crash m h (passed-zero (pick (eqb (e .number) 0) (itemNotZero e) true) p (startable (persisted m) Taken) a)
 
 -- the event at place p of a run

@@ -1,5 +1,6 @@
 pub mod StepLaws
 pub mod Fit
+pub mod Own
 pub mod Keep
 pub mod KeepIndex
 pub mod Kept

@@ -12,7 +12,7 @@ use Rattle.machine.specs.declared.Machine.{Machine}
 unfoldable pub threadNumbers : Machine → ℕ → Bool
 threadNumbers m k =
     let v = thread m k in
-    both (leb (v .step) lastStep)
+    both (leb (v .step) (lastStep m))
     (both (isLink m (v .node)) (both (isLink m (v .tail)) (both (isLink m (v .head)) (both (isLink m (v .next)) (isLink m (v .held))))))
 
 -- the whole record but its indices

@@ -76,7 +76,9 @@ fn dequeue_step(m: Machine, k: usize) -> Acted
         Machine::D5 => dequeue::d5(m, k),
         Machine::D6 => dequeue::d6(m, k),
         Machine::D7 => dequeue::d7(m, k),
-        0..=12 | 20..=255 => Acted {
+        Machine::S3 => dequeue::s3(m, k),
+        Machine::S6 => dequeue::s6(m, k),
+        0..=12 | 22..=255 => Acted {
             answer: Answer::Taken,
             machine: m,
             touch: Touch::Nothing,

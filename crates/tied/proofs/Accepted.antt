@@ -6,42 +6,39 @@ use mathlib.Core.Option.{Option, none, some}
 use Prim.Native.Nat.{ℕ, _+_, _≤_, _<_}
 use native.Mathlib.Omega.{arith}
 use native.Mathlib.Decide.{ℕ-discrete, decLt}
-use lib.Dec.{eqb, eqb-refl, ltb, leb, leb→le}
+use lib.Dec.{eqb, eqb-refl, ltb}
 use borrow.Author.Tests.{not-false}
 use Rattle.lists.specs.Find.{least, any}
 use Rattle.lists.proofs.BoolLaws.{both-true, no-way}
 use Rattle.lists.proofs.FindLaws.{least-none, least-clear, least-le, any-hit, any-none}
 use Rattle.answer.specs.Answers.{check, accepted}
 use Rattle.answer.specs.declared.Answer.{Answer}
-use Rattle.answer.specs.declared.Answer.the-variants.{Taken, Nodes, Threads, Linked, Twin, NoDummy}
+use Rattle.answer.specs.declared.Answer.the-variants.{Taken, Linked, Twin, NoDummy}
 use Rattle.image.specs.declared.Content.{Content}
 use Rattle.image.specs.declared.Image.{Image}
-use Rattle.image.specs.Layout.{contentAt}
+use Rattle.image.specs.Layout.{contentAt, imageShape}
 use Rattle.image.specs.Recovered.{recoveredAt, twins, hasTwin, firstTwin, dummyOf, firstUnclear}
-use Rattle.image.specs.Refusals.{nodesFit, startable, sound}
+use Rattle.image.specs.Refusals.{agree, startable, sound}
 use Rattle.image.proofs.SoundLaws.{whole-is}
 use Rattle.machine.proofs.AcceptedLaws.{passed}
-use Rattle.machine.specs.Start.{threadsFit, startAnswer}
+use Rattle.image.proofs.ShapeLaws.{nodes-range, threads-range}
+use Rattle.machine.specs.Start.{startAnswer}
 use Rattle.model.specs.Basics.{sel}
 use Rattle.model.specs.Core as core
-use Rattle.model.specs.Conf.{headLines}
 use Rattle.model.specs.Choice.{lowest, lowest-free}
 use Rattle.model.specs.Recovery as recovery
 use Rattle.model.specs.Demand3.{Fit, Tidy}
-use Rattle.model.proofs.Basics.{T-of, yes-of, not-true, true→eq, eq-no, lt-true, lt-no}
+use Rattle.model.proofs.Basics.{yes-of, not-true, true→eq, eq-no, lt-true, lt-no}
 use Rattle.tied.specs.Shown.{shownContent, imageShown, Narrow}
 use Rattle.tied.proofs.Searches.{lowest-least}
 use Rattle.tied.proofs.Relation.{Sizes}
-use Rattle.tied.proofs.Images.{ImageT, head-is, rec-is, nodes-is, low-is}
+use Rattle.tied.proofs.Images.{ImageT, lines-is, first-line, rec-is, nodes-is, low-is}
 
 -- ---- tests
 
 pub pass : (b : Bool) (w rest : Answer) → accepted w ≡ false → accepted (check b w rest) ≡ true → (b ≡ false) × (accepted rest ≡ true)
 pass true w rest n e = no-way (sym e ∙ n)
 pass false w rest n e = (refl, e)
-
-pub le-of : (a b : ℕ) → leb a b ≡ true → a ≤ b
-le-of a b e = leb→le a b (T-of _ e)
 
 pub ge-of : (a b : ℕ) → ltb a b ≡ false → b ≤ a
 ge-of a b e = by (decLt a b)
@@ -54,6 +51,7 @@ ge-of a b e = by (decLt a b)
 
 pub record Sound (g : Image) (t : ℕ) : Type 0 where
   pub sizes : Sizes (g .form) (g .n) t
+  pub agrees : agree t (imageShape g) ≡ true
   pub flags : (i : ℕ) → i < g .n → contentAt (g .nodes) i .linked ≤ 1
   pub apart : (i : ℕ) → i < g .n → hasTwin g i ≡ false
   pub dummy : dummyOf g < g .n
@@ -76,12 +74,13 @@ pub sound-is : (g : Image) (t : ℕ) → accepted (startAnswer g t) ≡ true →
 unfolding sound firstUnclear
 sound-is g t e =
     let p = passed g t e in
-    let c = pass (ltb (firstUnclear g) (g .n)) (Linked (firstUnclear g)) _ refl (whole-is g (p .3) .sound) in
+    let c = pass (ltb (firstUnclear g) (g .n)) (Linked (firstUnclear g)) _ refl (whole-is g (p .2) .sound) in
     let s = startable-is g Taken (c .1) in
-    let x = both-true _ _ (p .0) in
-    let y = both-true _ _ (p .2) in
+    let x = threads-range t (p .0) in
+    let y = nodes-range (g .n) (p .1 .nodes) in
     record {
-      sizes = record { form = p .1; nodes-lo = le-of 2 (g .n) (y .0); nodes-hi = le-of (g .n) 64 (y .1); threads-lo = le-of 1 t (x .0); threads-hi = le-of t 8 (x .1) };
+      sizes = record { form = p .1 .form; nodes-lo = y .0; nodes-hi = y .1; threads-lo = x .0; threads-hi = x .1 };
+      agrees = p .1 .agrees;
       flags = λ i h. ge-of 1 (contentAt (g .nodes) i .linked) (clear-least (λ i. ltb 1 (contentAt (g .nodes) i .linked)) (g .n) (c .0) i h);
       apart = s .0;
       dummy = s .1;
@@ -95,7 +94,8 @@ module _ (g : Image) (t : ℕ) (s : Sound g t) (w : Narrow g) where
   shownT = record {
     conf = refl;
     sizes = s .sizes;
-    head = refl;
+    agrees = s .agrees;
+    head = λ k h. refl;
     at = λ i h. ap (λ b. sel b (shownContent (contentAt (g .nodes) i)) core.zeroNode) (lt-true i (g .n) h);
     flag = s .flags;
     narrow-head = w .head;
@@ -123,7 +123,7 @@ module _ (g : Image) (t : ℕ) (G : recovery.Image) (r : ImageT g t G) where
   pub fit-of : Sound g t → Fit G
   unfolding hasTwin
   fit-of s = record {
-    lined = subst (λ c. 0 < headLines c) (sym (r .conf)) (omega arith);
+    lined = subst (λ h. 0 < h) (sym (lines-is g t G r)) (first-line g t G r);
     twins = λ i j hi hj ri rj e.
         let hn : i < g .n = omega (arith, nodes-is g t G r) in
         let hm : j < g .n = omega arith in

@@ -2,17 +2,17 @@
 use mathlib.Core.Path.{_≡_, refl, sym, ap, subst, _∙_}
 use mathlib.Core.List.{[], _∷_}
 use mathlib.Core.Logic.{_⊎_, inl, inr}
-use Prim.Native.Nat.{ℕ, zero, suc, _<_}
+use Prim.Native.Nat.{ℕ, suc, _<_}
 use native.Mathlib.Omega.{arith}
 use lib.ListN.{getD}
 use Rattle.image.specs.declared.Content.{Content}
 use Rattle.image.specs.declared.Image.{Image}
 use Rattle.image.specs.Recovered.{dummyOf}
 use Rattle.tied.specs.Memory as memory
-use Rattle.machine.specs.Line.{cachedAt, persistedAt}
+use Rattle.image.specs.declared.Shape.{Shape}
+use Rattle.machine.specs.Line.{shapeOf, cachedAt, persistedAt}
 use Rattle.machine.specs.Start.{blankMachine, startWith, startOf}
 use Rattle.machine.specs.declared.Machine.{Machine}
-use Rattle.image.proofs.HeadLaws.{one-head}
 use Rattle.machine.proofs.LineLaws.{LineIn}
 use Rattle.schedule.specs.Run.{begins}
 use Rattle.page.specs.Contents.{joins, gathered, contentsOf}
@@ -24,18 +24,18 @@ use Rattle.model.proofs.Times.{startHere}
 use Rattle.tied.specs.Always.{Among}
 use Rattle.tied.specs.Shown.{shownContent, lineShown}
 use Rattle.tied.proofs.Relation.{Tied}
-use Rattle.tied.proofs.Images.{ImageT}
+use Rattle.tied.proofs.Images.{ImageT, lines-at}
 use Rattle.tied.proofs.Start.{imageLine, startT}
 use Rattle.tied.proofs.Contents.{Small, joins-old}
 use Rattle.tied.proofs.Bench.{shown-cached, cached-flag, kept-is, kept-flag, own-kept, ListsT}
 
-pub size-is : (g : Image) (t : ℕ) → startOf g t .n ≡ g .n
-unfolding startWith
-size-is g t = refl
+-- the shape of a machine that starts from g with T threads
+abbrev pub shapeAt : Image → ℕ → Shape
+shapeAt g t = record { form = g .form; n = g .n; t = t }
 
-pub threads-is : (g : Image) (t : ℕ) → startOf g t .t ≡ t
+pub shape-is : (g : Image) (t : ℕ) → shapeOf (startOf g t) ≡ shapeAt g t
 unfolding startWith
-threads-is g t = refl
+shape-is g t = refl
 
 one-moment : (m : Machine) (l : memory.Line) → contentsOf (begins m) l ≡ joins (persistedAt m l ∷ []) (cachedAt m l)
 unfolding contentsOf gathered
@@ -48,9 +48,8 @@ module _ (g : Image) (t : ℕ) (G : recovery.Image) (r : ImageT g t G) (dm : dum
   pub startedT : Tied (persistedAt (startOf g t)) (startOf g t) (start G)
   startedT = own-kept _ _ _ d
 
-  line-is : (l : memory.Line) → LineIn (g .n) l → imageHas G (lineShown l) ≡ shownContent (imageLine g l)
-  line-is (memory.ofHead zero) h = ap hd (r .head)
-  line-is (memory.ofHead (suc k)) h = absurd (omega (arith, one-head (g .n)))
+  line-is : (l : memory.Line) → LineIn (shapeAt g t) l → imageHas G (lineShown l) ≡ shownContent (imageLine g l)
+  line-is (memory.ofHead k) h = ap hd (r .head k (subst (λ x. k < x) (lines-at g t G r) h))
   line-is (memory.ofNode i) h = r .at i h
 
   pub beginsT : ListsT (begins (startOf g t)) (starts G)
@@ -66,10 +65,10 @@ module _ (g : Image) (t : ℕ) (G : recovery.Image) (r : ImageT g t G) (dm : dum
       first : (i : ℕ) → i < 1 → i ≡ 0
       first i h = omega arith
 
-      same : (l : memory.Line) → LineIn (startOf g t .n) l → imageHas G (lineShown l) ≡ shownContent (persistedAt (startOf g t) l)
-      same l h = line-is l (subst (λ n. LineIn n l) (size-is g t) h) ∙ ap shownContent (sym (kept-is _ _ _ d l h))
+      same : (l : memory.Line) → LineIn (shapeOf (startOf g t)) l → imageHas G (lineShown l) ≡ shownContent (persistedAt (startOf g t) l)
+      same l h = line-is l (subst (λ z. LineIn z l) (shape-is g t) h) ∙ ap shownContent (sym (kept-is _ _ _ d l h))
 
-      by : (l : memory.Line) → LineIn (startOf g t .n) l → (a : Content) → Among a (persistedAt (startOf g t) l ∷ []) ⊎ (a ≡ cachedAt (startOf g t) l)
+      by : (l : memory.Line) → LineIn (shapeOf (startOf g t)) l → (a : Content) → Among a (persistedAt (startOf g t) l ∷ []) ⊎ (a ≡ cachedAt (startOf g t) l)
           → Small (starts G .core .conf .top) a × Has (starts G) (lineShown l) (shownContent a)
       by l h a (inl (inl e)) = subst (λ a. Small (starts G .core .conf .top) a × Has (starts G) (lineShown l) (shownContent a)) (sym e)
           (kept-flag _ _ _ d l h, record { time = 0; since = omega arith; until = omega arith; is = sym (same l h) })

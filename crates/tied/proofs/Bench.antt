@@ -2,7 +2,7 @@
 use mathlib.Core.Path.{_≡_, refl, sym, ap, subst, _∙_}
 use mathlib.Core.List.{[], _∷_, _++_, map, map-append}
 use mathlib.Core.Logic.{_≢_, _⊎_, inl, inr}
-use Prim.Native.Nat.{_+_, ℕ, zero, suc, _≤_, _<_}
+use Prim.Native.Nat.{_+_, ℕ, suc, _≤_, _<_}
 use native.Mathlib.Omega.{arith}
 use native.Mathlib.Decide.{decLt}
 use lib.ListN.{length, getD, drop, length-append, List·getD-append}
@@ -10,10 +10,9 @@ use lib.Seq.{drop-append-seam, drop-append-le, getD-append-seam}
 use Rattle.image.specs.declared.Content.{Content}
 use Rattle.tied.specs.Memory as memory
 use Rattle.image.specs.Form.{topOf}
-use Rattle.machine.specs.Line.{cachedAt, persistedAt}
+use Rattle.machine.specs.Line.{shapeOf, cachedAt, persistedAt}
 use Rattle.machine.specs.Start.{blankMachine}
 use Rattle.machine.specs.declared.Machine.{Machine}
-use Rattle.image.proofs.HeadLaws.{one-head}
 use Rattle.machine.proofs.LineLaws as lines
 use Rattle.machine.proofs.LineLaws.{LineIn}
 use Rattle.schedule.specs.Run as run
@@ -34,35 +33,31 @@ use Rattle.model.proofs.Always.Runs.{Kept}
 use Rattle.tied.specs.Always.{Among}
 use Rattle.tied.specs.Shown.{shownContent, lineShown}
 use Rattle.tied.proofs.Relation.{Tied}
-use Rattle.tied.proofs.Changes.{count-n}
+use Rattle.tied.proofs.Changes.{same-shape}
 use Rattle.tied.proofs.Stepping.{keeps, Touches}
 use Rattle.tied.proofs.Past.{PastT, pastOn}
 use Rattle.tied.proofs.Contents.{gathered-snoc, Small, joins-old}
 
 -- ---- a line of the record and of the core
 
-pub shown-cached : (p : memory.Line → Content) (m : Machine) (c : Core) → Tied p m c → (l : memory.Line) → LineIn (m .n) l → content c (lineShown l) ≡ shownContent (cachedAt m l)
-shown-cached p m c d (memory.ofHead zero) h = ap (λ z. hd (lineIx (z .engine) (c .hidx) (c .marks) 0)) (d .conf) ∙ ap hd (d .hidx)
-shown-cached p m c d (memory.ofHead (suc k)) h = absurd (omega (arith, one-head (m .n)))
+pub shown-cached : (p : memory.Line → Content) (m : Machine) (c : Core) → Tied p m c → (l : memory.Line) → LineIn (shapeOf m) l → content c (lineShown l) ≡ shownContent (cachedAt m l)
+shown-cached p m c d (memory.ofHead k) h = ap (λ z. hd (lineIx (z .engine) (c .hidx) (c .marks) k)) (d .conf) ∙ ap hd (d .heads k h)
 shown-cached p m c d (memory.ofNode i) h = d .nodes .at i h .content
 
 -- the largest index is the form's
 pub top-is : (p : memory.Line → Content) (m : Machine) (c : Core) → Tied p m c → c .conf .top ≡ topOf (m .form)
 top-is p m c d = ap (λ z. z .top) (d .conf)
 
-pub cached-flag : (p : memory.Line → Content) (m : Machine) (c : Core) → Tied p m c → (l : memory.Line) → LineIn (m .n) l → Small (c .conf .top) (cachedAt m l)
-cached-flag p m c d (memory.ofHead zero) h = (omega arith, omega (arith, d .narrow, top-is p m c d))
-cached-flag p m c d (memory.ofHead (suc k)) h = absurd (omega (arith, one-head (m .n)))
+pub cached-flag : (p : memory.Line → Content) (m : Machine) (c : Core) → Tied p m c → (l : memory.Line) → LineIn (shapeOf m) l → Small (c .conf .top) (cachedAt m l)
+cached-flag p m c d (memory.ofHead k) h = (omega arith, omega (arith, d .narrow k h, top-is p m c d))
 cached-flag p m c d (memory.ofNode i) h = (d .nodes .at i h .flag, omega (arith, d .nodes .at i h .narrow, top-is p m c d))
 
-pub kept-is : (p : memory.Line → Content) (m : Machine) (c : Core) → Tied p m c → (l : memory.Line) → LineIn (m .n) l → persistedAt m l ≡ p l
-kept-is p m c d (memory.ofHead zero) h = sym (d .kept .head)
-kept-is p m c d (memory.ofHead (suc k)) h = absurd (omega (arith, one-head (m .n)))
+pub kept-is : (p : memory.Line → Content) (m : Machine) (c : Core) → Tied p m c → (l : memory.Line) → LineIn (shapeOf m) l → persistedAt m l ≡ p l
+kept-is p m c d (memory.ofHead k) h = sym (d .kept .head k h)
 kept-is p m c d (memory.ofNode i) h = sym (d .kept .at i h)
 
-pub kept-flag : (p : memory.Line → Content) (m : Machine) (c : Core) → Tied p m c → (l : memory.Line) → LineIn (m .n) l → Small (c .conf .top) (persistedAt m l)
-kept-flag p m c d (memory.ofHead zero) h = (omega arith, omega (arith, subst (λ z. z .index ≤ topOf (m .form)) (d .kept .head) (d .kept .narrow-head), top-is p m c d))
-kept-flag p m c d (memory.ofHead (suc k)) h = absurd (omega (arith, one-head (m .n)))
+pub kept-flag : (p : memory.Line → Content) (m : Machine) (c : Core) → Tied p m c → (l : memory.Line) → LineIn (shapeOf m) l → Small (c .conf .top) (persistedAt m l)
+kept-flag p m c d (memory.ofHead k) h = (omega arith, omega (arith, subst (λ z. z .index ≤ topOf (m .form)) (d .kept .head k h) (d .kept .narrow-head k h), top-is p m c d))
 kept-flag p m c d (memory.ofNode i) h = subst (Small (c .conf .top)) (d .kept .at i h) (d .kept .flag i h, omega (arith, d .kept .narrow i h, top-is p m c d))
 
 -- any account of the persisted copies that is right may stand in
@@ -72,9 +67,9 @@ own-kept p m c d = record {
   last = d .last;
   sizes = d .sizes;
   hnode = d .hnode;
-  hidx = d .hidx;
-  narrow = d .narrow;
   heads = d .heads;
+  narrow = d .narrow;
+  eight = d .eight;
   tail = d .tail;
   nodes = d .nodes;
   free = d .free;
@@ -82,10 +77,10 @@ own-kept p m c d = record {
   kept = record {
     size = d .kept .size;
     heads = d .kept .heads;
-    head = refl;
+    head = λ k h. refl;
     at = λ i h. refl;
     flag = λ i h. kept-flag p m c d (memory.ofNode i) h .0;
-    narrow-head = subst (λ z. z .index ≤ topOf (m .form)) (d .kept .head) (d .kept .narrow-head);
+    narrow-head = λ k h. subst (λ z. z .index ≤ topOf (m .form)) (d .kept .head k h) (d .kept .narrow-head k h);
     narrow = λ i h. omega (arith, kept-flag p m c d (memory.ofNode i) h .1, top-is p m c d);
   };
 }
@@ -122,12 +117,12 @@ FromT k i = (k ≡ suc i) ⊎ ((k ≡ 0) × (i ≡ 0))
 
 -- each content of a line is one of the abstract machine's, what is persisted is the same; and the moments from which they count
 pub record ListsT (b : run.Bench) (B : M) : Type 0 where
-  pub lists : (l : memory.Line) → LineIn (b .machine .n) l → (a : Content) → Among a (contentsOf b l) → Small (B .core .conf .top) a × Has B (lineShown l) (shownContent a)
-  pub kept : (l : memory.Line) → LineIn (b .machine .n) l → B .past (lineShown l) (B .from (lineShown l)) ≡ shownContent (persistedAt (b .machine) l)
+  pub lists : (l : memory.Line) → LineIn (shapeOf (b .machine)) l → (a : Content) → Among a (contentsOf b l) → Small (B .core .conf .top) a × Has B (lineShown l) (shownContent a)
+  pub kept : (l : memory.Line) → LineIn (shapeOf (b .machine)) l → B .past (lineShown l) (B .from (lineShown l)) ≡ shownContent (persistedAt (b .machine) l)
   pub now : B .now ≡ length (b .past)
-  pub times : (l : memory.Line) → LineIn (b .machine .n) l → (i : ℕ) → i < length (b .past)
+  pub times : (l : memory.Line) → LineIn (shapeOf (b .machine)) l → (i : ℕ) → i < length (b .past)
       → B .past (lineShown l) (suc i) ≡ shownContent (cachedAt (getD (b .past) i blankMachine) l)
-  pub from : (l : memory.Line) → LineIn (b .machine .n) l → FromT (B .from (lineShown l)) (b .from l)
+  pub from : (l : memory.Line) → LineIn (shapeOf (b .machine)) l → FromT (B .from (lineShown l)) (b .from l)
   pub early : (l : memory.Line) → b .from l ≤ length (b .past)
 
 pub record BenchT (b : run.Bench) (B : Bench) : Type 0 where
@@ -139,22 +134,22 @@ pub record BenchT (b : run.Bench) (B : Bench) : Type 0 where
 module _ (b : run.Bench) (B : M) (c′ : Core) (m′ : Machine) (w : memory.Touch) (k : Touch) (r : ListsT b B) (i : Timed B)
     (d : Tied (persistedAt (b .machine)) (b .machine) (B .core)) (d′ : Tied (keeps w (b .machine) (persistedAt (b .machine))) m′ c′)
     (shape : c′ .conf ≡ B .core .conf) (frame : (l : Line) → k ≢ stores l → content c′ l ≡ content (B .core) l) (t : Touches w k) where
-  same-n : m′ .n ≡ b .machine .n
-  same-n = sym (count-n _ m′ c′ d′) ∙ ap (λ z. z .nodes) shape ∙ count-n _ (b .machine) (B .core) d
+  same-z : shapeOf m′ ≡ shapeOf (b .machine)
+  same-z = same-shape _ _ (b .machine) m′ (B .core) c′ d d′ shape
 
   -- what is to be shown of a line
   abbrev Line-at : memory.Line → Type 0
   Line-at l = ((a : Content) → Among a (contentsOf (goesOn b m′ w) l) → Small (c′ .conf .top) a × Has (model.goesOn B c′ k) (lineShown l) (shownContent a))
       × (model.goesOn B c′ k .past (lineShown l) (model.goesOn B c′ k .from (lineShown l)) ≡ shownContent (persistedAt m′ l))
 
-  in-new : (l : memory.Line) → LineIn (b .machine .n) l → LineIn (m′ .n) l
-  in-new l h = subst (λ n. LineIn n l) (sym same-n) h
+  in-new : (l : memory.Line) → LineIn (shapeOf (b .machine)) l → LineIn (shapeOf m′) l
+  in-new l h = subst (λ z. LineIn z l) (sym same-z) h
 
-  present : (l : memory.Line) → LineIn (b .machine .n) l → Has (model.goesOn B c′ k) (lineShown l) (shownContent (cachedAt m′ l))
+  present : (l : memory.Line) → LineIn (shapeOf (b .machine)) l → Has (model.goesOn B c′ k) (lineShown l) (shownContent (cachedAt m′ l))
   present l h = subst (Has (model.goesOn B c′ k) (lineShown l)) (shown-cached _ m′ c′ d′ l (in-new l h)) (onHere B c′ i k (lineShown l))
 
   -- a line that is not persisted
-  grows : (l : memory.Line) → LineIn (b .machine .n) l → fromAfter w (length (b .past)) (b .from) l ≡ b .from l
+  grows : (l : memory.Line) → LineIn (shapeOf (b .machine)) l → fromAfter w (length (b .past)) (b .from) l ≡ b .from l
       → keeps w (b .machine) (persistedAt (b .machine)) l ≡ persistedAt (b .machine) l → abstract.fromAfter k (suc (B .now)) (B .mark) (B .from) (lineShown l) ≡ B .from (lineShown l)
       → Line-at l
   grows l h fr kp fm = (
@@ -170,7 +165,7 @@ module _ (b : run.Bench) (B : M) (c′ : Core) (m′ : Machine) (w : memory.Touc
       by a (inr e) = subst (λ a. Small (c′ .conf .top) a × Has (model.goesOn B c′ k) (lineShown l) (shownContent a)) (sym e) (cached-flag _ m′ c′ d′ l (in-new l h), present l h)
 
   -- the line that is persisted
-  persists : (j : memory.Line) → LineIn (b .machine .n) j → w ≡ memory.aPersist j → k ≡ flushes (lineShown j) → Line-at j
+  persists : (j : memory.Line) → LineIn (shapeOf (b .machine)) j → w ≡ memory.aPersist j → k ≡ flushes (lineShown j) → Line-at j
   persists j h ew ek = (
     λ a z. by a (joins-old (persistedAt m′ j ∷ []) (cachedAt m′ j) a (subst (Among a) new z)),
     subst (λ k. model.goesOn B c′ k .past (lineShown j) (model.goesOn B c′ k .from (lineShown j)) ≡ shownContent (persistedAt m′ j)) (sym ek)
@@ -194,7 +189,7 @@ module _ (b : run.Bench) (B : M) (c′ : Core) (m′ : Machine) (w : memory.Touc
       by a (inl (inr z)) = absurd z
       by a (inr e) = subst (λ a. Small (c′ .conf .top) a × Has (model.goesOn B c′ k) (lineShown j) (shownContent a)) (sym e) (cached-flag _ m′ c′ d′ j (in-new j h), present j h)
 
-  line-by : (w₀ : memory.Touch) (k₀ : Touch) → w ≡ w₀ → k ≡ k₀ → Touches w₀ k₀ → (l : memory.Line) → LineIn (b .machine .n) l → Line-at l
+  line-by : (w₀ : memory.Touch) (k₀ : Touch) → w ≡ w₀ → k ≡ k₀ → Touches w₀ k₀ → (l : memory.Line) → LineIn (shapeOf (b .machine)) l → Line-at l
   line-by memory.nothing nowhere ew ek t l h = grows l h (ap (λ w. fromAfter w (length (b .past)) (b .from) l) ew)
       (ap (λ w. keeps w (b .machine) (persistedAt (b .machine)) l) ew) (ap (λ k. abstract.fromAfter k (suc (B .now)) (B .mark) (B .from) (lineShown l)) ek)
   line-by memory.nothing (stores L) ew ek t l h = absurd t
@@ -214,7 +209,7 @@ module _ (b : run.Bench) (B : M) (c′ : Core) (m′ : Machine) (w : memory.Touc
   line-by (memory.aPersist j) (flushes L) ew ek t l h = by (lines.line-eq l j)
     where
       by : Dec (l ≡ j) → Line-at l
-      by (yes e) = subst Line-at (sym e) (persists j (subst (LineIn (b .machine .n)) e h) ew (ek ∙ ap flushes t))
+      by (yes e) = subst Line-at (sym e) (persists j (subst (LineIn (shapeOf (b .machine))) e h) ew (ek ∙ ap flushes t))
       by (no ne) = grows l h (ap (λ w. fromAfter w (length (b .past)) (b .from) l) ew ∙ lines.put-other (b .from) j (length (b .past)) l ne)
           (ap (λ w. keeps w (b .machine) (persistedAt (b .machine)) l) ew ∙ lines.put-other (persistedAt (b .machine)) j (cachedAt (b .machine) j) l ne)
           (ap (λ k. abstract.fromAfter k (suc (B .now)) (B .mark) (B .from) (lineShown l)) ek ∙ updL-other (B .from) L (suc (B .now)) (λ e. ne (line-one l j (e ∙ t))))
@@ -231,7 +226,7 @@ module _ (b : run.Bench) (B : M) (c′ : Core) (m′ : Machine) (w : memory.Touc
       one : suc (length (b .past)) ≡ length (b .past) + 1
       one = omega arith
 
-  times-on : (l : memory.Line) → LineIn (b .machine .n) l → (i : ℕ) → i < length (b .past ++ (m′ ∷ []))
+  times-on : (l : memory.Line) → LineIn (shapeOf (b .machine)) l → (i : ℕ) → i < length (b .past ++ (m′ ∷ []))
       → model.goesOn B c′ k .past (lineShown l) (suc i) ≡ shownContent (cachedAt (getD (b .past ++ (m′ ∷ [])) i blankMachine) l)
   times-on l h i z = by (decLt i (length (b .past)))
     where
@@ -244,7 +239,7 @@ module _ (b : run.Bench) (B : M) (c′ : Core) (m′ : Machine) (w : memory.Touc
           ∙ shown-cached _ m′ c′ d′ l (in-new l h)
           ∙ ap (λ a. shownContent (cachedAt a l)) (sym (ap (λ j. getD (b .past ++ (m′ ∷ [])) j blankMachine) e ∙ getD-append-seam (b .past) m′ [] blankMachine))
 
-  from-on : (w₀ : memory.Touch) (k₀ : Touch) → Touches w₀ k₀ → (l : memory.Line) → LineIn (b .machine .n) l
+  from-on : (w₀ : memory.Touch) (k₀ : Touch) → Touches w₀ k₀ → (l : memory.Line) → LineIn (shapeOf (b .machine)) l
       → FromT (abstract.fromAfter k₀ (suc (B .now)) (B .mark) (B .from) (lineShown l)) (fromAfter w₀ (length (b .past)) (b .from) l)
   from-on memory.nothing nowhere t l h = r .from l h
   from-on memory.nothing (stores L) t l h = absurd t
@@ -271,14 +266,14 @@ module _ (b : run.Bench) (B : M) (c′ : Core) (m′ : Machine) (w : memory.Touc
   -- the lists after one more moment
   pub goesOnT : ListsT (goesOn b m′ w) (model.goesOn B c′ k)
   goesOnT = record {
-    lists = λ l h. line-by w k refl refl t l (subst (λ n. LineIn n l) same-n h) .0;
-    kept = λ l h. line-by w k refl refl t l (subst (λ n. LineIn n l) same-n h) .1;
+    lists = λ l h. line-by w k refl refl t l (subst (λ z. LineIn z l) same-z h) .0;
+    kept = λ l h. line-by w k refl refl t l (subst (λ z. LineIn z l) same-z h) .1;
     now = now-on;
-    times = λ l h. times-on l (subst (λ n. LineIn n l) same-n h);
-    from = λ l h. from-on w k t l (subst (λ n. LineIn n l) same-n h);
+    times = λ l h. times-on l (subst (λ z. LineIn z l) same-z h);
+    from = λ l h. from-on w k t l (subst (λ z. LineIn z l) same-z h);
     early = λ l. let e = early-by w l in omega (arith, length-append (b .past) (m′ ∷ []));
   }
 
   -- and what has been
   pub nextPast : PastT b → PastT (goesOn b m′ w)
-  nextPast q = pastOn b m′ w q same-n (λ l h. kept-is _ m′ c′ d′ l h)
+  nextPast q = pastOn b m′ w q same-z (λ l h. kept-is _ m′ c′ d′ l h)

@@ -9,14 +9,14 @@ use native.Mathlib.Omega.{arith}
 use native.Mathlib.Decide.{ℕ-discrete}
 use lib.Dec.{eqb}
 use lib.ListN.{getD, set, length-set}
-use lib.Seq.{getD-set-same}
+use lib.Seq.{getD-set-same, getD-set-other}
 use Rattle.lists.specs.Word.{has, with, without}
 use Rattle.image.specs.declared.Content.{Content}
 use Rattle.tied.specs.Memory as memory
-use Rattle.image.specs.Form.{topOf}
-use Rattle.machine.specs.Record.{node, thread, contentOf, withNext, putNode, putTail, putHead, putFree, putThread, headAt}
-use Rattle.machine.specs.Line.{putLine, cachedAt, persist, headContent}
-use Rattle.image.proofs.HeadLaws.{one-head}
+use Rattle.image.specs.Form.{topOf, perDesk, headLines}
+use Rattle.machine.specs.Record.{node, thread, contentOf, withNext, putNode, putTail, putHead, putHeadNode, putHeadAt, putFree, putThread, headAt}
+use Rattle.machine.specs.Line.{putLine, cachedAt, persist, headContent, shapeOf}
+use Rattle.image.proofs.HeadLaws.{lines-few}
 use Rattle.machine.proofs.LineLaws as lines
 use Rattle.machine.proofs.LineLaws.{LineIn}
 use Rattle.machine.specs.declared.Machine.{Machine}
@@ -25,10 +25,12 @@ use Rattle.machine.specs.declared.Thread.{Thread}
 use Rattle.model.specs.Basics.{upd}
 use Rattle.model.specs.Core as core
 use Rattle.model.specs.Core.{Core, Th}
-use Rattle.model.specs.Changes.{setTh, setNext, store, setHead, setTail, setFree}
+use Rattle.model.specs.Conf.{lineIx}
+use Rattle.model.specs.Changes.{setTh, setNext, store, setHead, setTail, setFree, setMark}
 use Rattle.model.proofs.Basics.{upd-at, upd-same, upd-other, upd-ind, eq-no}
-use Rattle.tied.specs.Shown.{shownContent, linkIf, linkOf, members, shownThread, confOf}
+use Rattle.tied.specs.Shown.{shownContent, linkIf, linkOf, members, shownThread, engineIf, confOf}
 use Rattle.tied.proofs.Words.{has-with, has-without, with-fits, without-fits}
+use Rattle.tied.proofs.Engines.{lines-shared, same-form}
 use Rattle.tied.proofs.Relation.{Link, NodeAt, NodesT, putNodes, FreeT, Regs, ThreadAt, ThreadsT, putThreads, KeptT, putKepts, Sizes, Tied}
 
 pub some-link : (n x : ℕ) → n ≤ 64 → x < n → linkOf x ≡ some x
@@ -54,21 +56,21 @@ withoutT n w f r i = record { bits = λ j l. by j l (ℕ-discrete j i); fits = w
 
 module _ (p : memory.Line → Content) (m : Machine) (c : Core) (d : Tied p m c) where
   -- a thread moves on
-  pub moveT : (k : ℕ) → k < m .t → (v : Thread) (s : Th) → ThreadAt (topOf (m .form)) (m .n) v s (c .held k) → Tied p (putThread m k v) (setTh c k s)
+  pub moveT : (k : ℕ) → k < m .t → (v : Thread) (s : Th) → ThreadAt (m .form) (m .n) v s (c .held k) → Tied p (putThread m k v) (setTh c k s)
   moveT k h v s a = record {
     conf = d .conf;
     last = d .last;
     sizes = d .sizes;
     hnode = d .hnode;
-    hidx = d .hidx;
-    narrow = d .narrow;
     heads = d .heads;
+    narrow = d .narrow;
+    eight = d .eight;
     tail = d .tail;
     nodes = d .nodes;
     free = d .free;
     kept = d .kept;
-    threads = putThreads (topOf (m .form)) (m .n) (m .t) (m .threads) (c .thr) (c .held) (d .threads) (d .sizes .threads-hi) k h v (upd (c .thr) k s) (c .held)
-        (subst (λ s. ThreadAt (topOf (m .form)) (m .n) v s (c .held k)) (sym (upd-same (c .thr) k s)) a) (λ j ne. upd-other (c .thr) k s ne) (λ j ne. refl);
+    threads = putThreads (m .form) (m .n) (m .t) (m .threads) (c .thr) (c .held) (d .threads) (d .sizes .threads-hi) k h v (upd (c .thr) k s) (c .held)
+        (subst (λ s. ThreadAt (m .form) (m .n) v s (c .held k)) (sym (upd-same (c .thr) k s)) a) (λ j ne. upd-other (c .thr) k s ne) (λ j ne. refl);
   }
 
   -- a node's content
@@ -79,9 +81,9 @@ module _ (p : memory.Line → Content) (m : Machine) (c : Core) (d : Tied p m c)
     last = d .last;
     sizes = d .sizes;
     hnode = d .hnode;
-    hidx = d .hidx;
-    narrow = d .narrow;
     heads = d .heads;
+    narrow = d .narrow;
+    eight = d .eight;
     tail = d .tail;
     free = d .free;
     threads = d .threads;
@@ -105,9 +107,9 @@ module _ (p : memory.Line → Content) (m : Machine) (c : Core) (d : Tied p m c)
     last = d .last;
     sizes = d .sizes;
     hnode = d .hnode;
-    hidx = d .hidx;
-    narrow = d .narrow;
     heads = d .heads;
+    narrow = d .narrow;
+    eight = d .eight;
     tail = d .tail;
     free = d .free;
     threads = d .threads;
@@ -130,9 +132,9 @@ module _ (p : memory.Line → Content) (m : Machine) (c : Core) (d : Tied p m c)
     last = d .last;
     sizes = d .sizes;
     hnode = d .hnode;
-    hidx = d .hidx;
-    narrow = d .narrow;
     heads = d .heads;
+    narrow = d .narrow;
+    eight = d .eight;
     tail = e;
     nodes = d .nodes;
     free = d .free;
@@ -140,15 +142,24 @@ module _ (p : memory.Line → Content) (m : Machine) (c : Core) (d : Tied p m c)
     kept = d .kept;
   }
 
-  pub headT : (x y : ℕ) (i j : ℕ) → y ≡ x → j ≡ i → i ≤ topOf (m .form) → Tied p (putHead m x i) (setHead c y j)
-  headT x y i j e f nr = record {
+  -- there are places for eight head lines
+  pub few-lines : headLines (shapeOf m) ≤ 8
+  few-lines = lines-few (shapeOf m) (d .sizes .threads-hi)
+
+  -- what the head lines show, by the engine
+  abbrev Shows : Bool → ℕ → (ℕ → ℕ) → List ℕ → Type 0
+  Shows b i f l = (k : ℕ) → k < headLines (shapeOf m) → lineIx (engineIf b) i f k ≡ getD l k 0
+
+  -- Head with its index, where it has one
+  pub headT : perDesk (m .form) ≡ false → (x y : ℕ) (i j : ℕ) → y ≡ x → j ≡ i → i ≤ topOf (m .form) → Tied p (putHead m x i) (setHead c y j)
+  headT one x y i j e f nr = record {
     conf = d .conf;
     last = d .last;
     sizes = d .sizes;
     hnode = e;
-    hidx = f ∙ sym stored;
-    narrow = subst (λ y. y ≤ topOf (m .form)) (sym stored) nr;
-    heads = length-set (m .heads) 0 i ∙ d .heads;
+    heads = subst (λ b. Shows b j (c .marks) (set (m .heads) 0 i)) (sym one) shows;
+    narrow = λ k h. subst (λ y. y ≤ topOf (m .form)) (sym (at k h)) nr;
+    eight = length-set (m .heads) 0 i ∙ d .eight;
     tail = d .tail;
     nodes = d .nodes;
     free = d .free;
@@ -156,8 +167,60 @@ module _ (p : memory.Line → Content) (m : Machine) (c : Core) (d : Tied p m c)
     kept = d .kept;
   }
     where
-      stored : getD (set (m .heads) 0 i) 0 0 ≡ i
-      stored = getD-set-same (m .heads) 0 i 0 (omega (arith, d .heads))
+      first : (k : ℕ) → k < headLines (shapeOf m) → k ≡ 0
+      first k h = omega (arith, lines-shared (shapeOf m) (d .sizes .form) one)
+
+      at : (k : ℕ) → k < headLines (shapeOf m) → getD (set (m .heads) 0 i) k 0 ≡ i
+      at k h = ap (λ k. getD (set (m .heads) 0 i) k 0) (first k h) ∙ getD-set-same (m .heads) 0 i 0 (omega (arith, d .eight))
+
+      shows : Shows false j (c .marks) (set (m .heads) 0 i)
+      shows zero h = f ∙ sym (at 0 h)
+      shows (suc k) h = absurd (omega (arith, first (suc k) h))
+
+  -- Head as a node number alone
+  pub headNodeT : perDesk (m .form) ≡ true → (x y : ℕ) (j : ℕ) → y ≡ x → Tied p (putHeadNode m x) (setHead c y j)
+  headNodeT each x y j e = record {
+    conf = d .conf;
+    last = d .last;
+    sizes = d .sizes;
+    hnode = e;
+    heads = subst (λ b. Shows b j (c .marks) (m .heads)) (sym each) (λ k h. subst (λ b. Shows b (c .hidx) (c .marks) (m .heads)) each (d .heads) k h);
+    narrow = d .narrow;
+    eight = d .eight;
+    tail = d .tail;
+    nodes = d .nodes;
+    free = d .free;
+    threads = d .threads;
+    kept = d .kept;
+  }
+
+  -- a thread stores an index in its line
+  pub markT : perDesk (m .form) ≡ true → (k : ℕ) → k < m .t → (i j : ℕ) → j ≡ i → i ≤ topOf (m .form) → Tied p (putHeadAt m k i) (setMark c k j)
+  markT each k hk i j f nr = record {
+    conf = d .conf;
+    last = d .last;
+    sizes = d .sizes;
+    hnode = d .hnode;
+    heads = subst (λ b. Shows b (c .hidx) (upd (c .marks) k j) (set (m .heads) k i)) (sym each) (λ u h. shows u h (ℕ-discrete u k));
+    narrow = λ u h. low u h (ℕ-discrete u k);
+    eight = length-set (m .heads) k i ∙ d .eight;
+    tail = d .tail;
+    nodes = d .nodes;
+    free = d .free;
+    threads = d .threads;
+    kept = d .kept;
+  }
+    where
+      stored : (u : ℕ) → u ≡ k → getD (set (m .heads) k i) u 0 ≡ i
+      stored u e = ap (λ u. getD (set (m .heads) k i) u 0) e ∙ getD-set-same (m .heads) k i 0 (omega (arith, d .eight, d .sizes .threads-hi))
+
+      shows : (u : ℕ) → u < headLines (shapeOf m) → Dec (u ≡ k) → upd (c .marks) k j u ≡ getD (set (m .heads) k i) u 0
+      shows u h (yes e) = upd-at (c .marks) k j e ∙ f ∙ sym (stored u e)
+      shows u h (no ne) = upd-other (c .marks) k j ne ∙ subst (λ b. Shows b (c .hidx) (c .marks) (m .heads)) each (d .heads) u h ∙ sym (getD-set-other (m .heads) k u i 0 ne)
+
+      low : (u : ℕ) → u < headLines (shapeOf m) → Dec (u ≡ k) → getD (set (m .heads) k i) u 0 ≤ topOf (m .form)
+      low u h (yes e) = subst (λ y. y ≤ topOf (m .form)) (sym (stored u e)) nr
+      low u h (no ne) = subst (λ y. y ≤ topOf (m .form)) (sym (getD-set-other (m .heads) k u i 0 ne)) (d .narrow u h)
 
   -- the free set, and what waits: the same below N
   pub freeT : (w : ℕ) (f : ℕ → Bool) → FreeT (m .n) w f → Tied p (putFree m w) (setFree c f (c .wait))
@@ -166,9 +229,9 @@ module _ (p : memory.Line → Content) (m : Machine) (c : Core) (d : Tied p m c)
     last = d .last;
     sizes = d .sizes;
     hnode = d .hnode;
-    hidx = d .hidx;
-    narrow = d .narrow;
     heads = d .heads;
+    narrow = d .narrow;
+    eight = d .eight;
     tail = d .tail;
     nodes = d .nodes;
     free = r;
@@ -182,9 +245,9 @@ module _ (p : memory.Line → Content) (m : Machine) (c : Core) (d : Tied p m c)
     last = d .last;
     sizes = d .sizes;
     hnode = d .hnode;
-    hidx = d .hidx;
-    narrow = d .narrow;
     heads = d .heads;
+    narrow = d .narrow;
+    eight = d .eight;
     tail = d .tail;
     nodes = record { size = d .nodes .size; at = λ j h. subst (NodeAt (topOf (m .form)) (m .n) (m .t) (node m j) (c .node j) (c .next j)) (sym (ew j h)) (d .nodes .at j h) };
     free = record { bits = λ j h. ef j h ∙ d .free .bits j h; fits = d .free .fits };
@@ -193,46 +256,53 @@ module _ (p : memory.Line → Content) (m : Machine) (c : Core) (d : Tied p m c)
   }
 
   -- a line is persisted
-  pub persistT : (l : memory.Line) → LineIn (m .n) l → Tied (putLine p l (cachedAt m l)) (persist m l) c
-  persistT (memory.ofHead zero) h = record {
+  pub persistT : (l : memory.Line) → LineIn (shapeOf m) l → Tied (putLine p l (cachedAt m l)) (persist m l) c
+  persistT (memory.ofHead k) h = record {
     conf = d .conf;
     last = d .last;
     sizes = d .sizes;
     hnode = d .hnode;
-    hidx = d .hidx;
-    narrow = d .narrow;
     heads = d .heads;
+    narrow = d .narrow;
+    eight = d .eight;
     tail = d .tail;
     nodes = d .nodes;
     free = d .free;
     threads = d .threads;
     kept = record {
       size = d .kept .size;
-      heads = length-set (m .«kept_heads») 0 (headAt m 0) ∙ d .kept .heads;
-      head = lines.put-same p (memory.ofHead 0) (headContent (headAt m 0)) ∙ ap headContent (sym (getD-set-same (m .«kept_heads») 0 (headAt m 0) 0 (omega (arith, d .kept .heads))));
+      heads = length-set (m .«kept_heads») k (headAt m k) ∙ d .kept .heads;
+      head = λ u hu. one u hu (ℕ-discrete u k);
       at = λ i l. other i ∙ d .kept .at i l;
       flag = λ i l. subst (λ y. y .linked ≤ 1) (sym (other i)) (d .kept .flag i l);
-      narrow-head = subst (λ y. y .index ≤ topOf (m .form)) (sym (lines.put-same p (memory.ofHead 0) (headContent (headAt m 0)))) (d .narrow);
+      narrow-head = λ u hu. lines.put-ind p (memory.ofHead k) (headContent (headAt m k)) (λ k c. c .index ≤ topOf (m .form)) (memory.ofHead u) (d .narrow k h) (λ ne. d .kept .narrow-head u hu);
       narrow = λ i l. subst (λ y. y .index ≤ topOf (m .form)) (sym (other i)) (d .kept .narrow i l);
     };
   }
     where
-      other : (i : ℕ) → putLine p (memory.ofHead 0) (headContent (headAt m 0)) (memory.ofNode i) ≡ p (memory.ofNode i)
-      other i = lines.put-other p (memory.ofHead 0) (headContent (headAt m 0)) (memory.ofNode i) (λ e. lines.head-not-node 0 i (sym e))
-  persistT (memory.ofHead (suc k)) h = absurd (omega (arith, one-head (m .n)))
+      other : (i : ℕ) → putLine p (memory.ofHead k) (headContent (headAt m k)) (memory.ofNode i) ≡ p (memory.ofNode i)
+      other i = lines.put-other p (memory.ofHead k) (headContent (headAt m k)) (memory.ofNode i) (λ e. lines.head-not-node k i (sym e))
+
+      one : (u : ℕ) → u < headLines (shapeOf m) → Dec (u ≡ k)
+          → putLine p (memory.ofHead k) (headContent (headAt m k)) (memory.ofHead u) ≡ headContent (getD (set (m .«kept_heads») k (headAt m k)) u 0)
+      one u hu (yes e) = lines.put-at p (memory.ofHead k) (headContent (headAt m k)) (memory.ofHead u) (ap memory.ofHead e)
+          ∙ ap headContent (sym (ap (λ u. getD (set (m .«kept_heads») k (headAt m k)) u 0) e
+          ∙ getD-set-same (m .«kept_heads») k (headAt m k) 0 (omega (arith, d .kept .heads, few-lines))))
+      one u hu (no ne) = lines.put-other p (memory.ofHead k) (headContent (headAt m k)) (memory.ofHead u) (λ q. ne (let w : u ≡ k = cc in w))
+          ∙ d .kept .head u hu ∙ ap headContent (sym (getD-set-other (m .«kept_heads») k u (headAt m k) 0 ne))
   persistT (memory.ofNode i) h = record {
     conf = d .conf;
     last = d .last;
     sizes = d .sizes;
     hnode = d .hnode;
-    hidx = d .hidx;
-    narrow = d .narrow;
     heads = d .heads;
+    narrow = d .narrow;
+    eight = d .eight;
     tail = d .tail;
     nodes = d .nodes;
     free = d .free;
     threads = d .threads;
-    kept = putKepts (topOf (m .form)) (m .n) p (m .«kept_heads») (m .kept) (d .kept) (d .sizes .nodes-hi) i h (contentOf (node m i)) (d .nodes .at i h .flag) (d .nodes .at i h .narrow);
+    kept = putKepts (topOf (m .form)) (headLines (shapeOf m)) (m .n) p (m .«kept_heads») (m .kept) (d .kept) (d .sizes .nodes-hi) i h (contentOf (node m i)) (d .nodes .at i h .flag) (d .nodes .at i h .narrow);
   }
 
   -- the shape
@@ -241,3 +311,11 @@ module _ (p : memory.Line → Content) (m : Machine) (c : Core) (d : Tied p m c)
 
   pub count-t : c .conf .threads ≡ m .t
   count-t = ap (λ z. z .threads) (d .conf)
+
+-- records that are tied to cores of one shape have one shape
+pub same-shape : (p q : memory.Line → Content) (m u : Machine) (c e : Core) → Tied p m c → Tied q u e → e .conf ≡ c .conf → shapeOf u ≡ shapeOf m
+same-shape p q m u c e d k h =
+    let f = same-form (u .form) (m .form) (u .n) (m .n) (u .t) (m .t) (k .sizes .form) (d .sizes .form) (sym (k .conf) ∙ h ∙ d .conf) in
+    let n : u .n ≡ m .n = sym (count-n q u e k) ∙ ap (λ z. z .nodes) h ∙ count-n p m c d in
+    let t : u .t ≡ m .t = sym (count-t q u e k) ∙ ap (λ z. z .threads) h ∙ count-t p m c d in
+    rw (f, n, t)

@@ -34,10 +34,10 @@ use Rattle.model.specs.Steps.{step, stepA1, stepA6, stepA7, stepA8, stepA10, st
 use Rattle.model.specs.Always.{ThIn, InRange}
 use Rattle.model.proofs.Basics.{le-true, not-le, true→eq, eq-no, yes-of}
 use Rattle.tied.specs.Shown.{linkIf, linkOf, threadOf, shownThread}
-use Rattle.tied.proofs.Relation.{Link, Regs, ThreadAt, FreeT, Tied}
+use Rattle.tied.proofs.Relation.{Link, step-in, Regs, ThreadAt, FreeT, Tied}
 use Rattle.tied.proofs.Changes.{some-link, withT, withoutT, moveT, storeT, linkT, tailT, freeT, persistT, count-n}
 use Rattle.tied.proofs.Searches.{low-in, round-same, round-link}
-use Rattle.tied.proofs.Stepping.{StepT, link-in, link-is, lastT, regs-of, goes-on, leavesT, used, mode-is}
+use Rattle.tied.proofs.Stepping.{StepT, link-in, link-is, lastT, regs-of, seen, own-seen, goes-on, leavesT, used, mode-is}
 
 module _ (p : memory.Line → Content) (m : Machine) (c : Core) (d : Tied p m c) (r : InRange c) (k : ℕ) (hk : k < m .t) where
   last-in : m .last < m .n
@@ -65,18 +65,20 @@ module _ (p : memory.Line → Content) (m : Machine) (c : Core) (d : Tied p m c)
         (lastT p (putFree m (without (m .free) (nextFree m))) _ (freeT p m c d (without (m .free) (nextFree m)) (upd (c .free) (nextFree m) false) (withoutT (m .n) (m .free) (c .free) (d .free) (nextFree m))) (nextFree m))
         k hk (atStep (ownNode (thread m k) (nextFree m)) 2) (a2 (thread m k .item) (nextFree m))
         (record {
+          seen = seen p m c d k hk;
+          own = own-seen p m c d k hk;
           stage = refl;
           holds = d .threads .at k hk .holds;
-          regs = let g = regs-of p m c d k hk in record { step = omega arith; node = inl (next-in e); tail = g .tail; head = g .head; next = g .next; held = g .held; index = g .index };
+          regs = let g = regs-of p m c d k hk in record { step = step-in (m .form) _ (omega arith); node = inl (next-in e); tail = g .tail; head = g .head; next = g .next; held = g .held; index = g .index };
         });
     says = refl;
     touch = tt;
   }
 
-  pub sA1 : stage m k ≡ A1 → StepT p m (stepped m k A1) (step c k (threadOf A1 (thread m k)))
+  pub sA1 : stage m k ≡ A1 → StepT p m (stepped m k A1) (step c k (threadOf A1 (thread m k) (seen p m c d k hk)))
   sA1 e = subst (λ o. StepT p m (stepped m k A1) (stepA1 c k (thread m k .item) o)) (sym (chosen (eqb (m .free) 0) refl)) (eA1 (eqb (m .free) 0) refl)
 
-  pub sA2 : stage m k ≡ A2 → StepT p m (stepped m k A2) (step c k (threadOf A2 (thread m k)))
+  pub sA2 : stage m k ≡ A2 → StepT p m (stepped m k A2) (step c k (threadOf A2 (thread m k) (seen p m c d k hk)))
   sA2 e = let h = used p m c d k hk r A2 e in let a = d .nodes .at (thread m k .node) h in record {
     tied = moveT p _ _ (storeT p m c d (thread m k .node) h (rec.withItem (node m (thread m k .node)) (thread m k .item)) (core.withItem (c .node (thread m k .node)) (thread m k .item))
         (ap (λ z. core.withItem z (thread m k .item)) (a .content)) refl refl (a .flag) (a .narrow))
@@ -85,14 +87,14 @@ module _ (p : memory.Line → Content) (m : Machine) (c : Core) (d : Tied p m c)
     touch = refl;
   }
 
-  pub sA3 : stage m k ≡ A3 → StepT p m (stepped m k A3) (step c k (threadOf A3 (thread m k)))
+  pub sA3 : stage m k ≡ A3 → StepT p m (stepped m k A3) (step c k (threadOf A3 (thread m k) (seen p m c d k hk)))
   sA3 e = let h = used p m c d k hk r A3 e in record {
     tied = moveT p _ _ (linkT p m c d (thread m k .node) h 255 none refl (inr refl)) k hk (atStep (thread m k) 4) _ (goes-on p m c d k hk 4 _ (omega arith) refl);
     says = refl;
     touch = tt;
   }
 
-  pub sA4 : stage m k ≡ A4 → StepT p m (stepped m k A4) (step c k (threadOf A4 (thread m k)))
+  pub sA4 : stage m k ≡ A4 → StepT p m (stepped m k A4) (step c k (threadOf A4 (thread m k) (seen p m c d k hk)))
   sA4 e = let h = used p m c d k hk r A4 e in let a = d .nodes .at (thread m k .node) h in record {
     tied = moveT p _ _ (storeT p m c d (thread m k .node) h (rec.withLinked (node m (thread m k .node)) 0) (core.withLinked (c .node (thread m k .node)) false)
         (ap (λ z. core.withLinked z false) (a .content)) refl refl (omega arith) (a .narrow))
@@ -101,13 +103,15 @@ module _ (p : memory.Line → Content) (m : Machine) (c : Core) (d : Tied p m c)
     touch = refl;
   }
 
-  pub sA5 : stage m k ≡ A5 → StepT p m (stepped m k A5) (step c k (threadOf A5 (thread m k)))
+  pub sA5 : stage m k ≡ A5 → StepT p m (stepped m k A5) (step c k (threadOf A5 (thread m k) (seen p m c d k hk)))
   sA5 e = record {
     tied = moveT p m c d k hk (atStep (readTail (thread m k) (m .tail)) 6) (a6 (thread m k .item) (thread m k .node) (c .tail))
         (record {
+          seen = seen p m c d k hk;
+          own = own-seen p m c d k hk;
           stage = ap (a6 (thread m k .item) (thread m k .node)) (d .tail);
           holds = d .threads .at k hk .holds;
-          regs = let g = regs-of p m c d k hk in record { step = omega arith; node = g .node; tail = inl (omega (arith, r .tail, d .tail, count-n p m c d)); head = g .head; next = g .next; held = g .held; index = g .index };
+          regs = let g = regs-of p m c d k hk in record { step = step-in (m .form) _ (omega arith); node = g .node; tail = inl (omega (arith, r .tail, d .tail, count-n p m c d)); head = g .head; next = g .next; held = g .held; index = g .index };
         });
     says = refl;
     touch = tt;
@@ -117,7 +121,7 @@ module _ (p : memory.Line → Content) (m : Machine) (c : Core) (d : Tied p m c)
   eA6 true = record { tied = moveT p m c d k hk (atStep (thread m k) 7) _ (goes-on p m c d k hk 7 _ (omega arith) refl); says = refl; touch = tt }
   eA6 false = record { tied = moveT p m c d k hk (atStep (thread m k) 12) _ (goes-on p m c d k hk 12 _ (omega arith) refl); says = refl; touch = tt }
 
-  pub sA6 : stage m k ≡ A6 → StepT p m (stepped m k A6) (step c k (threadOf A6 (thread m k)))
+  pub sA6 : stage m k ≡ A6 → StepT p m (stepped m k A6) (step c k (threadOf A6 (thread m k) (seen p m c d k hk)))
   sA6 e = let h = used p m c d k hk r A6 e in
       subst (λ o. StepT p m (stepped m k A6) (stepA6 c k (thread m k .item) (thread m k .node) (thread m k .tail) o)) (sym (d .nodes .at (thread m k .tail) (h .1) .link))
       (eA6 (eqb (node m (thread m k .tail) .next) 255))
@@ -147,7 +151,7 @@ module _ (p : memory.Line → Content) (m : Machine) (c : Core) (d : Tied p m c)
       low : (i : ℕ) → leb (topOf (m .form)) i ≡ false → i + 1 ≤ topOf (m .form)
       low i e = omega (arith, leb-false (topOf (m .form)) i e)
 
-  pub sA7 : stage m k ≡ A7 → StepT p m (stepped m k A7) (step c k (threadOf A7 (thread m k)))
+  pub sA7 : stage m k ≡ A7 → StepT p m (stepped m k A7) (step c k (threadOf A7 (thread m k) (seen p m c d k hk)))
   sA7 e = let h = used p m c d k hk r A7 e in let x = d .nodes .at (thread m k .tail) (h .1) in
       subst (λ b. StepT p m (stepped m k A7) (stepA7 c k (thread m k .item) (thread m k .node) (thread m k .tail) b))
       (sym (ap (λ z. leb (z .top) (c .node (thread m k .tail) .index)) (d .conf) ∙ ap (λ z. leb (topOf (m .form)) (z .index)) (x .content)))
@@ -164,12 +168,12 @@ module _ (p : memory.Line → Content) (m : Machine) (c : Core) (d : Tied p m c)
   }
   eA8 h g false = record { tied = moveT p m c d k hk (atStep (thread m k) 12) _ (goes-on p m c d k hk 12 _ (omega arith) refl); says = refl; touch = tt }
 
-  pub sA8 : stage m k ≡ A8 → StepT p m (stepped m k A8) (step c k (threadOf A8 (thread m k)))
+  pub sA8 : stage m k ≡ A8 → StepT p m (stepped m k A8) (step c k (threadOf A8 (thread m k) (seen p m c d k hk)))
   sA8 e = let h = used p m c d k hk r A8 e in
       subst (λ o. StepT p m (stepped m k A8) (stepA8 c k (thread m k .item) (thread m k .node) (thread m k .tail) o)) (sym (d .nodes .at (thread m k .tail) (h .1) .link))
       (eA8 (h .0) (h .1) (eqb (node m (thread m k .tail) .next) 255))
 
-  pub sA9 : stage m k ≡ A9 → StepT p m (stepped m k A9) (step c k (threadOf A9 (thread m k)))
+  pub sA9 : stage m k ≡ A9 → StepT p m (stepped m k A9) (step c k (threadOf A9 (thread m k) (seen p m c d k hk)))
   sA9 e = let h = used p m c d k hk r A9 e in let a = d .nodes .at (thread m k .node) (h .0) in record {
     tied = moveT p _ _ (storeT p m c d (thread m k .node) (h .0) (rec.withLinked (node m (thread m k .node)) 1) (core.withLinked (c .node (thread m k .node)) true)
         (ap (λ z. core.withLinked z true) (a .content)) refl refl (omega arith) (a .narrow))
@@ -178,7 +182,7 @@ module _ (p : memory.Line → Content) (m : Machine) (c : Core) (d : Tied p m c)
     touch = refl;
   }
 
-  pub sA10 : stage m k ≡ A10 → StepT p m (stepped m k A10) (step c k (threadOf A10 (thread m k)))
+  pub sA10 : stage m k ≡ A10 → StepT p m (stepped m k A10) (step c k (threadOf A10 (thread m k) (seen p m c d k hk)))
   sA10 e = let h = used p m c d k hk r A10 e in
       subst (λ o. StepT p m (stepped m k A10) (stepA10 c k (thread m k .item) (thread m k .node) (thread m k .tail) o))
       (sym (mode-is p m c d k hk)) record {
@@ -191,7 +195,7 @@ module _ (p : memory.Line → Content) (m : Machine) (c : Core) (d : Tied p m c)
   eA11 true = record { tied = leavesT p _ _ (tailT p m c d (thread m k .node) (thread m k .node) refl) k hk; says = refl; touch = tt }
   eA11 false = record { tied = leavesT p m c d k hk; says = refl; touch = tt }
 
-  pub sA11 : stage m k ≡ A11 → StepT p m (stepped m k A11) (step c k (threadOf A11 (thread m k)))
+  pub sA11 : stage m k ≡ A11 → StepT p m (stepped m k A11) (step c k (threadOf A11 (thread m k) (seen p m c d k hk)))
   sA11 e = subst (λ x. StepT p m (stepped m k A11) (stepA11 c k (thread m k .node) (eqb x (thread m k .tail)))) (sym (d .tail)) (eA11 (eqb (m .tail) (thread m k .tail)))
 
   eA12 : (b : Bool) → eqb (node m (thread m k .tail) .next) 255 ≡ false
@@ -203,10 +207,10 @@ module _ (p : memory.Line → Content) (m : Machine) (c : Core) (d : Tied p m c)
   }
   eA12 false e = record { tied = moveT p m c d k hk (atStep (thread m k) 5) _ (goes-on p m c d k hk 5 _ (omega arith) refl); says = refl; touch = tt }
 
-  pub sA12 : stage m k ≡ A12 → StepT p m (stepped m k A12) (step c k (threadOf A12 (thread m k)))
+  pub sA12 : stage m k ≡ A12 → StepT p m (stepped m k A12) (step c k (threadOf A12 (thread m k) (seen p m c d k hk)))
   sA12 e = by (eqb (node m (thread m k .tail) .next) 255) refl (used p m c d k hk r A12 e)
     where
-      by : (b : Bool) → eqb (node m (thread m k .tail) .next) 255 ≡ b → ThIn (m .n) (c .next) (threadOf A12 (thread m k)) → StepT p m (stepped m k A12) (step c k (threadOf A12 (thread m k)))
+      by : (b : Bool) → eqb (node m (thread m k .tail) .next) 255 ≡ b → ThIn (m .n) (c .next) (threadOf A12 (thread m k) (seen p m c d k hk)) → StepT p m (stepped m k A12) (step c k (threadOf A12 (thread m k) (seen p m c d k hk)))
       by true f h = absurd (h .2 (d .nodes .at (thread m k .tail) (h .1) .link ∙ ap (λ b. linkIf b (node m (thread m k .tail) .next)) f))
       by false f h =
           subst (λ o. StepT p m (stepped m k A12) (stepA12 c k (thread m k .item) (thread m k .node) (eqb (c .tail) (thread m k .tail)) o))

@@ -25,7 +25,7 @@ use Rattle.model.specs.Steps.{remove, freed, leave}
 use Rattle.model.proofs.Basics.{upd-at, upd-same, upd-other, true→eq, lt-true, lt-no, yes-of}
 use Rattle.tied.specs.Shown.{linkOf, members}
 use Rattle.tied.proofs.Words.{without-fits, listed-none, members-zero, members-none, remove-members}
-use Rattle.tied.proofs.Relation.{Link, NodeAt, NodesT, putNodes, FreeT, Regs, ThreadAt, putThreads, Tied}
+use Rattle.tied.proofs.Relation.{Link, step-in, NodeAt, NodesT, putNodes, FreeT, Regs, ThreadAt, putThreads, Tied}
 use Rattle.tied.proofs.Changes.{withT, sameT, count-n, count-t}
 
 -- ---- the last that a node waits for
@@ -80,9 +80,9 @@ releasedAtT p m c d k hk i hi = record {
   last = d .last;
   sizes = d .sizes;
   hnode = d .hnode;
-  hidx = d .hidx;
-  narrow = d .narrow;
   heads = d .heads;
+  narrow = d .narrow;
+  eight = d .eight;
   tail = d .tail;
   threads = d .threads;
   kept = d .kept;
@@ -162,9 +162,9 @@ module _ (p : memory.Line → Content) (m : Machine) (c : Core) (d : Tied p m c)
     conf = s .conf;
     sizes = s .sizes;
     hnode = s .hnode;
-    hidx = s .hidx;
-    narrow = s .narrow;
     heads = s .heads;
+    narrow = s .narrow;
+    eight = s .eight;
     tail = s .tail;
     last = s .last;
     nodes = s .nodes;
@@ -172,9 +172,11 @@ module _ (p : memory.Line → Content) (m : Machine) (c : Core) (d : Tied p m c)
     kept = s .kept;
     threads = putThreads _ _ _ _ (c .thr) (c .held) (s .threads) (s .sizes .threads-hi) k (omega (arith, et)) (idleThread x) (upd (c .thr) k idle) held′
         (record {
+          seen = 0;
+          own = λ e. refl;
           stage = upd-same (c .thr) k idle;
           holds = e;
-          regs = record { step = omega arith; node = inr refl; tail = inr refl; head = inr refl; next = inr refl; held = subst (λ n. Link n x) (sym en) lx; index = omega arith };
+          regs = record { step = step-in _ 0 (omega arith); node = inr refl; tail = inr refl; head = inr refl; next = inr refl; held = subst (λ n. Link n x) (sym en) lx; index = omega arith };
         }) (λ j ne. upd-other (c .thr) k idle ne) same;
   }
     where

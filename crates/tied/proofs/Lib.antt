@@ -1,5 +1,6 @@
 -- The record and the abstract machine show the same, event by event. Statements and Schedules are what others cite.
 pub mod Words
+pub mod Engines
 pub mod Relation
 pub mod Changes
 pub mod Leaving

@@ -5,7 +5,7 @@ use mathlib.Core.Logic.{_≢_, _⊎_, inl, inr}
 use Prim.Native.Nat.{ℕ, suc, _<_}
 use lib.ListN.{getD}
 use Rattle.image.specs.declared.Content.{Content}
-use Rattle.machine.specs.Line.{cachedAt, persistedAt}
+use Rattle.machine.specs.Line.{shapeOf, cachedAt, persistedAt}
 use Rattle.machine.specs.declared.Line.{Line}
 use Rattle.machine.specs.declared.Machine.{Machine}
 use Rattle.machine.proofs.LineLaws as lines
@@ -34,19 +34,19 @@ pub record PastT (b : run.Bench) : Type 0 where
   pub first : Machine
   pub then : List Machine
   pub is : b .past ≡ first ∷ then
-  pub was : (l : Line) → LineIn (b .machine .n) l → WasThere b l
+  pub was : (l : Line) → LineIn (shapeOf (b .machine)) l → WasThere b l
   pub now : (l : Line) → Among (cachedAt (b .machine) l) (map (λ m. cachedAt m l) (b .past))
 
 pub pastBegins : (m : Machine) → PastT (begins m)
 pastBegins m = record { first = m; then = []; is = refl; was = λ l h. inl refl; now = λ l. inl refl }
 
-pub pastOn : (b : run.Bench) (m : Machine) (w : Touch) → PastT b → m .n ≡ b .machine .n
-    → ((l : Line) → LineIn (m .n) l → persistedAt m l ≡ keeps w (b .machine) (persistedAt (b .machine)) l) → PastT (goesOn b m w)
+pub pastOn : (b : run.Bench) (m : Machine) (w : Touch) → PastT b → shapeOf m ≡ shapeOf (b .machine)
+    → ((l : Line) → LineIn (shapeOf m) l → persistedAt m l ≡ keeps w (b .machine) (persistedAt (b .machine)) l) → PastT (goesOn b m w)
 pastOn b m w r en k = record {
   first = r .first;
   then = r .then ++ m ∷ [];
   is = ap (λ l. l ++ m ∷ []) (r .is);
-  was = λ l h. was l (subst (λ n. LineIn n l) en h) w (k l h);
+  was = λ l h. was l (subst (λ z. LineIn z l) en h) w (k l h);
   now = λ l. subst (Among (cachedAt m l)) (sym (map-append (λ m. cachedAt m l) (b .past) (m ∷ []))) (among-last (cachedAt m l) (map (λ m. cachedAt m l) (b .past)));
 }
   where
@@ -58,7 +58,7 @@ pastOn b m w r en k = record {
     older l c (inl e) = inl (e ∙ ap (λ z. persistedAt z l) (sym start-same))
     older l c (inr h) = inr (seen-on (b .past) m l c h)
 
-    was : (l : Line) → LineIn (b .machine .n) l → (w : Touch) → persistedAt m l ≡ keeps w (b .machine) (persistedAt (b .machine)) l
+    was : (l : Line) → LineIn (shapeOf (b .machine)) l → (w : Touch) → persistedAt m l ≡ keeps w (b .machine) (persistedAt (b .machine)) l
         → Among (persistedAt m l) (persistedAt (getD (b .past ++ m ∷ []) 0 m) l ∷ map (λ m. cachedAt m l) (b .past ++ m ∷ []))
     was l h nothing e = older l (persistedAt m l) (subst (λ c. Among c (persistedAt (getD (b .past) 0 (b .machine)) l ∷ map (λ m. cachedAt m l) (b .past))) (sym e) (r .was l h))
     was l h (aStore j) e = older l (persistedAt m l) (subst (λ c. Among c (persistedAt (getD (b .past) 0 (b .machine)) l ∷ map (λ m. cachedAt m l) (b .past))) (sym e) (r .was l h))

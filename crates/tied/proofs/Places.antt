@@ -12,7 +12,7 @@ use Rattle.lists.proofs.BoolLaws.{no-way}
 use Rattle.image.specs.declared.Content.{Content}
 use Rattle.tied.specs.Memory as memory
 use Rattle.machine.specs.Record.{node, thread}
-use Rattle.machine.specs.Stage.{Stage, noStep, A1, A2, A3, A4, A5, A6, A7, A8, A9, A10, A11, A12, D1, D2, D3, D4, D5, D6, D7, stage, enqueueOwns, dequeueOwns}
+use Rattle.machine.specs.Stage.{Stage, noStep, A1, A2, A3, A4, A5, A6, A7, A8, A9, A10, A11, A12, D1, D2, D3, D4, D5, D6, D7, S3, S6, stage, enqueueOwns, dequeueOwns}
 use Rattle.machine.specs.Place as place
 use Rattle.machine.specs.Place.{reached, placed}
 use Rattle.machine.specs.declared.Machine.{Machine}
@@ -77,49 +77,53 @@ link-test x i h = by (eqb x 255) refl
     by true e = sym (eq-no x i (λ z. omega (arith, true→eq x 255 e)))
     by false e = refl
 
-enq-test : (i : ℕ) (v : Thread) (s : Stage) → isIt i (ownsE (threadOf s v)) ≡ both (enqueueOwns s) (eqb (v .node) i)
-enq-test i v noStep = refl
-enq-test i v A1 = refl
-enq-test i v A2 = refl
-enq-test i v A3 = refl
-enq-test i v A4 = refl
-enq-test i v A5 = refl
-enq-test i v A6 = refl
-enq-test i v A7 = refl
-enq-test i v A8 = refl
-enq-test i v A9 = refl
-enq-test i v A10 = refl
-enq-test i v A11 = refl
-enq-test i v A12 = refl
-enq-test i v D1 = refl
-enq-test i v D2 = refl
-enq-test i v D3 = refl
-enq-test i v D4 = refl
-enq-test i v D5 = refl
-enq-test i v D6 = refl
-enq-test i v D7 = refl
+enq-test : (i : ℕ) (v : Thread) (x : ℕ) (s : Stage) → isIt i (ownsE (threadOf s v x)) ≡ both (enqueueOwns s) (eqb (v .node) i)
+enq-test i v x noStep = refl
+enq-test i v x A1 = refl
+enq-test i v x A2 = refl
+enq-test i v x A3 = refl
+enq-test i v x A4 = refl
+enq-test i v x A5 = refl
+enq-test i v x A6 = refl
+enq-test i v x A7 = refl
+enq-test i v x A8 = refl
+enq-test i v x A9 = refl
+enq-test i v x A10 = refl
+enq-test i v x A11 = refl
+enq-test i v x A12 = refl
+enq-test i v x D1 = refl
+enq-test i v x D2 = refl
+enq-test i v x D3 = refl
+enq-test i v x D4 = refl
+enq-test i v x D5 = refl
+enq-test i v x D6 = refl
+enq-test i v x D7 = refl
+enq-test i v x S3 = refl
+enq-test i v x S6 = refl
 
-deq-test : (i : ℕ) (v : Thread) (s : Stage) → isIt i (ownsD (threadOf s v)) ≡ both (dequeueOwns s) (eqb (v .head) i)
-deq-test i v noStep = refl
-deq-test i v A1 = refl
-deq-test i v A2 = refl
-deq-test i v A3 = refl
-deq-test i v A4 = refl
-deq-test i v A5 = refl
-deq-test i v A6 = refl
-deq-test i v A7 = refl
-deq-test i v A8 = refl
-deq-test i v A9 = refl
-deq-test i v A10 = refl
-deq-test i v A11 = refl
-deq-test i v A12 = refl
-deq-test i v D1 = refl
-deq-test i v D2 = refl
-deq-test i v D3 = refl
-deq-test i v D4 = refl
-deq-test i v D5 = refl
-deq-test i v D6 = refl
-deq-test i v D7 = refl
+deq-test : (i : ℕ) (v : Thread) (x : ℕ) (s : Stage) → isIt i (ownsD (threadOf s v x)) ≡ both (dequeueOwns s) (eqb (v .head) i)
+deq-test i v x noStep = refl
+deq-test i v x A1 = refl
+deq-test i v x A2 = refl
+deq-test i v x A3 = refl
+deq-test i v x A4 = refl
+deq-test i v x A5 = refl
+deq-test i v x A6 = refl
+deq-test i v x A7 = refl
+deq-test i v x A8 = refl
+deq-test i v x A9 = refl
+deq-test i v x A10 = refl
+deq-test i v x A11 = refl
+deq-test i v x A12 = refl
+deq-test i v x D1 = refl
+deq-test i v x D2 = refl
+deq-test i v x D3 = refl
+deq-test i v x D4 = refl
+deq-test i v x D5 = refl
+deq-test i v x D6 = refl
+deq-test i v x D7 = refl
+deq-test i v x S3 = refl
+deq-test i v x S6 = refl
 
 nil-test : (t w : ℕ) → w < 2 ^ t → isNil (members t w) ≡ eqb w 0
 nil-test t w l = by (members t w) refl
@@ -199,9 +203,9 @@ module _ (p : memory.Line → Content) (m : Machine) (c : Core) (d : Tied p m c)
       ∙ ap (someBelow (λ t. isIt i (c .held t))) (sym (count-t p m c d))
   same-places short enqueue i h =
       any-some (λ k. both (enqueueOwns (stage m k)) (eqb (thread m k .node) i)) (λ t. isIt i (ownsE (c .thr t))) (m .t)
-      (λ k l. sym (ap (λ s. isIt i (ownsE s)) (d .threads .at k l .stage) ∙ enq-test i (thread m k) (stage m k)))
+      (λ k l. sym (ap (λ s. isIt i (ownsE s)) (d .threads .at k l .stage) ∙ enq-test i (thread m k) (d .threads .at k l .seen) (stage m k)))
       ∙ ap (someBelow (λ t. isIt i (ownsE (c .thr t)))) (sym (count-t p m c d))
   same-places short dequeue i h =
       any-some (λ k. both (dequeueOwns (stage m k)) (eqb (thread m k .head) i)) (λ t. isIt i (ownsD (c .thr t))) (m .t)
-      (λ k l. sym (ap (λ s. isIt i (ownsD s)) (d .threads .at k l .stage) ∙ deq-test i (thread m k) (stage m k)))
+      (λ k l. sym (ap (λ s. isIt i (ownsD s)) (d .threads .at k l .stage) ∙ deq-test i (thread m k) (d .threads .at k l .seen) (stage m k)))
       ∙ ap (someBelow (λ t. isIt i (ownsD (c .thr t)))) (sym (count-t p m c d))

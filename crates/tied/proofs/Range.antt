@@ -3,7 +3,7 @@ use mathlib.Core.Path.{_≡_, refl, sym, ap, subst, _∙_}
 use mathlib.Core.Bool.{Bool, true, false, not}
 use mathlib.Core.Logic.{_⊎_, inl, inr}
 use mathlib.Core.Option.{Option, none}
-use Prim.Native.Nat.{ℕ, zero, suc, _^_, _≤_, _<_}
+use Prim.Native.Nat.{ℕ, _^_, _≤_, _<_}
 use native.Mathlib.Omega.{arith}
 use lib.Dec.{eqb, ltb, leb}
 use Rattle.lists.specs.Find.{pick}
@@ -11,11 +11,10 @@ use Rattle.lists.proofs.BoolLaws.{both-of}
 use Rattle.lists.proofs.FindLaws.{any-none}
 use Rattle.image.specs.declared.Content.{Content}
 use Rattle.tied.specs.Memory as memory
-use Rattle.image.specs.Form.{topOf}
-use Rattle.image.specs.Layout.{headLines}
-use Rattle.image.proofs.HeadLaws.{one-head}
+use Rattle.image.specs.Form.{topOf, headLines}
+use Rattle.machine.specs.Line.{shapeOf}
 use Rattle.machine.specs.Record.{node, kept, thread}
-use Rattle.machine.specs.Stage.{Stage, noStep, A1, A2, A3, A4, A5, A6, A7, A8, A9, A10, A11, A12, D1, D2, D3, D4, D5, D6, D7, own, t, theHead, theNext, uses, lastStep, stage, stageOf}
+use Rattle.machine.specs.Stage.{Stage, noStep, A1, A2, A3, A4, A5, A6, A7, A8, A9, A10, A11, A12, D1, D2, D3, D4, D5, D6, D7, S3, S6, own, t, theHead, theNext, uses, lastStep, stage, stageOf}
 use Rattle.machine.specs.Range.{isNode, isLink, readFits, nextFits, nodeFits, threadFits, rangesFit, headFits, indexFits, formFits, inRange}
 use Rattle.machine.specs.declared.Machine.{Machine}
 use Rattle.machine.specs.declared.Thread.{Thread}
@@ -25,7 +24,7 @@ use Rattle.model.proofs.Basics.{lt-true, le-true, eq-no, true→eq}
 use Rattle.tied.specs.Shown.{linkIf, linkOf, threadOf}
 use Rattle.tied.proofs.Relation.{Link, Regs, Tied}
 use Rattle.tied.proofs.Changes.{count-n}
-use Rattle.tied.proofs.Stepping.{used}
+use Rattle.tied.proofs.Stepping.{seen, used}
 
 is-node : (m : Machine) (x : ℕ) → x < m .n → isNode m x ≡ true
 is-node m x h = lt-true x (m .n) h
@@ -38,8 +37,8 @@ is-link m x (inl h) = by (eqb x 255)
     by false = is-node m x h
 is-link m x (inr e) = rw e refl
 
-module _ (m : Machine) (v : Thread) (next : ℕ → Option ℕ) (g : Regs (topOf (m .form)) (m .n) v) where
-  reads : (s : Stage) → ThIn (m .n) next (threadOf s v)
+module _ (m : Machine) (v : Thread) (next : ℕ → Option ℕ) (g : Regs (m .form) (m .n) v) (i : ℕ) where
+  reads : (s : Stage) → ThIn (m .n) next (threadOf s v i)
       → (readFits m (uses s own) (v .node) ≡ true) × (readFits m (uses s t) (v .tail) ≡ true) × (readFits m (uses s theHead) (v .head) ≡ true) × (readFits m (uses s theNext) (v .next) ≡ true)
   reads noStep u = (is-link m _ (g .node), is-link m _ (g .tail), is-link m _ (g .head), is-link m _ (g .next))
   reads A1 u = (is-link m _ (g .node), is-link m _ (g .tail), is-link m _ (g .head), is-link m _ (g .next))
@@ -61,6 +60,8 @@ module _ (m : Machine) (v : Thread) (next : ℕ → Option ℕ) (g : Regs (topOf
   reads D5 u = (is-link m _ (g .node), is-link m _ (g .tail), is-link m _ (g .head), is-node m _ (u .1))
   reads D6 u = (is-link m _ (g .node), is-link m _ (g .tail), is-link m _ (g .head), is-link m _ (g .next))
   reads D7 u = (is-link m _ (g .node), is-link m _ (g .tail), is-node m _ (u), is-link m _ (g .next))
+  reads S3 u = (is-link m _ (g .node), is-link m _ (g .tail), is-node m _ (u), is-link m _ (g .next))
+  reads S6 u = (is-link m _ (g .node), is-link m _ (g .tail), is-link m _ (g .head), is-node m _ (u .1))
 
 module _ (p : memory.Line → Content) (m : Machine) (c : Core) (d : Tied p m c) (r : InRange c) where
   node-fits : (i : ℕ) → i < m .n → nodeFits m i ≡ true
@@ -87,8 +88,8 @@ module _ (p : memory.Line → Content) (m : Machine) (c : Core) (d : Tied p m c)
     unfolding threadFits
     thread-fits =
         let g = d .threads .at k hk .regs in
-        let q = reads m (thread m k) (c .next) g (stage m k) (used p m c d k hk r (stage m k) refl) in
-        both-of _ _ (le-true _ lastStep (g .step))
+        let q = reads m (thread m k) (c .next) g (seen p m c d k hk) (stage m k) (used p m c d k hk r (stage m k) refl) in
+        both-of _ _ (le-true _ (lastStep m) (g .step))
         (both-of _ _ (q .0) (both-of _ _ (q .1) (both-of _ _ (q .2) (both-of _ _ (q .3) (both-of _ _ (is-link m _ (g .held)) (next-fits _ refl))))))
 
   -- N, T, and every number of a node, a line, a thread or a step
@@ -102,10 +103,9 @@ module _ (p : memory.Line → Content) (m : Machine) (c : Core) (d : Tied p m c)
       (both-of _ _ (ap not (any-none _ (m .n) (λ i h. ap not (node-fits i h)))) (ap not (any-none _ (m .t) (λ k h. ap not (thread-fits k h)))))))
 
   -- every index is within the form's width
-  head-index : (k : ℕ) → k < headLines (m .n) → headFits m k ≡ true
+  head-index : (k : ℕ) → k < headLines (shapeOf m) → headFits m k ≡ true
   unfolding headFits
-  head-index zero h = both-of _ _ (le-true _ _ (d .narrow)) (le-true _ _ (subst (λ z. z .index ≤ topOf (m .form)) (d .kept .head) (d .kept .narrow-head)))
-  head-index (suc k) h = absurd (omega (arith, one-head (m .n)))
+  head-index k h = both-of _ _ (le-true _ _ (d .narrow k h)) (le-true _ _ (subst (λ z. z .index ≤ topOf (m .form)) (d .kept .head k h) (d .kept .narrow-head k h)))
 
   node-index : (i : ℕ) → i < m .n → indexFits m i ≡ true
   unfolding indexFits
@@ -115,7 +115,7 @@ module _ (p : memory.Line → Content) (m : Machine) (c : Core) (d : Tied p m c)
   unfolding formFits
   form-fits =
       both-of _ _ (d .sizes .form)
-      (both-of _ _ (ap not (any-none _ (headLines (m .n)) (λ k h. ap not (head-index k h))))
+      (both-of _ _ (ap not (any-none _ (headLines (shapeOf m)) (λ k h. ap not (head-index k h))))
       (both-of _ _ (ap not (any-none _ (m .n) (λ i h. ap not (node-index i h))))
       (ap not (any-none _ (m .t) (λ k h. ap not (le-true _ _ (d .threads .at k h .regs .index)))))))
 

@@ -8,7 +8,7 @@ use Rattle.answer.specs.Answers.{told, check}
 use Rattle.answer.specs.declared.Answer.{Answer}
 use Rattle.answer.specs.declared.Answer.the-variants.{Taken, Kind, Number, Busy, Idle, NotZero, Clean}
 use Rattle.image.specs.Refusals.{startable}
-use Rattle.machine.specs.Line.{lineAt, persisted}
+use Rattle.machine.specs.Line.{shapeOf, lineAt, persisted}
 use Rattle.machine.specs.Event.{Deed, unknown, enqueues, dequeues, steps, writesBack, crashes, eventAnswer, threadTooLarge, lineTooLarge, itemNotZero, clean}
 use Rattle.machine.specs.Stage as stage
 use Rattle.lists.specs.Find.{pick}
@@ -68,5 +68,5 @@ module _ (b : run.Bench) (B : Bench) (r : BenchT b B) where
   refused-late q e steps = one-check (threadTooLarge m e) _ _ (number-late q)
       (one-check (itemNotZero e) _ _ (zero-late q) (one-check (not (stage.busy m (e .number))) _ _ (idle-late q) taken-late))
   refused-late q e writesBack = one-check (lineTooLarge m e) _ _ (number-late q)
-      (one-check (itemNotZero e) _ _ (zero-late q) (one-check (clean m (lineAt (m .n) (e .number))) _ _ (clean-late q) taken-late))
+      (one-check (itemNotZero e) _ _ (zero-late q) (one-check (clean m (lineAt (shapeOf m) (e .number))) _ _ (clean-late q) taken-late))
   refused-late q e crashes = one-check (pick (eqb (e .number) 0) (itemNotZero e) true) _ _ (zero-late q) (subst Late (sym (crash-starts Taken)) taken-late)

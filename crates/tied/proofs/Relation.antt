@@ -1,6 +1,6 @@
 -- A record and an abstract core that show the same; and what the record's numbers keep to by themselves.
 use mathlib.Core.Path.{_≡_, refl, sym, ap, subst, _∙_}
-use mathlib.Core.Bool.{Bool, true}
+use mathlib.Core.Bool.{Bool, true, false}
 use mathlib.Core.List.{List}
 use mathlib.Core.Logic.{_≢_, _⊎_}
 use mathlib.Core.Option.{Option}
@@ -9,22 +9,24 @@ use native.Mathlib.Omega.{arith}
 use native.Mathlib.Decide.{ℕ-discrete}
 use lib.ListN.{length, getD, set, length-set}
 use lib.Seq.{getD-set-same, getD-set-other}
+use Rattle.lists.specs.Find.{pick}
 use Rattle.lists.specs.Word.{has, with, without}
 use Rattle.image.specs.declared.Content.{Content}
-use Rattle.image.specs.Form.{known, topOf}
+use Rattle.image.specs.Form.{known, topOf, perDesk, headLines}
 use Rattle.image.specs.Layout.{noContent}
 use Rattle.machine.specs.Record.{zeroNode, zeroThread, headAt, contentOf}
-use Rattle.machine.specs.Stage.{lastStep}
-use Rattle.machine.specs.Line.{putLine, headContent}
+use Rattle.machine.specs.Stage.{D7, S6, number}
+use Rattle.machine.specs.Line.{putLine, headContent, shapeOf}
 use Rattle.machine.specs.declared.Line.{Line}
 use Rattle.machine.specs.declared.Line.the-variants.{OfHead as ofHead, OfNode as ofNode}
 use Rattle.machine.specs.declared.Machine.{Machine}
 use Rattle.machine.specs.declared.Node.{Node}
 use Rattle.machine.specs.declared.Thread.{Thread}
 use Rattle.machine.proofs.LineLaws as lines
+use Rattle.model.specs.Conf.{lineIx}
 use Rattle.model.specs.Core as core
 use Rattle.model.specs.Core.{Core, Th}
-use Rattle.tied.specs.Shown.{shownContent, linkOf, members, shownThread, confOf}
+use Rattle.tied.specs.Shown.{shownContent, linkOf, members, shownThread, engineIf, confOf}
 use Rattle.tied.proofs.Words.{has-with, has-without, with-fits, without-fits}
 
 -- a node number, or none
@@ -64,57 +66,72 @@ pub record FreeT (n w : ℕ) (f : ℕ → Bool) : Type 0 where
   pub bits : (i : ℕ) → i < n → f i ≡ has w i
   pub fits : w < 2 ^ n
 
--- ---- a thread
+-- ---- a thread of a machine in form f
 
-pub record Regs (z n : ℕ) (v : Thread) : Type 0 where
-  pub step : v .step ≤ lastStep
+-- the largest step number that it has
+abbrev pub lastIn : ℕ → ℕ
+lastIn f = pick (perDesk f) (number S6) (number D7)
+
+-- D7 and all before it are in every form
+pub step-in : (f s : ℕ) → s ≤ 19 → s ≤ lastIn f
+step-in f s h = by (perDesk f)
+  where
+    by : (b : Bool) → s ≤ pick b 21 19
+    by true = omega arith
+    by false = h
+
+pub record Regs (f n : ℕ) (v : Thread) : Type 0 where
+  pub step : v .step ≤ lastIn f
   pub node : Link n (v .node)
   pub tail : Link n (v .tail)
   pub head : Link n (v .head)
   pub next : Link n (v .next)
   pub held : Link n (v .held)
-  pub index : v .index ≤ z
+  pub index : v .index ≤ topOf f
 
-pub record ThreadAt (z n : ℕ) (v : Thread) (s : Th) (o : Option ℕ) : Type 0 where
-  pub stage : s ≡ shownThread v
+-- seen: the index that the abstract thread remembers; the record's own where Head has one
+pub record ThreadAt (f n : ℕ) (v : Thread) (s : Th) (o : Option ℕ) : Type 0 where
+  pub seen : ℕ
+  pub own : perDesk f ≡ false → seen ≡ v .index
+  pub stage : s ≡ shownThread v seen
   pub holds : o ≡ linkOf (v .held)
-  pub regs : Regs z n v
+  pub regs : Regs f n v
 
-pub record ThreadsT (z n t : ℕ) (l : List Thread) (thr : ℕ → Th) (held : ℕ → Option ℕ) : Type 0 where
+pub record ThreadsT (f n t : ℕ) (l : List Thread) (thr : ℕ → Th) (held : ℕ → Option ℕ) : Type 0 where
   pub size : length l ≡ 8
-  pub at : (k : ℕ) → k < t → ThreadAt z n (getD l k zeroThread) (thr k) (held k)
+  pub at : (k : ℕ) → k < t → ThreadAt f n (getD l k zeroThread) (thr k) (held k)
 
-pub putThreads : (z n t : ℕ) (l : List Thread) (thr : ℕ → Th) (held : ℕ → Option ℕ) → ThreadsT z n t l thr held → t ≤ 8
-    → (k : ℕ) → k < t → (v : Thread) (thr′ : ℕ → Th) (held′ : ℕ → Option ℕ) → ThreadAt z n v (thr′ k) (held′ k)
+pub putThreads : (f n t : ℕ) (l : List Thread) (thr : ℕ → Th) (held : ℕ → Option ℕ) → ThreadsT f n t l thr held → t ≤ 8
+    → (k : ℕ) → k < t → (v : Thread) (thr′ : ℕ → Th) (held′ : ℕ → Option ℕ) → ThreadAt f n v (thr′ k) (held′ k)
     → ((j : ℕ) → j ≢ k → thr′ j ≡ thr j) → ((j : ℕ) → j ≢ k → held′ j ≡ held j)
-    → ThreadsT z n t (set l k v) thr′ held′
-putThreads z n t l thr held r h i hi v thr′ held′ a en ex = record { size = length-set l i v ∙ r .size; at = λ j hj. by j hj (ℕ-discrete j i) }
+    → ThreadsT f n t (set l k v) thr′ held′
+putThreads f n t l thr held r h i hi v thr′ held′ a en ex = record { size = length-set l i v ∙ r .size; at = λ j hj. by j hj (ℕ-discrete j i) }
   where
-    by : (j : ℕ) → j < t → Dec (j ≡ i) → ThreadAt z n (getD (set l i v) j zeroThread) (thr′ j) (held′ j)
-    by j hj (yes e) = subst (λ j. ThreadAt z n (getD (set l i v) j zeroThread) (thr′ j) (held′ j)) (sym e)
-        (subst (λ x. ThreadAt z n x (thr′ i) (held′ i)) (sym (getD-set-same l i v zeroThread (omega (arith, r .size)))) a)
+    by : (j : ℕ) → j < t → Dec (j ≡ i) → ThreadAt f n (getD (set l i v) j zeroThread) (thr′ j) (held′ j)
+    by j hj (yes e) = subst (λ j. ThreadAt f n (getD (set l i v) j zeroThread) (thr′ j) (held′ j)) (sym e)
+        (subst (λ x. ThreadAt f n x (thr′ i) (held′ i)) (sym (getD-set-same l i v zeroThread (omega (arith, r .size)))) a)
     by j hj (no ne) = rw (getD-set-other l i j v zeroThread ne, en j ne, ex j ne) (r .at j hj)
 
--- ---- the persisted copies: p is what each line holds
+-- ---- the persisted copies: p is what each line holds, of b head lines and n nodes
 
-pub record KeptT (z n : ℕ) (p : Line → Content) (h : List ℕ) (l : List Content) : Type 0 where
+pub record KeptT (z b n : ℕ) (p : Line → Content) (h : List ℕ) (l : List Content) : Type 0 where
   pub size : length l ≡ 64
   pub heads : length h ≡ 8
-  pub head : p (ofHead 0) ≡ headContent (getD h 0 0)
+  pub head : (k : ℕ) → k < b → p (ofHead k) ≡ headContent (getD h k 0)
   pub at : (i : ℕ) → i < n → p (ofNode i) ≡ getD l i noContent
   pub flag : (i : ℕ) → i < n → p (ofNode i) .linked ≤ 1
-  pub narrow-head : p (ofHead 0) .index ≤ z
+  pub narrow-head : (k : ℕ) → k < b → p (ofHead k) .index ≤ z
   pub narrow : (i : ℕ) → i < n → p (ofNode i) .index ≤ z
 
-pub putKepts : (z n : ℕ) (p : Line → Content) (h : List ℕ) (l : List Content) → KeptT z n p h l → n ≤ 64 → (i : ℕ) → i < n → (v : Content) → v .linked ≤ 1 → v .index ≤ z
-    → KeptT z n (putLine p (ofNode i) v) h (set l i v)
-putKepts z n p h l r hn i hi v fl nr = record {
+pub putKepts : (z b n : ℕ) (p : Line → Content) (h : List ℕ) (l : List Content) → KeptT z b n p h l → n ≤ 64 → (i : ℕ) → i < n → (v : Content) → v .linked ≤ 1 → v .index ≤ z
+    → KeptT z b n (putLine p (ofNode i) v) h (set l i v)
+putKepts z b n p h l r hn i hi v fl nr = record {
   size = length-set l i v ∙ r .size;
   heads = r .heads;
-  head = lines.put-other p (ofNode i) v (ofHead 0) (λ e. lines.head-not-node 0 i e) ∙ r .head;
+  head = λ k hk. lines.put-other p (ofNode i) v (ofHead k) (λ e. lines.head-not-node k i e) ∙ r .head k hk;
   at = λ j hj. by j hj (ℕ-discrete j i);
   flag = λ j hj. lines.put-ind p (ofNode i) v (λ k c. c .linked ≤ 1) (ofNode j) fl (λ ne. r .flag j hj);
-  narrow-head = lines.put-ind p (ofNode i) v (λ k c. c .index ≤ z) (ofHead 0) nr (λ ne. r .narrow-head);
+  narrow-head = λ k hk. lines.put-ind p (ofNode i) v (λ k c. c .index ≤ z) (ofHead k) nr (λ ne. r .narrow-head k hk);
   narrow = λ j hj. lines.put-ind p (ofNode i) v (λ k c. c .index ≤ z) (ofNode j) nr (λ ne. r .narrow j hj);
 }
   where
@@ -135,12 +152,12 @@ pub record Tied (p : Line → Content) (m : Machine) (c : Core) : Type 0 where
   pub conf : c .conf ≡ confOf (m .form) (m .n) (m .t)
   pub sizes : Sizes (m .form) (m .n) (m .t)
   pub hnode : c .hnode ≡ m .head
-  pub hidx : c .hidx ≡ headAt m 0
-  pub narrow : headAt m 0 ≤ topOf (m .form)
-  pub heads : length (m .heads) ≡ 8
+  pub heads : (k : ℕ) → k < headLines (shapeOf m) → lineIx (engineIf (perDesk (m .form))) (c .hidx) (c .marks) k ≡ headAt m k
+  pub narrow : (k : ℕ) → k < headLines (shapeOf m) → headAt m k ≤ topOf (m .form)
+  pub eight : length (m .heads) ≡ 8
   pub tail : c .tail ≡ m .tail
   pub last : c .last ≡ m .last
   pub nodes : NodesT (topOf (m .form)) (m .n) (m .t) (m .nodes) (c .node) (c .next) (c .wait)
   pub free : FreeT (m .n) (m .free) (c .free)
-  pub threads : ThreadsT (topOf (m .form)) (m .n) (m .t) (m .threads) (c .thr) (c .held)
-  pub kept : KeptT (topOf (m .form)) (m .n) p (m .«kept_heads») (m .kept)
+  pub threads : ThreadsT (m .form) (m .n) (m .t) (m .threads) (c .thr) (c .held)
+  pub kept : KeptT (topOf (m .form)) (headLines (shapeOf m)) (m .n) p (m .«kept_heads») (m .kept)

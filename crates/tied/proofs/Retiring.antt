@@ -4,7 +4,7 @@ use mathlib.Core.Bool.{Bool, true, false, not}
 use mathlib.Core.List.{List, [], _∷_}
 use mathlib.Core.Logic.{_≢_, inl, inr}
 use mathlib.Core.Option.{Option, none, some}
-use Prim.Native.Nat.{ℕ, zero, suc, _^_, _≤_, _<_}
+use Prim.Native.Nat.{ℕ, zero, _^_, _≤_, _<_}
 use native.Mathlib.Omega.{arith}
 use native.Mathlib.Decide.{ℕ-discrete}
 use lib.Dec.{eqb, eqb-refl, ltb}
@@ -15,10 +15,10 @@ use Rattle.lists.proofs.BoolLaws.{no-way}
 use Rattle.lists.proofs.FindLaws.{any-clear}
 use Rattle.image.specs.declared.Content.{Content}
 use Rattle.tied.specs.Memory as memory
-use Rattle.image.specs.Form.{topOf}
+use Rattle.image.specs.Form.{topOf, perDesk}
 use Rattle.machine.specs.Record.{node, thread, withWaits}
 use Rattle.machine.specs.Stage as stage
-use Rattle.machine.specs.Stage.{stages, stageOf, lastStep}
+use Rattle.machine.specs.Stage.{stages, stageOf}
 use Rattle.machine.specs.Retire as retire
 use Rattle.machine.specs.Retire.{retired, retiredHeld, left}
 use Rattle.machine.specs.declared.Machine.{Machine}
@@ -30,7 +30,7 @@ use Rattle.model.specs.Steps.{remove, others, freed, leave, retireHeld}
 use Rattle.model.proofs.Basics.{upd-at, upd-same, upd-other, true→eq, eq-no, lt-true, yes-of}
 use Rattle.tied.specs.Shown.{linkIf, linkOf, listed, members, threadOf, shownThread}
 use Rattle.tied.proofs.Words.{word-fits, has-word, listed-same, members-zero, members-none, remove-listed, others-listed}
-use Rattle.tied.proofs.Relation.{Link, NodeAt, putNodes, FreeT, Tied}
+use Rattle.tied.proofs.Relation.{Link, lastIn, NodeAt, putNodes, FreeT, Tied}
 use Rattle.tied.proofs.Changes.{some-link, withT, sameT, count-n, count-t}
 use Rattle.tied.proofs.Leaving.{freeAt, heldAs, leftT}
 
@@ -43,21 +43,27 @@ same true false e = e
 same false true e = sym e
 same false false e = refl
 
-busy-table : (v : Thread) → any (λ s. pick (busy (threadOf (stageOf s) v)) (not (not (eqb s 0))) (not (eqb s 0))) (length stages) ≡ false
+busy-table : (v : Thread) (i : ℕ) → any (λ s. pick (busy (threadOf (stageOf s) v i)) (not (not (eqb s 0))) (not (eqb s 0))) (length stages) ≡ false
 unfolding any
-busy-table v = refl
+busy-table v i = refl
 
-busy-at : (s : ℕ) (v : Thread) → s ≤ lastStep → busy (threadOf (stageOf s) v) ≡ not (eqb s 0)
-busy-at s v h =
-    let l : s < suc lastStep = omega arith in
-    same (busy (threadOf (stageOf s) v)) (not (eqb s 0))
-    (any-clear (λ s. pick (busy (threadOf (stageOf s) v)) (not (not (eqb s 0))) (not (eqb s 0))) (length stages) s (busy-table v) l)
+busy-at : (s : ℕ) (v : Thread) (i : ℕ) → s < length stages → busy (threadOf (stageOf s) v i) ≡ not (eqb s 0)
+busy-at s v i h =
+    same (busy (threadOf (stageOf s) v i)) (not (eqb s 0))
+    (any-clear (λ s. pick (busy (threadOf (stageOf s) v i)) (not (not (eqb s 0))) (not (eqb s 0))) (length stages) s (busy-table v i) h)
 
-pub busy-shown : (v : Thread) → v .step ≤ lastStep → busy (shownThread v) ≡ not (eqb (v .step) 0)
-busy-shown v h = busy-at (v .step) v h
+steps-few : (f s : ℕ) → s ≤ lastIn f → s < length stages
+steps-few f s = by (perDesk f)
+  where
+    by : (b : Bool) → s ≤ pick b 21 19 → s < 22
+    by true h = omega arith
+    by false h = omega arith
+
+pub busy-shown : (f : ℕ) (v : Thread) (i : ℕ) → v .step ≤ lastIn f → busy (shownThread v i) ≡ not (eqb (v .step) 0)
+busy-shown f v i h = busy-at (v .step) v i (steps-few f (v .step) h)
 
 pub busy-tied : (p : memory.Line → Content) (m : Machine) (c : Core) → Tied p m c → (k : ℕ) → k < m .t → busy (c .thr k) ≡ stage.busy m k
-busy-tied p m c d k h = ap busy (d .threads .at k h .stage) ∙ busy-shown (thread m k) (d .threads .at k h .regs .step)
+busy-tied p m c d k h = let a = d .threads .at k h in ap busy (a .stage) ∙ busy-shown (m .form) (thread m k) (a .seen) (a .regs .step)
 
 -- ---- the others
 
@@ -120,9 +126,9 @@ module _ (p : memory.Line → Content) (m : Machine) (c : Core) (d : Tied p m c)
     last = d .last;
     sizes = d .sizes;
     hnode = d .hnode;
-    hidx = d .hidx;
-    narrow = d .narrow;
     heads = d .heads;
+    narrow = d .narrow;
+    eight = d .eight;
     tail = d .tail;
     threads = d .threads;
     kept = d .kept;

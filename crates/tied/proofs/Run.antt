@@ -12,6 +12,8 @@ use Rattle.answer.specs.Answers.{told, accepted}
 use Rattle.answer.specs.declared.Answer.{Answer}
 use Rattle.answer.specs.declared.Answer.the-variants.{Taken}
 use Rattle.image.specs.declared.Image.{Image}
+use Rattle.image.specs.declared.Shape.{Shape}
+use Rattle.machine.specs.Line.{shapeOf}
 use Rattle.tied.specs.Memory as memory
 use Rattle.machine.specs.Start.{startOf, startAnswer}
 use Rattle.machine.specs.Retire.{quiet}
@@ -20,8 +22,6 @@ use Rattle.machine.specs.Event.{deedOf, eventAnswer, eventAt, done}
 use Rattle.machine.specs.declared.Machine.{Machine}
 use Rattle.machine.specs.declared.Event.{Event}
 use Rattle.machine.specs.declared.Acted.{Acted}
-use Rattle.image.proofs.HeadLaws.{one-head}
-use Rattle.machine.proofs.LineLaws.{LineIn}
 use Rattle.schedule.specs.Run as schedule
 use Rattle.schedule.specs.Run.{Ran, run, andBefore, turned, begins}
 use Rattle.model.specs.Core.{Ans, nothing, full, worn, empty, item}
@@ -34,13 +34,14 @@ use Rattle.model.specs.Always.{Steady}
 use Rattle.model.proofs.Always.Runs.{openKept}
 use Rattle.tied.specs.Always.{Rises}
 use Rattle.tied.specs.Shown.{imageShown, Narrow, eventShown, answerOf}
+use Rattle.tied.proofs.Engines.{lines-shown}
 use Rattle.tied.proofs.Range.{tied-in-range}
 use Rattle.tied.proofs.Accepted.{sound-is, shownT, tidy, fit-of}
 use Rattle.tied.proofs.Bench.{BenchT}
 use Rattle.tied.proofs.Past.{pastBegins}
-use Rattle.tied.proofs.Begins.{size-is, startedT, beginsT}
+use Rattle.tied.proofs.Begins.{shapeAt, shape-is, startedT, beginsT}
 use Rattle.tied.proofs.Refusals.{Late, taken-late, refused-late}
-use Rattle.tied.proofs.Turn.{ranged, takes, turns, turned-size, answers-same}
+use Rattle.tied.proofs.Turn.{ranged, takes, turns, turned-shape, answers-same}
 
 -- ---- one event of a run
 
@@ -84,7 +85,7 @@ says-taken (item v) = refl
 pub run-taken : (q : ℕ) (b : schedule.Bench) (B : Bench) (r : BenchT b B) (e : Event) (l : List Event) → accepted (eventAnswer q (b .machine) e (deedOf (e .kind))) ≡ true
     → run q b (e ∷ l) ≡ andBefore (done (b .machine) e (deedOf (e .kind)) .answer) (run (suc q) (turned b (done (b .machine) e (deedOf (e .kind))) (deedOf (e .kind))) l)
 run-taken q b B r e l a = run-by q b e l (done (b .machine) e (deedOf (e .kind))) (event-taken q (b .machine) e a) true
-    (ap accepted (answers-same b B r q e (deedOf (e .kind)) a) ∙ says-taken (answer (B .mach) (eventShown (b .machine .n) e)))
+    (ap accepted (answers-same b B r q e (deedOf (e .kind)) a) ∙ says-taken (answer (B .mach) (eventShown (shapeOf (b .machine)) e)))
 
 pub run-refused : (q : ℕ) (b : schedule.Bench) (e : Event) (l : List Event) → accepted (eventAnswer q (b .machine) e (deedOf (e .kind))) ≡ false
     → run q b (e ∷ l) ≡ stopped (eventAnswer q (b .machine) e (deedOf (e .kind))) b
@@ -105,18 +106,18 @@ abbrev pub Stops : Machine → Answer → ℕ → List Event → Type 0
 Stops m a q [] = a ≡ Taken
 Stops m a q (e ∷ l) = a ≡ eventAnswer q m e (deedOf (e .kind))
 
--- the events that were taken, all of them if none was refused; what they answered; what the benches of n nodes show in the end
-pub record RunT (n q : ℕ) (B : Bench) (l : List Event) (R : Ran) : Type 0 where
+-- the events that were taken, all of them if none was refused; what they answered; what the benches, of shape z, show in the end
+pub record RunT (z : Shape) (q : ℕ) (B : Bench) (l : List Event) (R : Ran) : Type 0 where
   pub taken : List Event
   pub rest : List Event
   pub begin : l ≡ taken ++ rest
   pub all : accepted (R .answer) ≡ true → taken ≡ l
-  pub takes : TakesAll (B .mach) (map (eventShown n) taken)
-  pub replies : R .replies ≡ map answerOf (answers (B .mach) (map (eventShown n) taken))
-  pub ends : BenchT (R .bench) (bench B (map (eventShown n) taken))
+  pub takes : TakesAll (B .mach) (map (eventShown z) taken)
+  pub replies : R .replies ≡ map answerOf (answers (B .mach) (map (eventShown z) taken))
+  pub ends : BenchT (R .bench) (bench B (map (eventShown z) taken))
   pub stops : Stops (R .bench .machine) (R .answer) (q + length taken) rest
 
-pub runT : (l : List Event) (q : ℕ) (b : schedule.Bench) (B : Bench) → BenchT b B → RunT (b .machine .n) q B l (run q b l)
+pub runT : (l : List Event) (q : ℕ) (b : schedule.Bench) (B : Bench) → BenchT b B → RunT (shapeOf (b .machine)) q B l (run q b l)
 unfolding run bench answers
 runT [] q b B r = record { taken = []; rest = []; begin = refl; all = λ h. refl; takes = tt; replies = refl; ends = r; stops = refl }
 runT (e ∷ l) q b B r = by (accepted (eventAnswer q (b .machine) e (deedOf (e .kind)))) refl (runT l)
@@ -128,13 +129,13 @@ runT (e ∷ l) q b B r = by (accepted (eventAnswer q (b .machine) e (deedOf (e .
     stop = ap (λ q. eventAnswer q (b .machine) e (deedOf (e .kind))) (sym (add-zero q))
 
     by : (x : Bool) → accepted (eventAnswer q (b .machine) e (deedOf (e .kind))) ≡ x
-        → ((q : ℕ) (b : schedule.Bench) (B : Bench) → BenchT b B → RunT (b .machine .n) q B l (run q b l)) → RunT (b .machine .n) q B (e ∷ l) (run q b (e ∷ l))
+        → ((q : ℕ) (b : schedule.Bench) (B : Bench) → BenchT b B → RunT (shapeOf (b .machine)) q B l (run q b l)) → RunT (shapeOf (b .machine)) q B (e ∷ l) (run q b (e ∷ l))
     by true a rec =
         let says = answers-same b B r q e (deedOf (e .kind)) a in
         let b′ = turned b (done (b .machine) e (deedOf (e .kind))) (deedOf (e .kind)) in
-        let s = subst (λ n. RunT n (suc q) (turn B (eventShown (b .machine .n) e)) l (run (suc q) b′ l)) (turned-size b B r q e (deedOf (e .kind)) a)
-        (rec (suc q) b′ (turn B (eventShown (b .machine .n) e)) (turns b B r q e (deedOf (e .kind)) a)) in
-        subst (RunT (b .machine .n) q B (e ∷ l)) (sym (run-taken q b B r e l a))
+        let s = subst (λ z. RunT z (suc q) (turn B (eventShown (shapeOf (b .machine)) e)) l (run (suc q) b′ l)) (turned-shape b B r q e (deedOf (e .kind)) a)
+        (rec (suc q) b′ (turn B (eventShown (shapeOf (b .machine)) e)) (turns b B r q e (deedOf (e .kind)) a)) in
+        subst (RunT (shapeOf (b .machine)) q B (e ∷ l)) (sym (run-taken q b B r e l a))
         (record {
           taken = e ∷ s .taken;
           rest = s .rest;
@@ -146,7 +147,7 @@ runT (e ∷ l) q b B r = by (accepted (eventAnswer q (b .machine) e (deedOf (e .
           stops = subst (λ n. Stops (run (suc q) b′ l .bench .machine) (run (suc q) b′ l .answer) n (s .rest)) (later q (length (s .taken))) (s .stops);
         })
     by false a rec =
-        subst (RunT (b .machine .n) q B (e ∷ l)) (sym (run-refused q b e l a))
+        subst (RunT (shapeOf (b .machine)) q B (e ∷ l)) (sym (run-refused q b e l a))
         (record { taken = []; rest = e ∷ l; begin = refl; all = λ h. no-way (sym h ∙ a); takes = tt; replies = refl; ends = r; stops = stop })
 
 -- no run stops with 7 or 8
@@ -154,8 +155,8 @@ stop-by : (b : schedule.Bench) (B : Bench) → BenchT b B → (a : Answer) (p : 
 stop-by b B r a p [] s = subst Late (sym s) taken-late
 stop-by b B r a p (d ∷ l) s = subst Late (sym s) (refused-late b B r p d (deedOf (d .kind)))
 
-pub stop-number : (n q : ℕ) (B : Bench) (l : List Event) (R : Ran) → RunT n q B l R → (told (R .answer) .number ≢ 7) × (told (R .answer) .number ≢ 8)
-stop-number n q B l R r =
+pub stop-number : (z : Shape) (q : ℕ) (B : Bench) (l : List Event) (R : Ran) → RunT z q B l R → (told (R .answer) .number ≢ 7) × (told (R .answer) .number ≢ 8)
+stop-number z q B l R r =
     let s = stop-by (R .bench) _ (r .ends) (R .answer) _ (r .rest) (r .stops) in
     (s .late 7 (omega arith) (omega arith), s .late 8 (omega arith) (omega arith))
 
@@ -173,19 +174,19 @@ module _ (g : Image) (t : ℕ) (a : accepted (startAnswer g t) ≡ true) (w : Na
         past = pastBegins (startOf g t);
       }
 
-  pub startT : (q : ℕ) (l : List Event) → RunT (g .n) q (opening (imageShown g t)) l (run q (begins (startOf g t)) l)
-  startT q l = subst (λ n. RunT n q (opening (imageShown g t)) l (run q (begins (startOf g t)) l)) (size-is g t) (runT l q (begins (startOf g t)) (opening (imageShown g t)) opensT)
+  pub startT : (q : ℕ) (l : List Event) → RunT (shapeAt g t) q (opening (imageShown g t)) l (run q (begins (startOf g t)) l)
+  startT q l = subst (λ z. RunT z q (opening (imageShown g t)) l (run q (begins (startOf g t)) l)) (shape-is g t) (runT l q (begins (startOf g t)) (opening (imageShown g t)) opensT)
 
 -- 18 refuses no record of a run, at whatever event it stopped
 pub bench-in-range : (b : schedule.Bench) (B : Bench) → BenchT b B → inRange (b .machine) ≡ true
 bench-in-range b B r = tied-in-range _ (b .machine) (B .mach .core) (r .tied) (ranged b B r)
 
--- Head's line never falls
+-- no head line falls
 pub bench-rises : (b : schedule.Bench) (B : Bench) → BenchT b B → Steady (B .mach) → Rises b
-bench-rises b B r s i j le lt =
-    let one : 0 < headLines (B .mach .core .conf) = subst (λ c. 0 < headLines c) (sym (r .tied .conf)) (omega arith) in
-    let there : LineIn (b .machine .n) (memory.ofHead 0) = omega (arith, one-head (b .machine .n)) in
-    let h = s .heads 0 one (suc i) (suc j) (omega arith) (omega (arith, r .lists .now)) in
-    let x = ap (λ c. c .index) (r .lists .times (memory.ofHead 0) there i (omega arith)) in
-    let y = ap (λ c. c .index) (r .lists .times (memory.ofHead 0) there j lt) in
+bench-rises b B r s k there i j le lt =
+    let m = b .machine in
+    let one : k < headLines (B .mach .core .conf) = subst (λ c. k < headLines c) (sym (r .tied .conf)) (subst (λ x. k < x) (sym (lines-shown (m .form) (m .n) (m .t) (r .tied .sizes .form))) there) in
+    let h = s .heads k one (suc i) (suc j) (omega arith) (omega (arith, r .lists .now)) in
+    let x = ap (λ c. c .index) (r .lists .times (memory.ofHead k) there i (omega arith)) in
+    let y = ap (λ c. c .index) (r .lists .times (memory.ofHead k) there j lt) in
     omega (arith, h, x, y)

@@ -11,16 +11,17 @@ use borrow.Author.Tests.{not-false}
 use Rattle.lists.proofs.TabLaws.{front-at}
 use Rattle.answer.specs.Answers.{check, accepted}
 use Rattle.answer.specs.declared.Answer.{Answer}
-use Rattle.answer.specs.declared.Answer.the-variants.{Taken, Length, Mark, Nodes, Threads, Events}
+use Rattle.answer.specs.declared.Answer.the-variants.{Taken, Length, Mark, Threads, Events}
 use Rattle.image.specs.declared.Image.{Image}
-use Rattle.image.specs.Bytes.{at1, atW}
-use Rattle.image.specs.Layout.{contentAt, noContent, noContents, formIn, isImage, nodePlace, readContent, readNodes, imageIn, readHeads}
-use Rattle.image.proofs.HeadLaws.{one-head, heads-at}
+use Rattle.image.specs.Bytes.{atW}
+use Rattle.image.specs.Layout.{contentAt, noContent, noContents, shapeIn, readContent, readNodes, imageIn, readHeads}
+use Rattle.image.proofs.HeadLaws.{heads-at}
+use Rattle.image.proofs.ShapeLaws.{shape-is, shape-then}
 use Rattle.image.proofs.ByteLaws.{at-small}
 use Rattle.image.proofs.SoundLaws.{Fitting, is-fitting, sound-then}
-use Rattle.image.specs.Refusals.{nodesFit, sound, fitting, whole, imageAnswer}
-use Rattle.image.specs.Form.{widthOf, topOf, headsAt}
-use Rattle.machine.specs.Start.{threadsFit, startAnswer}
+use Rattle.image.specs.Refusals.{threadsFit, sound, fitting, whole, imageAnswer}
+use Rattle.image.specs.Form.{widthOf, topOf, headsAt, nodePlace, imageSize}
+use Rattle.machine.specs.Start.{startAnswer}
 use Rattle.machine.specs.Range.{inRange}
 use Rattle.machine.specs.declared.Event.{Event}
 use Rattle.schedule.specs.Layout.{isFile, threadsIn, countIn, imagePart, scheduleIn, fileAnswer, scheduleAnswer, eventsIn}
@@ -48,22 +49,23 @@ narrow-at f s b i = omega (arith, at-small (widthOf f) s i b)
 pub narrow-image : (s : List ℕ) → Bytes s → Narrow (imageIn s)
 unfolding imageIn readHeads readNodes
 narrow-image s b =
-    let f = formIn s in
+    let z = shapeIn s in
+    let f = z .form in
     record {
-      head = subst (λ x. x ≤ topOf f) (sym (heads-at (at1 s 5) (λ k. atW (widthOf f) s (headsAt f + k * widthOf f)) 0 (omega (arith, one-head (at1 s 5))))) (narrow-at f s b (headsAt f + 0 * widthOf f));
-      at = λ i h. subst (λ c. c .index ≤ topOf f) (sym (front-at (λ i. readContent f s (nodePlace f i)) (at1 s 5) noContents i noContent h)) (narrow-at f s b (nodePlace f i + 1));
+      head = λ k h. subst (λ x. x ≤ topOf f) (sym (heads-at z (λ k. atW (widthOf f) s (headsAt f + k * widthOf f)) k h)) (narrow-at f s b (headsAt f + k * widthOf f));
+      at = λ i h. subst (λ c. c .index ≤ topOf f) (sym (front-at (λ i. readContent f s (nodePlace z i)) (z .n) noContents i noContent h)) (narrow-at f s b (nodePlace z i + 1));
     }
 
-pub image-starts : (s : List ℕ) (more t : ℕ) → Bytes s → accepted (imageAnswer more s) ≡ true → threadsFit t ≡ true → accepted (startAnswer (imageIn s) t) ≡ true
+-- accepted for T threads, its own T, where it has one, agrees
+pub image-starts : (s : List ℕ) (more t : ℕ) → Bytes s → accepted (imageAnswer t more s) ≡ true → threadsFit t ≡ true → accepted (startAnswer (imageIn s) t) ≡ true
 unfolding imageAnswer startAnswer imageIn
 image-starts s more t b a h =
     let x = pass (ltb (length s) 10) Length _ refl a in
-    let y = pass (not (isImage s)) Mark _ refl (x .1) in
-    let z = pass (not (nodesFit (at1 s 5))) Nodes _ refl (y .1) in
-    let w = pass (not (eqb (length s) (nodePlace (formIn s) (at1 s 5) + more))) Length _ refl (z .1) in
+    let y = shape-is t (shapeIn s) _ (x .1) in
+    let w = pass (not (eqb (length s) (imageSize (shapeIn s) + more))) Length _ refl (y .1) in
     let n = narrow-image s b in
     check-no (not (threadsFit t)) Threads _ (ap not h)
-    (check-no (not (isImage s)) Mark _ (y .0) (check-no (not (nodesFit (at1 s 5))) Nodes _ (z .0) (whole-of (imageIn s) (w .1) (record { head = n .head; at = n .at }))))
+    (subst (λ a. accepted a ≡ true) (sym (shape-then t (shapeIn s) (whole (imageIn s) Taken) (y .0))) (whole-of (imageIn s) (w .1) (record { head = n .head; at = n .at })))
 
 -- the bytes of a schedule's image are bytes
 image-bytes : (s : List ℕ) → Bytes s → Bytes (imagePart s)

@@ -16,10 +16,10 @@ use Rattle.lists.proofs.BoolLaws.{no-way}
 use Rattle.lists.proofs.TabLaws.{front-at, front-size}
 use Rattle.image.specs.declared.Content.{Content}
 use Rattle.image.specs.declared.Image.{Image}
-use Rattle.image.specs.Layout.{contentAt, noContent, noContents, headIn, headsOf}
-use Rattle.image.proofs.HeadLaws.{one-head, heads-at, heads-length, head-one}
+use Rattle.image.specs.Layout.{contentAt, noContent, noContents, imageShape, headIn, headsOf}
+use Rattle.image.proofs.HeadLaws.{heads-at, heads-length, head-within}
 use Rattle.image.specs.Recovered.{headOf, recoveredAt, dummyOf}
-use Rattle.image.specs.Form.{topOf}
+use Rattle.image.specs.Form.{topOf, perDesk, headLines}
 use Rattle.machine.specs.Record.{zeroNode, zeroThread, blankNodes, idleThread, idleThreads, contentOf}
 use Rattle.machine.specs.Line.{headContent}
 use Rattle.machine.specs.declared.Line.{Line}
@@ -28,15 +28,17 @@ use Rattle.machine.specs.Start as machine
 use Rattle.machine.specs.Start.{startNode, spare, startWith, startOf, queueOf, behind}
 use Rattle.model.specs.Basics.{sel, bothb, upd}
 use Rattle.model.specs.Choice.{lowest}
+use Rattle.model.specs.Conf.{lineIx}
 use Rattle.model.specs.Core as core
 use Rattle.model.specs.Recovery as recovery
 use Rattle.model.specs.Recovery.{start, start′, linkUp}
 use Rattle.model.proofs.Basics.{upd-at, upd-other, eq-no, true→eq, yes-of}
-use Rattle.tied.specs.Shown.{shownContent, linkIf, linkOf, members, confOf}
+use Rattle.tied.specs.Shown.{shownContent, linkIf, linkOf, members, engineIf, confOf}
 use Rattle.tied.proofs.Words.{has-word, word-fits, members-zero}
-use Rattle.tied.proofs.Relation.{Link, NodeAt, Tied}
+use Rattle.tied.proofs.Engines.{lines-shared}
+use Rattle.tied.proofs.Relation.{Link, step-in, NodeAt, Tied}
 use Rattle.tied.proofs.Changes.{some-link}
-use Rattle.tied.proofs.Images.{ImageT, Under, under-risen, head-is, rec-is, nodes-is, dummy-is, queue-is}
+use Rattle.tied.proofs.Images.{ImageT, Under, under-risen, lines-at, eight-lines, head-is, head-one, rec-is, nodes-is, dummy-is, queue-is}
 
 -- ---- links and the last node
 
@@ -101,7 +103,7 @@ module _ (g : Image) (t : ℕ) (G : recovery.Image) (r : ImageT g t G) where
           ∙ ap (λ b. shownContent (record { linked = contentAt (g .nodes) i .linked; index = pick b (headOf g) (contentAt (g .nodes) i .index); item = contentAt (g .nodes) i .item })) (sym (eq-no i d ne))
 
       low : (b : Bool) → pick b (headOf g) (contentAt (g .nodes) i .index) ≤ topOf (g .form)
-      low true = subst (λ x. x ≤ topOf (g .form)) (sym (head-one g)) (r .narrow-head)
+      low true = head-within g (topOf (g .form)) (r .narrow-head)
       low false = r .narrow i h
 
   spare-is : (d i : ℕ) → i < g .n
@@ -124,9 +126,9 @@ module _ (g : Image) (t : ℕ) (G : recovery.Image) (r : ImageT g t G) where
         conf = r .conf;
         sizes = r .sizes;
         hnode = refl;
-        hidx = head-is g t G r ∙ head-one g ∙ sym first;
-        narrow = subst (λ x. x ≤ topOf (g .form)) (sym first) (r .narrow-head);
-        heads = heads-length (g .n) (headIn g);
+        heads = shows (perDesk (g .form)) refl;
+        narrow = λ k h. let z = below k h in subst (λ x. x ≤ topOf (g .form)) (sym (stored k z)) (r .narrow-head k z);
+        eight = heads-length (imageShape g) (headIn g) (eight-lines g t G r);
         tail = last-is d (queueOf g);
         last = refl;
         nodes = record {
@@ -138,24 +140,36 @@ module _ (g : Image) (t : ℕ) (G : recovery.Image) (r : ImageT g t G) where
         threads = record {
           size = refl;
           at = λ k h. rw (getD-replicate 8 k (idleThread 255) zeroThread (omega (arith, r .sizes .threads-hi))) (record {
+            seen = 0;
+            own = λ e. refl;
             stage = refl;
             holds = refl;
-            regs = record { step = omega arith; node = inr refl; tail = inr refl; head = inr refl; next = inr refl; held = inr refl; index = omega arith };
+            regs = record { step = step-in (g .form) 0 (omega arith); node = inr refl; tail = inr refl; head = inr refl; next = inr refl; held = inr refl; index = omega arith };
           });
         };
         kept = record {
           size = front-size (contentAt (g .nodes)) (g .n) (replicate 64 noContent) (r .sizes .nodes-hi);
-          heads = heads-length (g .n) (headIn g);
-          head = ap headContent (sym first);
+          heads = heads-length (imageShape g) (headIn g) (eight-lines g t G r);
+          head = λ k h. ap headContent (sym (stored k (below k h)));
           at = λ i h. sym (front-at (contentAt (g .nodes)) (g .n) (replicate 64 noContent) i noContent h);
           flag = λ i h. r .flag i h;
-          narrow-head = r .narrow-head;
+          narrow-head = λ k h. r .narrow-head k (below k h);
           narrow = λ i h. r .narrow i h;
         };
       }
     where
-      first : getD (headsOf (g .n) (headIn g)) 0 0 ≡ headIn g 0
-      first = heads-at (g .n) (headIn g) 0 (omega (arith, one-head (g .n)))
+      below : (k : ℕ) → k < headLines (record { form = g .form; n = g .n; t = t }) → k < headLines (imageShape g)
+      below k h = subst (λ x. k < x) (lines-at g t G r) h
+
+      stored : (k : ℕ) → k < headLines (imageShape g) → getD (headsOf (imageShape g) (headIn g)) k 0 ≡ headIn g k
+      stored k h = heads-at (imageShape g) (headIn g) k h
+
+      -- "Recovery takes the largest thread index and alters none"
+      shows : (b : Bool) → perDesk (g .form) ≡ b → (k : ℕ) → k < headLines (record { form = g .form; n = g .n; t = t })
+          → lineIx (engineIf b) (recovery.headOf G) (G .heads) k ≡ getD (headsOf (imageShape g) (headIn g)) k 0
+      shows true e k h = let z = below k h in r .head k z ∙ sym (stored k z)
+      shows false e zero h = head-one g t G r (lines-shared (imageShape g) (r .sizes .form) e) ∙ sym (stored 0 (below 0 h))
+      shows false e (suc k) h = absurd (omega (arith, below (suc k) h, lines-shared (imageShape g) (r .sizes .form) e))
 
   -- a start from an image with a dummy
   pub startT : dummyOf g < g .n → Tied (imageLine g) (startOf g t) (start G)

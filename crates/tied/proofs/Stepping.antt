@@ -10,23 +10,23 @@ use Rattle.lists.proofs.BoolLaws.{no-way}
 use Rattle.answer.specs.declared.Answer.{Answer}
 use Rattle.image.specs.declared.Content.{Content}
 use Rattle.tied.specs.Memory as memory
-use Rattle.image.specs.Form.{topOf}
+use Rattle.image.specs.Form.{perDesk}
 use Rattle.machine.specs.Record.{thread, atStep, putLast}
 use Rattle.machine.specs.Line.{putLine, cachedAt}
-use Rattle.machine.specs.Stage.{Stage, lastStep, stage}
+use Rattle.machine.specs.Stage.{Stage, stage}
 use Rattle.machine.specs.Retire.{left}
 use Rattle.machine.specs.declared.Machine.{Machine}
 use Rattle.machine.specs.declared.Thread.{Thread}
 use Rattle.machine.specs.declared.Acted as machine
 use Rattle.model.specs.Lines.{Touch, nowhere, stores, flushes, issues, fences}
-use Rattle.model.specs.Conf.{shared, atOnce}
+use Rattle.model.specs.Conf.{atOnce}
 use Rattle.model.specs.Core.{Core, Th}
 use Rattle.model.specs.Changes.{setLast}
 use Rattle.model.specs.Steps.{Out, leave}
 use Rattle.model.specs.Always.{ThIn, InRange}
 use Rattle.model.proofs.Basics.{true→eq}
-use Rattle.tied.specs.Shown.{linkIf, linkOf, threadOf, shownThread, lineShown, answerOf}
-use Rattle.tied.proofs.Relation.{Link, Regs, ThreadAt, Tied}
+use Rattle.tied.specs.Shown.{linkIf, linkOf, threadOf, shownThread, lineShown, engineIf, answerOf}
+use Rattle.tied.proofs.Relation.{Link, step-in, Regs, ThreadAt, Tied}
 use Rattle.tied.proofs.Changes.{count-n}
 use Rattle.tied.proofs.Leaving.{leftT}
 
@@ -78,9 +78,9 @@ lastT p m c d n = record {
   last = refl;
   sizes = d .sizes;
   hnode = d .hnode;
-  hidx = d .hidx;
-  narrow = d .narrow;
   heads = d .heads;
+  narrow = d .narrow;
+  eight = d .eight;
   tail = d .tail;
   nodes = d .nodes;
   free = d .free;
@@ -89,21 +89,30 @@ lastT p m c d n = record {
 }
 
 module _ (p : memory.Line → Content) (m : Machine) (c : Core) (d : Tied p m c) (k : ℕ) (hk : k < m .t) where
-  pub engine-is : c .conf .engine ≡ shared
+  pub engine-is : c .conf .engine ≡ engineIf (perDesk (m .form))
   engine-is = ap (λ z. z .engine) (d .conf)
 
   pub mode-is : c .conf .mode ≡ atOnce
   mode-is = ap (λ z. z .mode) (d .conf)
 
-  pub regs-of : Regs (topOf (m .form)) (m .n) (thread m k)
+  pub regs-of : Regs (m .form) (m .n) (thread m k)
   regs-of = d .threads .at k hk .regs
 
+  -- the index that the abstract thread remembers; the record's own where Head has one
+  abbrev pub seen : ℕ
+  seen = d .threads .at k hk .seen
+
+  pub own-seen : perDesk (m .form) ≡ false → seen ≡ thread m k .index
+  own-seen = d .threads .at k hk .own
+
   -- the thread goes on to step s with what it has read
-  pub goes-on : (s : ℕ) (S : Th) → s ≤ lastStep → S ≡ shownThread (atStep (thread m k) s) → ThreadAt (topOf (m .form)) (m .n) (atStep (thread m k) s) S (c .held k)
+  pub goes-on : (s : ℕ) (S : Th) → s ≤ 19 → S ≡ shownThread (atStep (thread m k) s) seen → ThreadAt (m .form) (m .n) (atStep (thread m k) s) S (c .held k)
   goes-on s S h e = record {
+    seen = seen;
+    own = own-seen;
     stage = e;
     holds = d .threads .at k hk .holds;
-    regs = record { step = h; node = regs-of .node; tail = regs-of .tail; head = regs-of .head; next = regs-of .next; held = regs-of .held; index = regs-of .index };
+    regs = record { step = step-in (m .form) s h; node = regs-of .node; tail = regs-of .tail; head = regs-of .head; next = regs-of .next; held = regs-of .held; index = regs-of .index };
   }
 
   -- the thread answers and holds what it held
@@ -111,7 +120,7 @@ module _ (p : memory.Line → Content) (m : Machine) (c : Core) (d : Tied p m c)
   leavesT = leftT p m c d k hk (thread m k .held) (c .held) (d .threads .at k hk .holds) (regs-of .held) (λ j ne. refl)
 
   -- what the thread's step uses is there
-  pub used : InRange c → (s : Stage) → stage m k ≡ s → ThIn (m .n) (c .next) (threadOf s (thread m k))
+  pub used : InRange c → (s : Stage) → stage m k ≡ s → ThIn (m .n) (c .next) (threadOf s (thread m k) seen)
   used r s e =
       let x : ThIn (m .n) (c .next) (c .thr k) = subst (λ n. ThIn n (c .next) (c .thr k)) (count-n p m c d) (r .threads k) in
-      subst (ThIn (m .n) (c .next)) (d .threads .at k hk .stage ∙ ap (λ s. threadOf s (thread m k)) e) x
+      subst (ThIn (m .n) (c .next)) (d .threads .at k hk .stage ∙ ap (λ s. threadOf s (thread m k) seen) e) x

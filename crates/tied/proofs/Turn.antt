@@ -10,20 +10,22 @@ use Rattle.lists.proofs.BoolLaws.{no-way}
 use Rattle.answer.specs.Answers.{accepted}
 use Rattle.answer.specs.declared.Answer.the-variants.{Taken, Number, Busy, Idle, NotZero}
 use Rattle.machine.specs.Record.{kept}
-use Rattle.machine.specs.Line.{lineCount, persisted}
+use Rattle.image.specs.Form.{headLines}
+use Rattle.image.specs.Layout.{imageShape}
+use Rattle.machine.specs.Line.{shapeOf, lineCount, persisted}
 use Rattle.tied.specs.Memory as memory
 use Rattle.machine.specs.Stage as stage
 use Rattle.machine.specs.Start.{startOf}
 use Rattle.machine.specs.Event.{Deed, unknown, enqueues, dequeues, steps, writesBack, crashes, eventAnswer, threadTooLarge, lineTooLarge, itemNotZero, done}
 use Rattle.machine.specs.declared.Machine.{Machine}
-use Rattle.image.proofs.HeadLaws.{one-head}
 use Rattle.machine.proofs.LineLaws as lines
 use Rattle.machine.proofs.LineLaws.{LineIn}
 use Rattle.machine.specs.declared.Event.{Event}
 use Rattle.schedule.specs.Run as run
 use Rattle.schedule.specs.Run.{turned}
 use Rattle.model.specs.Lines.{act, back, nowhere, flushes}
-use Rattle.model.specs.Conf.{Within, headLines}
+use Rattle.model.specs.Conf as model
+use Rattle.model.specs.Conf.{Within}
 use Rattle.model.specs.Core.{Core, busy}
 use Rattle.model.specs.Steps.{enq, deq, move}
 use Rattle.model.specs.Machine as machine
@@ -37,14 +39,15 @@ use Rattle.model.proofs.Demand3.ThreeB.{stays-put}
 use Rattle.model.proofs.Page.Frame.{frame, conf-same}
 use Rattle.model.proofs.Always.Runs.{turnKept, keptRange}
 use Rattle.tied.specs.Shown.{lineShown, eventBy, answerOf}
-use Rattle.tied.proofs.Changes.{persistT, count-n, count-t}
+use Rattle.tied.proofs.Engines.{lines-shown, own-agrees, own-lines}
+use Rattle.tied.proofs.Changes.{persistT, count-n, count-t, same-shape}
 use Rattle.tied.proofs.Retiring.{busy-tied}
 use Rattle.tied.proofs.Step.{stepT, enqueuesT, dequeuesT}
 use Rattle.tied.proofs.Images.{ImageT}
 use Rattle.tied.proofs.Accepted.{pass, fit-dummy}
 use Rattle.tied.proofs.Bench.{own-kept, kept-flag, BenchT, goesOnT, nextPast}
 use Rattle.tied.proofs.Past.{pastBegins}
-use Rattle.tied.proofs.Begins.{size-is, startedT, beginsT}
+use Rattle.tied.proofs.Begins.{shape-is, startedT, beginsT}
 
 pub lt-of : (a b : ℕ) → leb a b ≡ false → b < a
 lt-of a b e = by (decLt b a)
@@ -68,12 +71,16 @@ module _ (b : run.Bench) (B : Bench) (r : BenchT b B) where
   persistedT = record {
     conf = r .tied .conf;
     sizes = r .tied .sizes;
-    head = ap (λ z. z .index) (r .lists .kept (memory.ofHead 0) (omega (arith, one-head (m .n))));
+    agrees = own-agrees (shapeOf m);
+    head = λ k h. ap (λ z. z .index) (r .lists .kept (memory.ofHead k) (in-own k h));
     at = λ i h. r .lists .kept (memory.ofNode i) h;
     flag = λ i h. kept-flag _ m c (r .tied) (memory.ofNode i) h .0;
-    narrow-head = r .tied .kept .narrow-head;
+    narrow-head = λ k h. r .tied .kept .narrow-head k (in-own k h);
     narrow = λ i h. r .tied .kept .narrow i h;
   }
+    where
+      in-own : (k : ℕ) → k < headLines (imageShape (persisted m)) → k < headLines (shapeOf m)
+      in-own k h = subst (λ x. k < x) (sym (own-lines (shapeOf m))) h
 
   pub persisted-fit : Fit (machine.persisted (B .mach))
   persisted-fit = fit _ _ _ _ _ _ (r .kept .all) (machine.persisted (B .mach)) (stays-put (B .mach) _ _ _ (r .kept .all) (r .kept .timed))
@@ -84,13 +91,13 @@ module _ (b : run.Bench) (B : Bench) (r : BenchT b B) where
 
     -- the line that a write-back names
     abbrev line-of : Event → memory.Line
-    line-of e = memory.lineAt (m .n) (e .number)
+    line-of e = memory.lineAt (shapeOf m) (e .number)
 
-    line-there : lineTooLarge m e ≡ false → LineIn (m .n) (line-of e)
-    line-there f = lines.line-in (m .n) (e .number) (lt-of (lineCount (m .n)) (e .number) f)
+    line-there : lineTooLarge m e ≡ false → LineIn (shapeOf m) (line-of e)
+    line-there f = lines.line-in (shapeOf m) (e .number) (lt-of (lineCount (shapeOf m)) (e .number) f)
 
     -- taken here, taken there
-    pub takes : (δ : Deed) → accepted (eventAnswer q m e δ) ≡ true → Takes (B .mach) (eventBy (m .n) δ e)
+    pub takes : (δ : Deed) → accepted (eventAnswer q m e δ) ≡ true → Takes (B .mach) (eventBy (shapeOf m) δ e)
     takes unknown a = no-way (sym a)
     takes enqueues a =
         let x = pass (threadTooLarge m e) (Number q) _ refl a in let y = pass (stage.busy m (e .number)) (Busy q) Taken refl (x .1) in
@@ -103,13 +110,13 @@ module _ (b : run.Bench) (B : Bench) (r : BenchT b B) where
         let h = thread-in (x .0) in (omega (arith, count-t _ m c (r .tied)), busy-tied _ m c (r .tied) (e .number) h ∙ not-false _ (y .0))
     takes writesBack a = let x = pass (lineTooLarge m e) (Number q) _ refl a in by (line-of e) (line-there (x .0))
       where
-        by : (l : memory.Line) → LineIn (m .n) l → Within (c .conf) (lineShown l)
-        by (memory.ofHead k) h = subst (λ z. k < headLines z) (sym (r .tied .conf)) (omega (arith, one-head (m .n)))
+        by : (l : memory.Line) → LineIn (shapeOf m) l → Within (c .conf) (lineShown l)
+        by (memory.ofHead k) h = subst (λ z. k < model.headLines z) (sym (r .tied .conf)) (subst (λ x. k < x) (sym (lines-shown (m .form) (m .n) (m .t) (r .tied .sizes .form))) h)
         by (memory.ofNode i) h = omega (arith, count-n _ m c (r .tied))
     takes crashes a = tt
 
     -- and the same after it
-    pub turns : (δ : Deed) → accepted (eventAnswer q m e δ) ≡ true → BenchT (turned b (done m e δ) δ) (turn B (eventBy (m .n) δ e))
+    pub turns : (δ : Deed) → accepted (eventAnswer q m e δ) ≡ true → BenchT (turned b (done m e δ) δ) (turn B (eventBy (shapeOf m) δ e))
     turns unknown a = no-way (sym a)
     turns enqueues a =
         let x = pass (threadTooLarge m e) (Number q) _ refl a in
@@ -159,21 +166,21 @@ module _ (b : run.Bench) (B : Bench) (r : BenchT b B) where
           past = pastBegins (startOf (persisted m) (m .t));
         }
 
-    -- N stays
-    pub turned-size : (δ : Deed) → accepted (eventAnswer q m e δ) ≡ true → turned b (done m e δ) δ .machine .n ≡ m .n
-    turned-size unknown a = no-way (sym a)
-    turned-size enqueues a = refl
-    turned-size dequeues a = refl
-    turned-size steps a =
+    -- form, N and T stay
+    pub turned-shape : (δ : Deed) → accepted (eventAnswer q m e δ) ≡ true → shapeOf (turned b (done m e δ) δ .machine) ≡ shapeOf m
+    turned-shape unknown a = no-way (sym a)
+    turned-shape enqueues a = refl
+    turned-shape dequeues a = refl
+    turned-shape steps a =
         let x = pass (threadTooLarge m e) (Number q) _ refl a in
         let s = stepT _ m c (r .tied) ranged (e .number) (thread-in (x .0)) in
-        sym (count-n _ _ _ (s .tied)) ∙ ap (λ z. z .nodes) (conf-same c (move (e .number))) ∙ count-n _ m c (r .tied)
-    turned-size writesBack a =
+        same-shape _ _ m _ c _ (r .tied) (s .tied) (conf-same c (move (e .number)))
+    turned-shape writesBack a =
         let x = pass (lineTooLarge m e) (Number q) _ refl a in
-        sym (count-n _ _ _ (persistT _ m c (r .tied) (line-of e) (line-there (x .0)))) ∙ count-n _ m c (r .tied)
-    turned-size crashes a = size-is (persisted m) (m .t)
+        same-shape _ _ m _ c c (r .tied) (persistT _ m c (r .tied) (line-of e) (line-there (x .0))) refl
+    turned-shape crashes a = shape-is (persisted m) (m .t)
 
-    pub answers-same : (δ : Deed) → accepted (eventAnswer q m e δ) ≡ true → done m e δ .answer ≡ answerOf (answer (B .mach) (eventBy (m .n) δ e))
+    pub answers-same : (δ : Deed) → accepted (eventAnswer q m e δ) ≡ true → done m e δ .answer ≡ answerOf (answer (B .mach) (eventBy (shapeOf m) δ e))
     answers-same unknown a = no-way (sym a)
     answers-same enqueues a = refl
     answers-same dequeues a = refl

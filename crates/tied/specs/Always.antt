@@ -6,7 +6,8 @@ use mathlib.Core.Logic.{_⊎_}
 use Prim.Native.Nat.{ℕ, _+_, _≤_, _<_}
 use lib.ListN.{getD, length}
 use Rattle.image.specs.declared.Content.{Content}
-use Rattle.machine.specs.Line.{cachedAt, persistedAt}
+use Rattle.image.specs.Form.{headLines}
+use Rattle.machine.specs.Line.{shapeOf, cachedAt, persistedAt}
 use Rattle.machine.specs.declared.Line.{Line}
 use Rattle.machine.specs.declared.Line.the-variants.{OfHead as ofHead}
 use Rattle.machine.specs.Place.{inQueue, isFree, isWaiting, isHeld, inEnqueue, inDequeue, placesOf}
@@ -53,8 +54,9 @@ atStart b = getD (b .past) 0 (b .machine)
 abbrev pub WasThere : Bench → Line → Type 0
 WasThere b l = Among (persistedAt (b .machine) l) (persistedAt (atStart b) l ∷ map (λ m. cachedAt m l) (b .past))
 
--- ---- what Head's line does in the course of time
+-- ---- what the head lines do in the course of time
 
--- from one moment to a later one since the last start its index never falls
+-- from one moment to a later one since the last start the index of none falls
 abbrev pub Rises : Bench → Type 0
-Rises b = (i j : ℕ) → i ≤ j → j < length (b .past) → cachedAt (getD (b .past) i blankMachine) (ofHead 0) .index ≤ cachedAt (getD (b .past) j blankMachine) (ofHead 0) .index
+Rises b = (k : ℕ) → k < headLines (shapeOf (b .machine)) → (i j : ℕ) → i ≤ j → j < length (b .past)
+    → cachedAt (getD (b .past) i blankMachine) (ofHead k) .index ≤ cachedAt (getD (b .past) j blankMachine) (ofHead k) .index

@@ -12,10 +12,10 @@ use Rattle.lists.proofs.WordLaws as words
 use Rattle.answer.specs.Answers.{accepted}
 use Rattle.answer.specs.declared.Answer.{Answer}
 use Rattle.answer.specs.declared.Answer.the-variants.{Done, Full, WornOut, Item, Empty}
-use Rattle.image.specs.Form.{topOf}
-use Rattle.machine.specs.Record.{none, node, thread, headAt, ownNode, withNext, withIndex, putNode, putTail, putHead}
-use Rattle.machine.specs.Stage.{Stage, noStep, A1, A2, A3, A4, A5, A6, A7, A8, A9, A10, A11, A12, D1, D2, D3, D4, D5, D6, D7, stageOf, stage}
-use Rattle.machine.specs.Line.{lineAt, persist}
+use Rattle.image.specs.Form.{topOf, perDesk}
+use Rattle.machine.specs.Record.{none, node, thread, headAt, ownNode, withNext, withIndex, putNode, putTail, putHead, putHeadNode}
+use Rattle.machine.specs.Stage.{Stage, noStep, A1, A2, A3, A4, A5, A6, A7, A8, A9, A10, A11, A12, D1, D2, D3, D4, D5, D6, D7, S3, S6, stageOf, stage}
+use Rattle.machine.specs.Line.{shapeOf, lineAt, ownHead, persist}
 use Rattle.machine.specs.declared.Line.{Line}
 use Rattle.machine.specs.declared.Line.the-variants.{OfHead as ofHead, OfNode as ofNode}
 use Rattle.machine.specs.Retire.{quiet, moving, going, answering, storing, nextFree, handOut, freed, lastWait, releasedAt, released, left, others, retired, retiredHeld}
@@ -119,14 +119,19 @@ still-step m k A12 d =
     record { last = p .last; count = p .count; free = p .free }
 still-step m k D1 d = quietly m _ refl refl refl
 still-step m k D2 d = quietly m _ refl refl refl
-still-step m k D3 d = still-left m (persist m (ofHead 0)) k (thread m k .held) (quietly m _ refl refl refl)
+still-step m k D3 d = still-left m (persist m (ofHead (ownHead m k))) k (thread m k .held) (quietly m _ refl refl refl)
 still-step m k D4 d =
     let x = thread m k .next in
-    either m (both (eqb (m .head) (thread m k .head)) (eqb (headAt m 0) (thread m k .index)))
-    (storing (ofHead 0) (going (putHead m x (node m x .index)) k 17)) (going m k 13) (quietly m _ refl refl refl) (quietly m _ refl refl refl)
+    let b = perDesk (m .form) in
+    let desk = going (putHeadNode m x) k 17 in
+    let pair = storing (ofHead 0) (going (putHead m x (node m x .index)) k 17) in
+    either m (both (eqb (m .head) (thread m k .head)) (pick b true (eqb (headAt m 0) (thread m k .index)))) (pick b desk pair) (going m k 13)
+    (either m b desk pair (quietly m _ refl refl refl) (quietly m _ refl refl refl)) (quietly m _ refl refl refl)
 still-step m k D5 d = quietly m _ refl refl refl
 still-step m k D6 d = quietly m _ refl refl refl
 still-step m k D7 d = still-left m (retiredHeld m k) k (thread m k .head) (still-retired m k)
+still-step m k S3 d = quietly m _ refl refl refl
+still-step m k S6 d = quietly m _ refl refl refl
 
 still-persist : (m : Machine) (l : Line) → Still m (persist m l)
 still-persist m (ofHead k) = quietly m _ refl refl refl
@@ -160,7 +165,7 @@ module _ (p : ℕ) (m : Machine) (e : Event) where
   on-deed enqueues d c t = inr (quietly m _ refl refl refl)
   on-deed dequeues d c t = inr (quietly m _ refl refl refl)
   on-deed steps d c t = on-step t d
-  on-deed writesBack d c t = inr (still-persist m (lineAt (m .n) (e .number)))
+  on-deed writesBack d c t = inr (still-persist m (lineAt (shapeOf m) (e .number)))
   on-deed crashes d c t = absurd (c refl)
 
   pub left-by : deedOf (e .kind) ≢ crashes → Left (eventAt p m e .machine)

@@ -2,7 +2,7 @@
 use Prim.Native.Nat.{ℕ, zero, suc, _+_, _-_, _*_, _%_, _/_, _≤_, _<_}
 use mathlib.Core.Path.{_≡_, refl, sym, ap, ap₂, _∙_}
 use mathlib.Core.Bool.{Bool, true, false}
-use mathlib.Core.Logic.{_≢_}
+use mathlib.Core.Logic.{_≢_, _⊎_, inl, inr}
 use mathlib.Core.List.{List, [], _∷_, _++_}
 use native.Mathlib.Omega.{arith}
 use native.Mathlib.Numerals.{add-one, add-two}
@@ -15,62 +15,66 @@ use Rattle.lists.specs.Find.{pick}
 use Rattle.lists.specs.Tab.{joined, over}
 use Rattle.lists.proofs.TabLaws as tabs
 use Rattle.image.specs.Bytes.{le, le4}
-use Rattle.image.specs.Form.{known, widthOf, nodeSize}
-use Rattle.image.specs.Layout.{headLines, headBytes}
+use Rattle.image.specs.Form.{widthOf, nodeSize, headLines}
+use Rattle.image.specs.Layout.{markBytes, headBytes}
 use Rattle.image.proofs.FormLaws as forms
 use Rattle.codec.proofs.Laws as image
 use Rattle.codec.proofs.ReadWrite as again
 use Rattle.printing.proofs.Written as written
 use Rattle.spelling.specs.declared.Act.{Act}
 use Rattle.spelling.specs.declared.Survey.{Survey}
-use Rattle.spelling.specs.Layout.{nodeStart, sizeOf, restOf, headOf, nodeSaid, eventSaid}
+use Rattle.spelling.proofs.WordedLaws as worded
+use Rattle.spelling.specs.Layout.{worded, spelledShape, nodeStart, sizeOf, restOf, headOf, nodeSaid, eventSaid}
 use Rattle.spelling.specs.Reading.{blankFile, times, putBy, reachBy, putAll}
 
 pub event-over : (b : List ℕ) (at x y z : ℕ) → over (set (set b at x) (at + 1) y) (at + 2) (le4 z) ≡ over b at (x ∷ y ∷ le4 z)
 unfolding over
 event-over b at x y z = simp (add-one, add-two)
 
-pub header-over : (b : List ℕ) (v : Survey)
+pub header-over : (b : List ℕ) (v : Survey) → worded (v .form) ≡ true
     → over (over (over (over (over (over (over b 0 (85 ∷ 81 ∷ 83 ∷ 1 ∷ 0 ∷ [])) 5 (v .t % 256 ∷ [])) 6 (v .count % 256 ∷ [])) 7 (v .count / 256 % 256 ∷ []))
     8 (85 ∷ 81 ∷ 73 ∷ v .form ∷ 0 ∷ [])) 13 (v .n % 256 ∷ [])) 14 (le (widthOf (v .form)) (v .head)) ≡ over b 0 (headOf v)
-unfolding over headOf headBytes headLines joined
-header-over b v = refl
+unfolding over headOf headBytes markBytes headLines joined
+header-over b v h = by (worded.worded-is (v .form) h)
+  where
+    by : (v .form ≡ 1) ⊎ (v .form ≡ 2)
+        → over (over (over (over (over (over (over b 0 (85 ∷ 81 ∷ 83 ∷ 1 ∷ 0 ∷ [])) 5 (v .t % 256 ∷ [])) 6 (v .count % 256 ∷ [])) 7 (v .count / 256 % 256 ∷ []))
+        8 (85 ∷ 81 ∷ 73 ∷ v .form ∷ 0 ∷ [])) 13 (v .n % 256 ∷ [])) 14 (le (widthOf (v .form)) (v .head)) ≡ over b 0 (headOf v)
+    by (inl e) = rw e
+    by (inr e) = rw e
 
-pub length-head : (v : Survey) → known (v .form) ≡ true → length (headOf v) ≡ nodeStart (v .form) 0
+pub length-head : (v : Survey) → worded (v .form) ≡ true → length (headOf v) ≡ nodeStart (v .form) 0
 unfolding headOf
-length-head v h = omega (arith, image.head-length (v .form) (v .n % 256) (λ k. v .head) h, forms.place-zero (v .form))
+length-head v h =
+    let z = spelledShape (v .form) (v .n % 256) in
+    omega (arith, image.head-length z (λ k. v .head) (worded.worded-known (v .form) h), forms.place-zero z, worded.place-same z 0 h)
 
 -- ---- the places of nodes, in a schedule
-
-pub start-wide : (f i : ℕ) → f ≡ 2 → 22 + i * 13 ≡ nodeStart f i
-start-wide f i e = omega (arith, forms.place-wide f i e)
-
-pub start-plain : (f i : ℕ) → known f ≡ true → f ≢ 2 → 18 + i * 9 ≡ nodeStart f i
-start-plain f i h e = omega (arith, forms.place-plain f i h e)
 
 pub span-wide : (f : ℕ) → f ≡ 2 → 13 ≡ nodeSize f
 unfolding nodeSize widthOf
 span-wide f e = rw e
 
-pub span-plain : (f : ℕ) → known f ≡ true → f ≢ 2 → 9 ≡ nodeSize f
+pub span-plain : (f : ℕ) → worded f ≡ true → f ≢ 2 → 9 ≡ nodeSize f
 unfolding nodeSize widthOf
-span-plain f h e = rw (forms.form-plain f h e)
+span-plain f h e = rw (worded.worded-plain f h e)
 
-pub start-big : (f i : ℕ) → known f ≡ true → 65535 < i → 500000 < nodeStart f i
-unfolding known
-start-big f i h l = forms.by-form (λ f. 500000 < nodeStart f i) f h (omega (arith, forms.place-plain 1 i refl (λ e. omega arith))) (omega (arith, forms.place-wide 2 i refl))
+start-one : (i : ℕ) → 18 + i * 9 ≡ nodeStart 1 i
+unfolding worded
+start-one i = worded.start-plain 1 i refl (λ e. omega (arith, e))
 
-pub start-most : (f i : ℕ) → known f ≡ true → i ≤ 65535 → nodeStart f i ≤ 851977
-unfolding known
-start-most f i h l = forms.by-form (λ f. nodeStart f i ≤ 851977) f h (omega (arith, forms.place-plain 1 i refl (λ e. omega arith))) (omega (arith, forms.place-wide 2 i refl))
+pub start-big : (f i : ℕ) → worded f ≡ true → 65535 < i → 500000 < nodeStart f i
+start-big f i h l = worded.by-worded (λ f. 500000 < nodeStart f i) f h (omega (arith, start-one i)) (omega (arith, worded.start-wide 2 i refl))
+
+pub start-most : (f i : ℕ) → worded f ≡ true → i ≤ 65535 → nodeStart f i ≤ 851977
+start-most f i h l = worded.by-worded (λ f. nodeStart f i ≤ 851977) f h (omega (arith, start-one i)) (omega (arith, worded.start-wide 2 i refl))
 
 -- so a schedule has fewer than 500,000 bytes
-pub start-few : (f i : ℕ) → known f ≡ true → i ≤ 255 → nodeStart f i ≤ 3337
-unfolding known
-start-few f i h l = forms.by-form (λ f. nodeStart f i ≤ 3337) f h (omega (arith, forms.place-plain 1 i refl (λ e. omega arith))) (omega (arith, forms.place-wide 2 i refl))
+pub start-few : (f i : ℕ) → worded f ≡ true → i ≤ 255 → nodeStart f i ≤ 3337
+start-few f i h l = worded.by-worded (λ f. nodeStart f i ≤ 3337) f h (omega (arith, start-one i)) (omega (arith, worded.start-wide 2 i refl))
 
-pub span-most : (f : ℕ) → known f ≡ true → nodeSize f ≤ 13
-span-most f h = omega (arith, forms.size-is f h, forms.width-few f h .1)
+pub span-most : (f : ℕ) → worded f ≡ true → nodeSize f ≤ 13
+span-most f h = let k = worded.worded-known f h in omega (arith, forms.size-is f k, forms.width-few f k .1)
 
 -- ---- an event d times
 
@@ -106,9 +110,9 @@ zeros-next b at i =
     ∙ ap (over b at) (replicate-append-replicate {A = ℕ} i 1 0)
 
 rest-is : (v : Survey) → nodeStart (v .form) (v .n) + v .count * 6 - nodeStart (v .form) 0 ≡ restOf v
-rest-is v = omega (arith, forms.place-from (v .form) (v .n), forms.place-zero (v .form))
+rest-is v = let z = spelledShape (v .form) 0 in omega (arith, forms.place-from z (v .n), forms.place-zero z)
 
-pub blank-over : (b : List ℕ) (v : Survey) → known (v .form) ≡ true
+pub blank-over : (b : List ℕ) (v : Survey) → worded (v .form) ≡ true
     → over (over b 0 (headOf v)) (nodeStart (v .form) 0) (replicate (nodeStart (v .form) (v .n) + v .count * 6 - nodeStart (v .form) 0) 0) ≡ over b 0 (blankFile v)
 unfolding blankFile
 blank-over b v h =
@@ -183,9 +187,9 @@ module _ (b : List ℕ) where
       by d (no l) (no k) (yes g) = ap length (put-events f z x p a g (omega arith)) ∙ tabs.length-over x p (times (a .d) (eventSaid a))
       by d e (no k) (no g) = ap length (put-nothing f z x p a k g)
 
-module _ (b : List ℕ) (f : ℕ) (known-f : known f ≡ true) where
+module _ (b : List ℕ) (f : ℕ) (known-f : worded f ≡ true) where
   length-node : (a : Act) → length (nodeSaid f a) ≡ nodeSize f
-  length-node a = image.node-length f (record { linked = a .b % 256; index = a .c; item = a .d % 4294967296 }) known-f
+  length-node a = image.node-length f (record { linked = a .b % 256; index = a .c; item = a .d % 4294967296 }) (worded.worded-known f known-f)
 
   put-front : (z : ℕ) (x : List ℕ) (p : ℕ) (a : Act) → length x ≡ z → z ≤ length b → putBy f z (over b 0 x) p a ≡ over b 0 (putBy f z x p a)
   put-front z x p a h g = by (decLt z (nodeStart f (a .a) + nodeSize f)) (decLt z (p + a .d * 6)) (ℕ-discrete (a .tag) 4) (ℕ-discrete (a .tag) 5)
@@ -210,7 +214,7 @@ module _ (b : List ℕ) (f : ℕ) (known-f : known f ≡ true) where
       ap (λ y. putAll f z y (reachBy z p a) l) (put-front z x p a h g)
       ∙ all-front z (putBy f z x p a) (reachBy z p a) l (length-put b f z x p a ∙ h) g
 
-pub length-blank : (v : Survey) → known (v .form) ≡ true → length (blankFile v) ≡ sizeOf v
+pub length-blank : (v : Survey) → worded (v .form) ≡ true → length (blankFile v) ≡ sizeOf v
 unfolding blankFile
 length-blank v h =
     omega (
@@ -218,6 +222,6 @@ length-blank v h =
       length-append (headOf v) (replicate {A = ℕ} (restOf v) 0),
       length-replicate {A = ℕ} (restOf v) 0,
       length-head v h,
-      forms.place-from (v .form) (v .n),
-      forms.place-zero (v .form),
+      forms.place-from (spelledShape (v .form) 0) (v .n),
+      forms.place-zero (spelledShape (v .form) 0),
     )

@@ -5,8 +5,8 @@ ghost use mathlib.Core.List.{[], _∷_};
 ghost use Prim.Native.Nat.{_+_, _%_, _≤_};
 ghost use lib.ListN.{length};
 ghost use Rattle.lists.specs.Tab.{over};
-ghost use Rattle.image.specs.Form.{known, nodeSize};
-ghost use Rattle.spelling.specs.Layout.{nodeStart, headOf, nodeSaid, eventSaid};
+ghost use Rattle.image.specs.Form.{nodeSize};
+ghost use Rattle.spelling.specs.Layout.{worded, nodeStart, headOf, nodeSaid, eventSaid};
 use codec::put_content;
 use codec::put_index;
 use codec::put_word;
@@ -19,7 +19,7 @@ pub const EVENT: usize = 6;
 
 // Where node i begins.
 pub fn node_start(form: u8, i: usize) -> usize
-    requires { ⌜ (known form ≡ true) × (i ≤ 65535) ⌝ }
+    requires { ⌜ (worded form ≡ true) × (i ≤ 65535) ⌝ }
     ensures { λ r. ⌜ r ≡ nodeStart form i ⌝ }
 {
     if form == 2 {
@@ -29,7 +29,7 @@ pub fn node_start(form: u8, i: usize) -> usize
 }
 
 pub fn node_span(form: u8) -> usize
-    requires { ⌜ known form ≡ true ⌝ }
+    requires { ⌜ worded form ≡ true ⌝ }
     ensures { λ r. ⌜ r ≡ nodeSize form ⌝ }
 {
     if form == 2 {
@@ -39,7 +39,7 @@ pub fn node_span(form: u8) -> usize
 }
 
 pub fn put_node_at(b: &mut [u8], form: u8, at: usize, a: Act)
-    requires { ⌜ (known form ≡ true) × (at + nodeSize form ≤ length (now b)) ⌝ }
+    requires { ⌜ (worded form ≡ true) × (at + nodeSize form ≤ length (now b)) ⌝ }
     ensures { λ _. ⌜ now (b .exit) ≡ over (now (b .entry)) at (nodeSaid form a) ⌝ }
 {
     let v = Content {
@@ -79,7 +79,7 @@ fn put_low(b: &mut [u8], at: usize, x: u64)
 }
 
 pub fn put_header(b: &mut [u8], v: Survey)
-    requires { ⌜ (known (v .form) ≡ true) × (nodeStart (v .form) 0 ≤ length (now b)) ⌝ }
+    requires { ⌜ (worded (v .form) ≡ true) × (nodeStart (v .form) 0 ≤ length (now b)) ⌝ }
     ensures { λ _. ⌜ now (b .exit) ≡ over (now (b .entry)) 0 (headOf v) ⌝ }
 {
     put_mark(b, 0, 83, 1);

@@ -4,8 +4,7 @@ ghost use mathlib.Core.Bool.{true};
 ghost use Prim.Native.Nat.{_+_, _*_, _≤_};
 ghost use lib.ListN.{length, replicate};
 ghost use Rattle.lists.specs.Tab.{over};
-ghost use Rattle.image.specs.Form.{known};
-ghost use Rattle.spelling.specs.Layout.{eventSaid, sizeOf};
+ghost use Rattle.spelling.specs.Layout.{worded, eventSaid, sizeOf};
 ghost use Rattle.spelling.specs.Reading.{blankFile, times, putBy, reachBy};
 use crate::layout::EVENT;
 use crate::layout::node_span;
@@ -30,7 +29,7 @@ fn put_times(b: &mut [u8], at: usize, a: Act, d: usize)
 
 // The node that a line says, where it fits into the first z bytes.
 fn put_one_node(b: &mut [u8], form: u8, z: usize, a: Act)
-    requires { ⌜ (known form ≡ true) × (z ≤ length (now b)) × (z ≤ 500000) × (a .tag ≡ 4) ⌝ }
+    requires { ⌜ (worded form ≡ true) × (z ≤ length (now b)) × (z ≤ 500000) × (a .tag ≡ 4) ⌝ }
     ensures { λ _. ⌜ now (b .exit) ≡ putBy form z (now (b .entry)) 0 a ⌝ }
 {
     if 65535 < a.a {
@@ -45,7 +44,7 @@ fn put_one_node(b: &mut [u8], form: u8, z: usize, a: Act)
 
 // What a line puts into the first z bytes; gives up to where the events then reach.
 pub fn put_act(b: &mut [u8], form: u8, z: usize, p: usize, a: Act) -> usize
-    requires { ⌜ (known form ≡ true) × (z ≤ length (now b)) × (p ≤ z) × (z ≤ 500000) ⌝ }
+    requires { ⌜ (worded form ≡ true) × (z ≤ length (now b)) × (p ≤ z) × (z ≤ 500000) ⌝ }
     ensures reach { λ r. ⌜ r ≡ reachBy z p a ⌝ }
     ensures bytes { λ r. ⌜ now (b .exit) ≡ putBy form z (now (b .entry)) p a ⌝ }
     ensures within { λ r. ⌜ r ≤ z ⌝ }
@@ -80,7 +79,7 @@ fn put_zeros(b: &mut [u8], at: usize, n: usize)
 
 // The schedule with zeros for its nodes and events.
 pub fn put_blank(b: &mut [u8], v: Survey)
-    requires { ⌜ (known (v .form) ≡ true) × (v .n ≤ 255) × (v .count ≤ 65535) × (sizeOf v ≤ length (now b)) ⌝ }
+    requires { ⌜ (worded (v .form) ≡ true) × (v .n ≤ 255) × (v .count ≤ 65535) × (sizeOf v ≤ length (now b)) ⌝ }
     ensures { λ _. ⌜ now (b .exit) ≡ over (now (b .entry)) 0 (blankFile v) ⌝ }
 {
     put_header(b, v);

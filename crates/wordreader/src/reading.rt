@@ -3,7 +3,7 @@ ghost use mathlib.Core.Path.{_≡_};
 ghost use mathlib.Core.Bool.{true};
 ghost use Prim.Native.Nat.{_≤_};
 ghost use lib.ListN.{length};
-ghost use Rattle.image.specs.Form.{known};
+ghost use Rattle.spelling.specs.Layout.{worded};
 ghost use Rattle.spelling.specs.Lines.{actsOf};
 ghost use Rattle.spelling.specs.Reading.{putAll};
 ghost use Rattle.wordreader.specs.Turns.{putNext, reachNext};
@@ -14,7 +14,7 @@ use crate::words::no_line;
 use spelling::Line;
 
 fn next_put(b: &mut [u8], form: u8, z: usize, p: usize, l: Line, x: u8) -> usize
-    requires { ⌜ (known form ≡ true) × (z ≤ length (now b)) × (p ≤ z) × (z ≤ 500000) ⌝ }
+    requires { ⌜ (worded form ≡ true) × (z ≤ length (now b)) × (p ≤ z) × (z ≤ 500000) ⌝ }
     ensures reach { λ r. ⌜ r ≡ reachNext z p l x ⌝ }
     ensures bytes { λ r. ⌜ now (b .exit) ≡ putNext form z (now (b .entry)) p l x ⌝ }
     ensures within { λ r. ⌜ r ≤ z ⌝ }
@@ -28,7 +28,7 @@ fn next_put(b: &mut [u8], form: u8, z: usize, p: usize, l: Line, x: u8) -> usize
 
 // What the lines of the text put into the first z bytes; gives up to where the events reach.
 pub fn put_text(t: &[u8], b: &mut [u8], form: u8, z: usize, from: usize) -> usize
-    requires { ⌜ (known form ≡ true) × (z ≤ length (now b)) × (from ≤ z) × (z ≤ 500000) ⌝ }
+    requires { ⌜ (worded form ≡ true) × (z ≤ length (now b)) × (from ≤ z) × (z ≤ 500000) ⌝ }
     ensures { λ _. ⌜ now (b .exit) ≡ putAll form z (now (b .entry)) from (actsOf (now (t .entry))) ⌝ }
 {
     let mut l = no_line();

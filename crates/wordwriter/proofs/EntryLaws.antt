@@ -15,15 +15,18 @@ use Rattle.lists.proofs.FindLaws.{least-next, least-hit, least-end}
 use Rattle.lists.proofs.TabLaws as tabs
 use Rattle.answer.specs.Answers.{accepted}
 use Rattle.image.specs.Bytes.{atW}
-use Rattle.image.specs.Form.{known, widthOf, headsAt}
+use Rattle.image.specs.Form.{known, widthOf, headsAt, nodePlace}
 use Rattle.image.specs.declared.Content.{Content}
-use Rattle.image.specs.Layout.{noContents, noContent, contentAt, nodePlace, readContent, readNodes, headIn, readHeads, imageIn}
-use Rattle.image.proofs.HeadLaws.{heads-at, one-head}
+use Rattle.image.specs.declared.Shape.{Shape}
+use Rattle.image.specs.Layout.{noContents, noContent, contentAt, readContent, readNodes, headIn, readHeads, shapeIn, imageIn}
+use Rattle.image.proofs.HeadLaws.{heads-at}
 use Rattle.machine.specs.declared.Event.{Event}
-use Rattle.schedule.specs.Layout.{threadsIn, countIn, nodesIn, imagePart, eventFrom, eventIn, eventPlace, scheduleIn, scheduleAnswer}
+use Rattle.schedule.specs.Layout.{threadsIn, countIn, nodesIn, imagePart, scheduleShape, eventFrom, eventIn, eventPlace, scheduleIn, scheduleAnswer}
 use Rattle.schedule.specs.declared.Schedule.{Schedule}
 use Rattle.page.specs.Printed.{newline}
 use Rattle.codec.proofs.Accepted as acc
+use Rattle.spelling.specs.Layout.{worded}
+use Rattle.spelling.proofs.WordedLaws.{lines-worded, place-same}
 use Rattle.spelling.specs.Writing.{versionLine, headLine, nodeLine, eventLine, imageForm, headIndex, isBlankNode, isStep, follows, runEnd, nodeAt, nodeEntry, eventEntry, entryOf, entriesIn}
 
 -- ---- an event's line
@@ -105,9 +108,9 @@ module _ (s : List ℕ) (j : ℕ) where
   unfolding follows
   follows-last h e f = rw (lt-ltb 0 j h, e, f)
 
--- the event that the code reads, by the form and N that the schedule has
-pub event-is : (s : List ℕ) (f n j : ℕ) → f ≡ imageForm s → n ≡ nodesIn s → eventFrom s (eventPlace f n j) ≡ eventIn s j
-event-is s f n j p q = ap₂ (λ f n. eventFrom s (eventPlace f n j)) p q
+-- the event that the code reads, by the schedule's shape
+pub event-is : (s : List ℕ) (z : Shape) (j : ℕ) → z ≡ scheduleShape s → eventFrom s (eventPlace z j) ≡ eventIn s j
+event-is s z j e = ap (λ (z : Shape). eventFrom s (eventPlace z j)) e
 
 -- ---- where a run ends: one turn of the search
 
@@ -140,11 +143,10 @@ module _ (s : List ℕ) (h : accepted (scheduleAnswer s) ≡ true) where
   pub form : known (imageForm s) ≡ true
   form = acc.schedule-taken s h .part .mark
 
-  pub events-fit : eventPlace (imageForm s) (nodesIn s) (countIn s) ≤ length s
+  pub events-fit : eventPlace (scheduleShape s) (countIn s) ≤ length s
   events-fit =
       let t = acc.schedule-taken s h in
-      let z : length (imagePart s) ≡ nodePlace (imageForm s) (nodesIn s) + countIn s * 6 = t .part .size in
-      omega (arith, t .long, z, length-drop 8 s)
+      omega (arith, t .long, t .part .size, acc.schedule-size s h, length-drop 8 s)
 
 module _ (s : List ℕ) (d : Schedule) (e : d ≡ scheduleIn s) where
   pub threads-is : d .t ≡ threadsIn s
@@ -156,27 +158,38 @@ module _ (s : List ℕ) (d : Schedule) (e : d ≡ scheduleIn s) where
   count-is = ap (λ (z : Schedule). z .count) e
 
   pub nodes-is : d .image .n ≡ nodesIn s
-  unfolding scheduleIn imageIn
+  unfolding scheduleIn imageIn shapeIn
   nodes-is = ap (λ (z : Schedule). z .image .n) e
 
   pub form-is : d .image .form ≡ imageForm s
-  unfolding scheduleIn imageIn
+  unfolding scheduleIn imageIn shapeIn
   form-is = ap (λ (z : Schedule). z .image .form) e
 
-  pub head-is : headIn (d .image) 0 ≡ headIndex s
-  unfolding scheduleIn imageIn readHeads headIndex
-  head-is =
-      let w = widthOf (imageForm s) in
-      let p : headsAt (imageForm s) + 0 * w ≡ headsAt (imageForm s) = omega (arith, zero-mul w) in
-      ap (λ (z : Schedule). headIn (z .image) 0) e
-      ∙ heads-at (nodesIn s) (λ k. atW w (imagePart s) (headsAt (imageForm s) + k * w)) 0 (omega (arith, one-head (nodesIn s)))
-      ∙ ap (atW w (imagePart s)) p
+  -- the shape that the code makes
+  abbrev pub madeShape : Shape
+  madeShape = record { form = d .image .form; n = d .image .n; t = d .t }
 
-  pub node-is : (i : ℕ) → i < nodesIn s → contentAt (d .image .nodes) i ≡ nodeAt s i
-  unfolding scheduleIn imageIn readNodes
-  node-is i p =
-      ap (λ (z : Schedule). contentAt (z .image .nodes) i) e
-      ∙ tabs.front-at (λ k. readContent (imageForm s) (imagePart s) (nodePlace (imageForm s) k)) (nodesIn s) noContents i noContent p
+  pub shape-is : madeShape ≡ scheduleShape s
+  unfolding scheduleIn imageIn shapeIn
+  shape-is = ap (λ (z : Schedule). record { form = z .image .form; n = z .image .n; t = z .t }) e
+
+  -- a form that has words has one head line, and its nodes stand where the form says
+  module _ (w : worded (imageForm s) ≡ true) where
+    pub head-is : headIn (d .image) 0 ≡ headIndex s
+    unfolding scheduleIn imageIn shapeIn readHeads headIndex
+    head-is =
+        let w′ = widthOf (imageForm s) in
+        let p : headsAt (imageForm s) + 0 * w′ ≡ headsAt (imageForm s) = omega (arith, zero-mul w′) in
+        ap (λ (z : Schedule). headIn (z .image) 0) e
+        ∙ heads-at (shapeIn (imagePart s)) (λ k. atW w′ (imagePart s) (headsAt (imageForm s) + k * w′)) 0 (omega (arith, lines-worded (shapeIn (imagePart s)) w))
+        ∙ ap (atW w′ (imagePart s)) p
+
+    pub node-is : (i : ℕ) → i < nodesIn s → contentAt (d .image .nodes) i ≡ nodeAt s i
+    unfolding scheduleIn imageIn shapeIn readNodes
+    node-is i p =
+        ap (λ (z : Schedule). contentAt (z .image .nodes) i) e
+        ∙ tabs.front-at (λ k. readContent (imageForm s) (imagePart s) (nodePlace (shapeIn (imagePart s)) k)) (nodesIn s) noContents i noContent p
+        ∙ ap (readContent (imageForm s) (imagePart s)) (place-same (shapeIn (imagePart s)) i w)
 
 module _ (s : List ℕ) (j : ℕ) where
   pub entry-follows : follows s j ≡ true → eventEntry s j ≡ []

@@ -9,7 +9,8 @@ ghost use Rattle.lists.specs.Tab.{over};
 ghost use Rattle.answer.specs.Answers.{accepted};
 ghost use Rattle.image.specs.Form.{known};
 ghost use Rattle.image.specs.Layout.{headIn};
-ghost use Rattle.schedule.specs.Layout.{nodesIn, countIn, eventPlace, scheduleIn, scheduleAnswer};
+ghost use Rattle.schedule.specs.Layout.{countIn, scheduleShape, eventPlace, scheduleIn, scheduleAnswer};
+ghost use Rattle.spelling.specs.Layout.{worded};
 ghost use Rattle.spelling.specs.Writing.{headLine, nodeLine, imageForm, isBlankNode, follows, runEnd, eventEntry, entryOf, entriesIn};
 use crate::texts::is_step;
 use crate::texts::put_event;
@@ -20,21 +21,22 @@ use crate::texts::put_threads;
 use codec::event_at;
 use image::Content;
 use image::Image;
+use image::Shape;
 use schedule::Schedule;
 
 // Whether event j is a step like the one before it.
-fn is_following(s: &[u8], form: u8, n: usize, j: usize) -> bool
-    requires { ⌜ (form ≡ imageForm (now s)) × (n ≡ nodesIn (now s)) × (known form ≡ true) × (n ≤ 64) × (j ≤ 4096) × (eventPlace form n j + 6 ≤ length (now s)) ⌝ }
+fn is_following(s: &[u8], z: Shape, j: usize) -> bool
+    requires { ⌜ (z ≡ scheduleShape (now s)) × (known (z .form) ≡ true) × (eventPlace z j + 6 ≤ length (now s)) ⌝ }
     ensures { λ r. ⌜ r ≡ follows (now (s .entry)) j ⌝ }
 {
     if j == 0 {
         return false;
     }
-    let e = event_at(s, form, n, j);
+    let e = event_at(s, z, j);
     if !is_step(e) {
         return false;
     }
-    let f = event_at(s, form, n, j - 1);
+    let f = event_at(s, z, j - 1);
     if !is_step(f) {
         return false;
     }
@@ -42,15 +44,15 @@ fn is_following(s: &[u8], form: u8, n: usize, j: usize) -> bool
 }
 
 // Where the run of steps that event j begins ends.
-fn run_end(s: &[u8], form: u8, n: usize, count: usize, j: usize) -> usize
-    requires { ⌜ (form ≡ imageForm (now s)) × (n ≡ nodesIn (now s)) × (count ≡ countIn (now s)) × (known form ≡ true) × (n ≤ 64) × (count ≤ 4096) × (j < count)
-        × (eventPlace form n count ≤ length (now s)) ⌝ }
+fn run_end(s: &[u8], z: Shape, count: usize, j: usize) -> usize
+    requires { ⌜ (z ≡ scheduleShape (now s)) × (count ≡ countIn (now s)) × (known (z .form) ≡ true) × (count ≤ 4096) × (j < count)
+        × (eventPlace z count ≤ length (now s)) ⌝ }
     ensures run { λ r. ⌜ r ≡ runEnd (now (s .entry)) j ⌝ }
     ensures within { λ r. ⌜ (j < r) × (r ≤ 4096) ⌝ }
 {
     let mut i = j + 1;
     while i < count {
-        if !is_following(s, form, n, i) {
+        if !is_following(s, z, i) {
             return i;
         }
         i += 1;
@@ -93,23 +95,24 @@ fn put_node_entry(b: &mut [u8], i: usize, v: Content) -> usize
 }
 
 // Event j with the steps like it behind it, unless it stands behind one like it.
-fn put_event_entry(s: &[u8], form: u8, n: usize, count: usize, j: usize, b: &mut [u8]) -> usize
-    requires { ⌜ (form ≡ imageForm (now s)) × (n ≡ nodesIn (now s)) × (count ≡ countIn (now s)) × (known form ≡ true) × (n ≤ 64) × (count ≤ 4096) × (j < count)
-        × (eventPlace form n count ≤ length (now s)) × (64 ≤ length (now b)) ⌝ }
+fn put_event_entry(s: &[u8], z: Shape, count: usize, j: usize, b: &mut [u8]) -> usize
+    requires { ⌜ (z ≡ scheduleShape (now s)) × (count ≡ countIn (now s)) × (known (z .form) ≡ true) × (count ≤ 4096) × (j < count)
+        × (eventPlace z count ≤ length (now s)) × (64 ≤ length (now b)) ⌝ }
     ensures put { λ r. ⌜ (r ≡ length (eventEntry (now (s .entry)) j)) × (now (b .exit) ≡ over (now (b .entry)) 0 (eventEntry (now (s .entry)) j)) ⌝ }
     ensures room { λ r. ⌜ r ≤ 64 ⌝ }
 {
-    if is_following(s, form, n, j) {
+    if is_following(s, z, j) {
         return 0;
     }
-    let e = event_at(s, form, n, j);
-    let r = run_end(s, form, n, count, j);
+    let e = event_at(s, z, j);
+    let r = run_end(s, z, count, j);
     put_event(b, e, (r - j) as u32)
 }
 
-// Entry k of a schedule that is taken up to its events.
+// Entry k of a schedule that is taken up to its events, of a form that has words.
 pub fn put_entry(s: &[u8], d: Schedule, k: usize, b: &mut [u8]) -> usize
-    requires { ⌜ (accepted (scheduleAnswer (now s)) ≡ true) × (d ≡ scheduleIn (now s)) × (k < entriesIn (now s)) × (64 ≤ length (now b)) ⌝ }
+    requires { ⌜ (accepted (scheduleAnswer (now s)) ≡ true) × (d ≡ scheduleIn (now s)) × (k < entriesIn (now s)) × (64 ≤ length (now b))
+        × (worded (imageForm (now s)) ≡ true) ⌝ }
     ensures put { λ r. ⌜ (r ≡ length (entryOf (now (s .entry)) k)) × (now (b .exit) ≡ over (now (b .entry)) 0 (entryOf (now (s .entry)) k)) ⌝ }
     ensures room { λ r. ⌜ r ≤ 64 ⌝ }
 {
@@ -130,5 +133,10 @@ pub fn put_entry(s: &[u8], d: Schedule, k: usize, b: &mut [u8]) -> usize
         let v = g.nodes[i];
         return put_node_entry(b, i, v);
     }
-    put_event_entry(s, g.form, m, d.count as usize, k - 3 - m, b)
+    let z = Shape {
+        form: g.form,
+        n: n,
+        t: d.t,
+    };
+    put_event_entry(s, z, d.count as usize, k - 3 - m, b)
 }

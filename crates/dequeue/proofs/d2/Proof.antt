@@ -18,6 +18,9 @@ mul-x c = search needs
 element-copy-out-x : tie.Need-element-copy-out-x
 element-copy-out-x c = search needs
 
+by-form-requires : tie.Need-by-form-requires
+by-form-requires c κs = search needs
+
 mul-th-2 : tie.Need-mul-th-2
 mul-th-2 c = search needs
 
@@ -25,7 +28,7 @@ element-set-from-th : tie.Need-element-set-from-th
 element-set-from-th c = search needs
 
 returns : tie.Need-returns
-returns c = simp (eq-eqb _ _ (c .if1 .taken))
+returns c = rw (c .by-form .ensures, eq-eqb _ _ (c .before .if1 .taken))
 
 mul-th-3 : tie.Need-mul-th-3
 mul-th-3 c = search needs
@@ -34,20 +37,7 @@ element-set-from-th-2 : tie.Need-element-set-from-th-2
 element-set-from-th-2 c = search needs
 
 returns-2 : tie.Need-returns-2
-returns-2 c = simp (ne-eqb _ _ (c .if1 .left))
+returns-2 c = rw (ne-eqb _ _ (c .if1 .left))
 
 pub d2-spec : {M : Type 1} → statement M
-d2-spec =
-    tie.close
-    (tie.spec
-    mul-th
-    element-copy-out-th
-    cast-h
-    mul-x
-    element-copy-out-x
-    mul-th-2
-    element-set-from-th
-    returns
-    mul-th-3
-    element-set-from-th-2
-    returns-2)
+d2-spec = tie.close (tie.spec mul-th element-copy-out-th cast-h mul-x element-copy-out-x by-form-requires mul-th-2 element-set-from-th returns mul-th-3 element-set-from-th-2 returns-2)

@@ -1,9 +1,17 @@
+use native.Mathlib.Omega.{arith}
+use Rattle.dequeue.proofs.FormLaws.{own-place}
 use borrow.Author.Needs.{needs}
 use Rattle.dequeue.proofs.d6.Statement.{statement}
 use Rattle.dequeue.proofs.d6.Tie as tie
 
+cast-by-form : tie.Need-cast-by-form
+cast-by-form c = omega arith
+
+by-form-requires : tie.Need-by-form-requires
+by-form-requires c κs = search needs
+
 persist-line-requires : tie.Need-persist-line-requires
-persist-line-requires c κs = search needs
+persist-line-requires c κs = own-place _ _ _ (c .by-form .ensures) (c .before .pre)
 
 mul-r : tie.Need-mul-r
 mul-r c = search needs
@@ -12,7 +20,7 @@ way-write-given-r : tie.Need-way-write-given-r
 way-write-given-r c = search needs
 
 returns : tie.Need-returns
-returns c = rw (c .before .persist-line .ensures)
+returns c = rw (c .before .persist-line .ensures, c .before .before .by-form .ensures)
 
 pub d6-spec : {M : Type 1} → statement M
-d6-spec = tie.close (tie.spec persist-line-requires mul-r way-write-given-r returns)
+d6-spec = tie.close (tie.spec cast-by-form by-form-requires persist-line-requires mul-r way-write-given-r returns)

@@ -4,12 +4,7 @@ use lib.ListN.{length}
 use Rattle.page.specs.Filled.{linesOn}
 use Rattle.printing.proofs.Fittings as fits
 use Rattle.runs.proofs.GoingLaws as going
-use Rattle.image.proofs.HeadLaws.{one-head}
-use Rattle.sheet.proofs.SheetLaws as sheets
-use Rattle.filling.specs.Lines.{toldLine}
-use Rattle.filling.proofs.Told as tolds
-use mathlib.Core.List.{List}
-use Prim.Native.Nat.{ℕ}
+use Rattle.filling.specs.Lines.{tableLine}
 use Rattle.page.specs.Printed.{printed}
 use Rattle.printer.proofs.Parting as parts
 use native.Mathlib.Omega.{arith}
@@ -17,11 +12,11 @@ use Rattle.printer.proofs.print_lines.Statement.{statement}
 use Rattle.printer.proofs.print_lines.Tie as tie
 
 abbrev Inv-loop : tie.InvT-loop
-Inv-loop s counts n threads events count b₀ done₀ ranks items slots starts told next₀ b done next =
-    (next ≤ count + 1) × (length b ≡ length b₀) × (done ≡ length (linesOn (toldLine ranks items slots told counts n threads events count) 0 next)) × (done ≤ next * 65536)
+Inv-loop s t counts z threads events count b₀ done₀ ranks items slots starts told next₀ b done next =
+    (next ≤ count + 1) × (length b ≡ length b₀) × (done ≡ length (linesOn (tableLine t counts z threads events count) 0 next)) × (done ≤ next * 65536)
 
 abbrev μ-loop : tie.MeasureT-loop
-μ-loop s counts n threads events count b₀ done₀ ranks items slots starts told next₀ b done next = count + 1 - next
+μ-loop s t counts z threads events count b₀ done₀ ranks items slots starts told next₀ b done next = count + 1 - next
 
 sheet-of-requires : tie.Need-sheet-of-requires Inv-loop μ-loop
 sheet-of-requires c κs = omega arith
@@ -30,40 +25,30 @@ loop-holds : tie.Need-loop-holds Inv-loop μ-loop
 loop-holds c =
     let z = c .before .before .before .before .before .before .before in
     let a = z .args in
-    let h = c .before .before .before .before .sheet-of in
-    let m = h .result in
-    let f = toldLine (m .ranks) (m .items) (m .slots) (m .count) (a .counts) (a .n) (a .threads) (a .events) (a .count) in
+    let f = tableLine (a .t) (a .counts) (a .z) (a .threads) (a .events) (a .count) in
     (omega arith, refl, omega (arith, z .pre .1 .1, ap length (fits.on-none f 0)), omega (arith, z .pre .1 .1))
 
 fill-told-requires : tie.Need-fill-told-requires Inv-loop μ-loop
 fill-told-requires c κs =
     let z = c .before .before .before .before .before .before .before .before .before .before .before .before .before .before in
-    let a = z .args in
+    let p = z .pre .0 in
     let h = c .before .before .before .before .before .before .before .before .before .before .before .sheet-of in
-    let m = h .result in
-    let f = toldLine (m .ranks) (m .items) (m .slots) (m .count) (a .counts) (a .n) (a .threads) (a .events) (a .count) in
-    let s = h .ensures .0 in (
-      (z .pre .0 .0, z .pre .0 .1, z .pre .0 .2, z .pre .0 .3, z .pre .0 .4, c .before .before .before .before .before .loop-test .taken),
-      (omega (arith, sheets.sheet-count (a .t) (a .counts) (a .n) (m .ranks) (m .items) (m .slots) (m .starts) (m .count) s, one-head (a .n), z .pre .0 .0), sheets.sheet-slots (a .t) (a .counts) (a .n) (m .ranks) (m .items) (m .slots) (m .starts) (m .count) s, s .begun, tolds.told-short (a .t) (a .counts) (a .n) (m .ranks) (m .items) (m .slots) (m .starts) (m .count) s (z .pre .0 .1) (h .ensures .1) (z .pre .0 .0)),
-    )
+    ((p .0, p .1, p .2, p .3, p .4, p .5, c .before .before .before .before .before .loop-test .taken), (h .ensures .0, h .ensures .1))
 
 write-front-requires : tie.Need-write-front-requires Inv-loop μ-loop
 write-front-requires c κs =
     let z = c .before .before .before .before .before .before .before .before .before .before .before .before .before .before .before .before .before .before .before in
     let a = z .args in
-    let h = c .before .before .before .before .before .before .before .before .before .before .before .before .before .before .before .before .sheet-of in
-    let m = h .result in
-    let f = toldLine (m .ranks) (m .items) (m .slots) (m .count) (a .counts) (a .n) (a .threads) (a .events) (a .count) in
-    let e = tolds.told-lines (a .t) (a .counts) (a .n) (m .ranks) (m .items) (m .slots) (m .starts) (m .count) (h .ensures .0) (z .pre .0 .1) (a .threads) (a .events) (a .count) in
-    let d : linesOn f 0 (a .count + 1) ≡ printed (a .s .now) = ap (λ (f : ℕ → List ℕ). linesOn f 0 (a .count + 1)) e ∙ z .pre .1 .0 in
+    let f = tableLine (a .t) (a .counts) (a .z) (a .threads) (a .events) (a .count) in
+    let d : linesOn f 0 (a .count + 1) ≡ printed (a .s .now) = z .pre .1 .0 in
     let p = c .before .before .before .before .before .before .before .before .before .before .before .loop in
     let w = c .before .before .before .before .fill-told in
-    let x = parts.lines-next f (printed (a .s .now)) (p .b) (w .last .1 .1 .1 .1 .1 .1 .1 .1 .1 .1 .1 .0) (a .count) (p .next) (w .result .next) (w .result .place) (p .done) d (w .ensures .0) (w .ensures .1 .0) (w .ensures .1 .1 .0) (c .before .before .before .before .before .before .before .before .before .before .loop-test .taken) (z .pre .0 .4) (omega (arith, z .pre .0 .6, p .inv .1)) (p .inv .2) (p .inv .3) in
+    let x = parts.lines-next f (printed (a .s .now)) (p .b) (w .last .1 .1 .1 .1 .1 .1 .1 .1 .1 .1 .1 .1 .0) (a .count) (p .next) (w .result .next) (w .result .place) (p .done) d (w .ensures .0) (w .ensures .1 .0) (w .ensures .1 .1 .0) (c .before .before .before .before .before .before .before .before .before .before .loop-test .taken) (z .pre .0 .5) (omega (arith, z .pre .0 .7, p .inv .1)) (p .inv .2) (p .inv .3) in
     x .0
 
 same-length : tie.Need-same-length Inv-loop μ-loop
 same-length c =
-    c .before .before .before .before .before .before .fill-told .kept .1 .1 .1 .1 .1 .1 .1 .1 .1 .1 .1 .0 ∙ c .before .before .before .before .before .before .before .before .before .before .before .before .before .loop .inv .1
+    c .before .before .before .before .before .before .fill-told .kept .1 .1 .1 .1 .1 .1 .1 .1 .1 .1 .1 .1 .0 ∙ c .before .before .before .before .before .before .before .before .before .before .before .before .before .loop .inv .1
 
 returns : tie.Need-returns Inv-loop μ-loop
 returns c = λ h. going.taken-or _ refl h
@@ -72,31 +57,25 @@ loop-less : tie.Need-loop-less Inv-loop μ-loop
 loop-less c =
     let z = c .before .before .before .before .before .before .before .before .before .before .before .before .before .before .before .before .before .before .before .before .before in
     let a = z .args in
-    let h = c .before .before .before .before .before .before .before .before .before .before .before .before .before .before .before .before .before .before .sheet-of in
-    let m = h .result in
-    let f = toldLine (m .ranks) (m .items) (m .slots) (m .count) (a .counts) (a .n) (a .threads) (a .events) (a .count) in
-    let e = tolds.told-lines (a .t) (a .counts) (a .n) (m .ranks) (m .items) (m .slots) (m .starts) (m .count) (h .ensures .0) (z .pre .0 .1) (a .threads) (a .events) (a .count) in
-    let d : linesOn f 0 (a .count + 1) ≡ printed (a .s .now) = ap (λ (f : ℕ → List ℕ). linesOn f 0 (a .count + 1)) e ∙ z .pre .1 .0 in
+    let f = tableLine (a .t) (a .counts) (a .z) (a .threads) (a .events) (a .count) in
+    let d : linesOn f 0 (a .count + 1) ≡ printed (a .s .now) = z .pre .1 .0 in
     let p = c .before .before .before .before .before .before .before .before .before .before .before .before .before .loop in
     let w = c .before .before .before .before .before .before .fill-told in
-    let x = parts.lines-next f (printed (a .s .now)) (p .b) (w .last .1 .1 .1 .1 .1 .1 .1 .1 .1 .1 .1 .0) (a .count) (p .next) (w .result .next) (w .result .place) (p .done) d (w .ensures .0) (w .ensures .1 .0) (w .ensures .1 .1 .0) (c .before .before .before .before .before .before .before .before .before .before .before .before .loop-test .taken) (z .pre .0 .4) (omega (arith, z .pre .0 .6, p .inv .1)) (p .inv .2) (p .inv .3) in
-    omega (arith, x .3, w .ensures .1 .1 .1 (omega (arith, z .pre .0 .5, p .inv .1)))
+    let x = parts.lines-next f (printed (a .s .now)) (p .b) (w .last .1 .1 .1 .1 .1 .1 .1 .1 .1 .1 .1 .1 .0) (a .count) (p .next) (w .result .next) (w .result .place) (p .done) d (w .ensures .0) (w .ensures .1 .0) (w .ensures .1 .1 .0) (c .before .before .before .before .before .before .before .before .before .before .before .before .loop-test .taken) (z .pre .0 .5) (omega (arith, z .pre .0 .7, p .inv .1)) (p .inv .2) (p .inv .3) in
+    omega (arith, x .3, w .ensures .1 .1 .1 (omega (arith, z .pre .0 .6, p .inv .1)))
 
 loop-again : tie.Need-loop-again Inv-loop μ-loop
 loop-again c =
     let z = c .before .before .before .before .before .before .before .before .before .before .before .before .before .before .before .before .before .before .before .before .before in
     let a = z .args in
-    let h = c .before .before .before .before .before .before .before .before .before .before .before .before .before .before .before .before .before .before .sheet-of in
-    let m = h .result in
-    let f = toldLine (m .ranks) (m .items) (m .slots) (m .count) (a .counts) (a .n) (a .threads) (a .events) (a .count) in
-    let e = tolds.told-lines (a .t) (a .counts) (a .n) (m .ranks) (m .items) (m .slots) (m .starts) (m .count) (h .ensures .0) (z .pre .0 .1) (a .threads) (a .events) (a .count) in
-    let d : linesOn f 0 (a .count + 1) ≡ printed (a .s .now) = ap (λ (f : ℕ → List ℕ). linesOn f 0 (a .count + 1)) e ∙ z .pre .1 .0 in
+    let f = tableLine (a .t) (a .counts) (a .z) (a .threads) (a .events) (a .count) in
+    let d : linesOn f 0 (a .count + 1) ≡ printed (a .s .now) = z .pre .1 .0 in
     let p = c .before .before .before .before .before .before .before .before .before .before .before .before .before .loop in
     let w = c .before .before .before .before .before .before .fill-told in
-    let x = parts.lines-next f (printed (a .s .now)) (p .b) (w .last .1 .1 .1 .1 .1 .1 .1 .1 .1 .1 .1 .0) (a .count) (p .next) (w .result .next) (w .result .place) (p .done) d (w .ensures .0) (w .ensures .1 .0) (w .ensures .1 .1 .0) (c .before .before .before .before .before .before .before .before .before .before .before .before .loop-test .taken) (z .pre .0 .4) (omega (arith, z .pre .0 .6, p .inv .1)) (p .inv .2) (p .inv .3) in
+    let x = parts.lines-next f (printed (a .s .now)) (p .b) (w .last .1 .1 .1 .1 .1 .1 .1 .1 .1 .1 .1 .1 .0) (a .count) (p .next) (w .result .next) (w .result .place) (p .done) d (w .ensures .0) (w .ensures .1 .0) (w .ensures .1 .1 .0) (c .before .before .before .before .before .before .before .before .before .before .before .before .loop-test .taken) (z .pre .0 .5) (omega (arith, z .pre .0 .7, p .inv .1)) (p .inv .2) (p .inv .3) in
     let v = c .before .write-front in
     let o = v .ensures (going.taken-of (v .result) (c .if1 .left)) in
-    (x .3, w .kept .1 .1 .1 .1 .1 .1 .1 .1 .1 .1 .1 .0 ∙ p .inv .1, o ∙ x .1, omega (arith, o, x .2, p .inv .3, w .ensures .1 .1 .1 (omega (arith, z .pre .0 .5, p .inv .1))))
+    (x .3, w .kept .1 .1 .1 .1 .1 .1 .1 .1 .1 .1 .1 .1 .0 ∙ p .inv .1, o ∙ x .1, omega (arith, o, x .2, p .inv .3, w .ensures .1 .1 .1 (omega (arith, z .pre .0 .6, p .inv .1))))
 
 same-length-2 : tie.Need-same-length-2 Inv-loop μ-loop
 same-length-2 c = c .before .loop .inv .1
@@ -105,11 +84,8 @@ returns-2 : tie.Need-returns-2 Inv-loop μ-loop
 returns-2 c =
     let z = c .before .before .before .before .before .before .before .before .before in
     let a = z .args in
-    let h = c .before .before .before .before .before .before .sheet-of in
-    let m = h .result in
-    let f = toldLine (m .ranks) (m .items) (m .slots) (m .count) (a .counts) (a .n) (a .threads) (a .events) (a .count) in
-    let e = tolds.told-lines (a .t) (a .counts) (a .n) (m .ranks) (m .items) (m .slots) (m .starts) (m .count) (h .ensures .0) (z .pre .0 .1) (a .threads) (a .events) (a .count) in
-    let d : linesOn f 0 (a .count + 1) ≡ printed (a .s .now) = ap (λ (f : ℕ → List ℕ). linesOn f 0 (a .count + 1)) e ∙ z .pre .1 .0 in
+    let f = tableLine (a .t) (a .counts) (a .z) (a .threads) (a .events) (a .count) in
+    let d : linesOn f 0 (a .count + 1) ≡ printed (a .s .now) = z .pre .1 .0 in
     let p = c .before .loop in
     let n : p .next ≡ a .count + 1 = omega (arith, p .inv .0, c .loop-test .left) in
     λ h. p .inv .2 ∙ ap (λ n. length (linesOn f 0 n)) n ∙ ap length d

@@ -11,17 +11,15 @@ use Rattle.printer.proofs.print_run.Tie as tie
 counts-of-requires : tie.Need-counts-of-requires
 counts-of-requires c κs = search needs
 
-cast-ending-count : tie.Need-cast-ending-count
-cast-ending-count c = search needs
-
-add-ending-count : tie.Need-add-ending-count
-add-ending-count c = search needs
+lines-of-requires : tie.Need-lines-of-requires
+lines-of-requires c κs = let z = c .before .before .before .before .before in pages.page-small (z .args .s .now) (z .args .r) (z .pre .0) (z .pre .1) .1
 
 ending-count-requires : tie.Need-ending-count-requires
 ending-count-requires c κs =
-    let z = c .before .before .before .before .before in (
-      omega (arith, pages.page-small (z .args .s .now) (z .args .r) (z .pre .0) (z .pre .1)),
-      rw (c .counts-of .ensures) (pages.page-counted (z .args .s .now) (z .args .r) (z .pre .0) (z .pre .1)),
+    let z = c .before .before .before .before .before .before in
+    let n = pages.page-small (z .args .s .now) (z .args .r) (z .pre .0) (z .pre .1) in (
+      omega (arith, n .0, n .1, c .lines-of .ensures),
+      rw (c .before .counts-of .ensures, c .lines-of .ensures) (pages.page-counted (z .args .s .now) (z .args .r) (z .pre .0) (z .pre .1)),
     )
 
 open-schedule-requires : tie.Need-open-schedule-requires
@@ -32,28 +30,31 @@ table-of-requires c κs = search needs
 
 print-lines-requires : tie.Need-print-lines-requires
 print-lines-requires c κs =
-    let z = c .before .before .before .before .before .before .before .before .before .before .before in
+    let z = c .before .before .before .before .before .before .before .before .before .before .before .before in
     let s = z .args .s .now in
     let r = z .args .r in
     let o = c .before .before .before .before .open-schedule in
     let n = c .before .before .before .before .before .ending-count in
-    let k = c .before .before .before .before .before .before .counts-of in
+    let k = c .before .before .before .before .before .before .before .counts-of in
+    let q = c .before .before .before .before .before .before .lines-of in
+    let w = pages.page-small s r (z .pre .0) (z .pre .1) in
     let t = c .before .before .table-of in
     let y = numbers.schedule-yes s r (z .pre .0) (z .pre .1) in
     let l = numbers.opened-limits s (o .result) (o .ensures) y in
     let d = numbers.opened-numbers s (o .result) (o .ensures) y in (
       (
-        pages.page-small s r (z .pre .0) (z .pre .1),
+        w .0,
+        w .1,
         rw (k .ensures) (pages.page-ready s r (z .pre .0) (z .pre .1)),
         l .0,
         l .1,
-        rw (n .ensures, k .ensures) (numbers.count-limit s r (z .pre .0) (z .pre .1)),
+        rw (n .ensures, k .ensures, q .ensures) (numbers.count-limit s r (z .pre .0) (z .pre .1)),
         z .pre .2,
         z .pre .3,
       ),
       (
         parts.page-is s r (z .pre .0) (z .pre .1) (t .result) (k .result) (o .result .schedule .t) (o .result .schedule .count) (n .result) (t .ensures) (k .ensures) (d .0) (d .1)
-            (n .ensures ∙ rw (k .ensures) (pages.page-count s r (z .pre .0) (z .pre .1))),
+            (n .ensures ∙ rw (k .ensures, q .ensures) (pages.page-count s r (z .pre .0) (z .pre .1))),
         z .pre .4,
       ),
     )
@@ -69,8 +70,7 @@ print-run-spec =
     tie.close
     (tie.spec
     counts-of-requires
-    cast-ending-count
-    add-ending-count
+    lines-of-requires
     ending-count-requires
     open-schedule-requires
     table-of-requires

@@ -4,7 +4,7 @@ use borrow.Author.Needs.{needs}
 use borrow.Author.Tests.{not-true, not-false}
 use Rattle.lists.specs.Find.{both}
 use Rattle.image.specs.Refusals.{nodesFit}
-use Rattle.machine.specs.Start.{threadsFit}
+use Rattle.image.specs.Refusals.{threadsFit}
 use Rattle.range.proofs.sizes_fit.Statement.{statement}
 use Rattle.range.proofs.sizes_fit.Tie as tie
 

@@ -71,6 +71,12 @@ uses-requires-20 c κs = search needs
 uses-requires-21 : tie.Need-uses-requires-21
 uses-requires-21 c κs = search needs
 
+uses-requires-22 : tie.Need-uses-requires-22
+uses-requires-22 c κs = search needs
+
+uses-requires-23 : tie.Need-uses-requires-23
+uses-requires-23 c κs = search needs
+
 returns : tie.Need-returns
 returns c = rw (c .before .match .keys1) (c .uses .ensures)
 
@@ -132,16 +138,23 @@ returns-20 : tie.Need-returns-20
 returns-20 c = rw (c .before .match .keys20) (c .uses20 .ensures)
 
 returns-21 : tie.Need-returns-21
-returns-21 c =
+returns-21 c = rw (c .before .match .keys21) (c .uses21 .ensures)
+
+returns-22 : tie.Need-returns-22
+returns-22 c = rw (c .before .match .keys22) (c .uses22 .ensures)
+
+returns-23 : tie.Need-returns-23
+returns-23 c =
     let s = c .before .before .args .s in
     let r = c .before .match .rest in
-    let h0 : 4 ≤ s = words.past 0 s (omega arith) (r .0 .0 .0 .0 .0 .0 .0 .0 .0 .0 .0 .0 .0 .0 .0 .0 .0 .0 .0 .1) (r .0 .0 .0 .0 .0 .0 .0 .0 .0 .0 .0 .0 .0 .0 .0 .0 .0 .0 .1) (r .0 .0 .0 .0 .0 .0 .0 .0 .0 .0 .0 .0 .0 .0 .0 .0 .0 .1) (r .0 .0 .0 .0 .0 .0 .0 .0 .0 .0 .0 .0 .0 .0 .0 .0 .1) in
-    let h1 : 8 ≤ s = words.past 4 s h0 (r .0 .0 .0 .0 .0 .0 .0 .0 .0 .0 .0 .0 .0 .0 .0 .1) (r .0 .0 .0 .0 .0 .0 .0 .0 .0 .0 .0 .0 .0 .0 .1) (r .0 .0 .0 .0 .0 .0 .0 .0 .0 .0 .0 .0 .0 .1) (r .0 .0 .0 .0 .0 .0 .0 .0 .0 .0 .0 .0 .1) in
-    let h2 : 12 ≤ s = words.past 8 s h1 (r .0 .0 .0 .0 .0 .0 .0 .0 .0 .0 .0 .1) (r .0 .0 .0 .0 .0 .0 .0 .0 .0 .0 .1) (r .0 .0 .0 .0 .0 .0 .0 .0 .0 .1) (r .0 .0 .0 .0 .0 .0 .0 .0 .1) in
-    let h3 : 16 ≤ s = words.past 12 s h2 (r .0 .0 .0 .0 .0 .0 .0 .1) (r .0 .0 .0 .0 .0 .0 .1) (r .0 .0 .0 .0 .0 .1) (r .0 .0 .0 .0 .1) in
-    let h4 : 20 ≤ s = words.past 16 s h3 (r .0 .0 .0 .1) (r .0 .0 .1) (r .0 .1) (r .1) in
-    let e : stageOf s ≡ noStep = List·getD-eq-default stages noStep h4 in
-    rw e (c .uses21 .ensures)
+    let h0 : 4 ≤ s = words.past 0 s (omega arith) (r .0 .0 .0 .0 .0 .0 .0 .0 .0 .0 .0 .0 .0 .0 .0 .0 .0 .0 .0 .0 .0 .1) (r .0 .0 .0 .0 .0 .0 .0 .0 .0 .0 .0 .0 .0 .0 .0 .0 .0 .0 .0 .0 .1) (r .0 .0 .0 .0 .0 .0 .0 .0 .0 .0 .0 .0 .0 .0 .0 .0 .0 .0 .0 .1) (r .0 .0 .0 .0 .0 .0 .0 .0 .0 .0 .0 .0 .0 .0 .0 .0 .0 .0 .1) in
+    let h1 : 8 ≤ s = words.past 4 s h0 (r .0 .0 .0 .0 .0 .0 .0 .0 .0 .0 .0 .0 .0 .0 .0 .0 .0 .1) (r .0 .0 .0 .0 .0 .0 .0 .0 .0 .0 .0 .0 .0 .0 .0 .0 .1) (r .0 .0 .0 .0 .0 .0 .0 .0 .0 .0 .0 .0 .0 .0 .0 .1) (r .0 .0 .0 .0 .0 .0 .0 .0 .0 .0 .0 .0 .0 .0 .1) in
+    let h2 : 12 ≤ s = words.past 8 s h1 (r .0 .0 .0 .0 .0 .0 .0 .0 .0 .0 .0 .0 .0 .1) (r .0 .0 .0 .0 .0 .0 .0 .0 .0 .0 .0 .0 .1) (r .0 .0 .0 .0 .0 .0 .0 .0 .0 .0 .0 .1) (r .0 .0 .0 .0 .0 .0 .0 .0 .0 .0 .1) in
+    let h3 : 16 ≤ s = words.past 12 s h2 (r .0 .0 .0 .0 .0 .0 .0 .0 .0 .1) (r .0 .0 .0 .0 .0 .0 .0 .0 .1) (r .0 .0 .0 .0 .0 .0 .0 .1) (r .0 .0 .0 .0 .0 .0 .1) in
+    let h4 : 20 ≤ s = words.past 16 s h3 (r .0 .0 .0 .0 .0 .1) (r .0 .0 .0 .0 .1) (r .0 .0 .0 .1) (r .0 .0 .1) in
+    let h5 : 22 ≤ s = words.past2 20 s h4 (r .0 .1) (r .1) in
+    let e : stageOf s ≡ noStep = List·getD-eq-default stages noStep h5 in
+    rw e (c .uses23 .ensures)
 
 pub used-by-spec : {M : Type 1} → statement M
 used-by-spec =
@@ -168,6 +181,8 @@ used-by-spec =
     uses-requires-19
     uses-requires-20
     uses-requires-21
+    uses-requires-22
+    uses-requires-23
     returns
     returns-2
     returns-3
@@ -188,4 +203,6 @@ used-by-spec =
     returns-18
     returns-19
     returns-20
-    returns-21)
+    returns-21
+    returns-22
+    returns-23)

@@ -6,7 +6,7 @@ use Rattle.calls.proofs.Laws as laws
 use lib.ListN.{length}
 use native.Mathlib.Omega.{arith}
 use Rattle.answer.specs.declared.Answer.the-variants.{Threads}
-use Rattle.image.specs.Refusals.{readImage}
+use Rattle.image.specs.declared.Read.{Read}
 use Rattle.machine.specs.Start.{startFrom}
 use Rattle.record.specs.Layout.{recordAnswer, recordWritten}
 use Rattle.calls.specs.Calls.{startAnswered}
@@ -29,8 +29,8 @@ returns c =
     let f = sym (c .before .before .threads-fit .ensures) ∙ laws.refused-of (c .before .before .threads-fit .result) (c .before .if1 .taken) in
     (laws.packed-is Threads (startAnswered s k (length b)) 0 (c .packed-of .result) (c .packed-of .ensures) (sym (laws.start-threads s k (length b) f)), sym (laws.start-threads-stay s k b f))
 
-read-image-requires : tie.Need-read-image-requires
-read-image-requires c κs = search needs
+read-part-requires : tie.Need-read-part-requires
+read-part-requires c κs = search needs
 
 is-taken-requires : tie.Need-is-taken-requires
 is-taken-requires c κs = search needs
@@ -45,8 +45,8 @@ returns-2 c =
     let k = x .threads in
     let b = x .bytes .now in
     let f = sym (c .before .before .before .before .before .threads-fit .ensures) ∙ laws.taken-of (c .before .before .before .before .before .threads-fit .result) (c .before .before .before .before .if1 .left) in
-    let o = c .before .before .before .read-image in
-    let a = told-injective (o .result .answer) (readImage s .answer) (o .ensures .0) ∙ laws.image-answer s in
+    let o = c .before .before .before .read-part in
+    let a = ap (λ (r : Read). r .answer) (o .ensures) ∙ laws.image-answer k s in
     let h = ap accepted (sym a) ∙ (sym (c .before .before .is-taken .ensures) ∙ laws.refused-of (c .before .before .is-taken .result) (c .before .if2 .taken)) in
     (laws.packed-is (o .result .answer) (startAnswered s k (length b)) 0 (c .packed-of2 .result) (c .packed-of2 .ensures) (a ∙ sym (laws.start-image s k f (length b) h)), sym (laws.start-image-stays s k f b h))
 
@@ -69,10 +69,10 @@ returns-3 c =
     let k = x .threads in
     let b = x .bytes .now in
     let f = sym (c .before .before .before .before .before .before .before .before .before .before .before .before .threads-fit .ensures) ∙ laws.taken-of (c .before .before .before .before .before .before .before .before .before .before .before .before .threads-fit .result) (c .before .before .before .before .before .before .before .before .before .before .before .if1 .left) in
-    let o = c .before .before .before .before .before .before .before .before .before .before .read-image in
-    let a = told-injective (o .result .answer) (readImage s .answer) (o .ensures .0) ∙ laws.image-answer s in
+    let o = c .before .before .before .before .before .before .before .before .before .before .read-part in
+    let a = ap (λ (r : Read). r .answer) (o .ensures) ∙ laws.image-answer k s in
     let h = ap accepted (sym a) ∙ (sym (c .before .before .before .before .before .before .before .before .before .is-taken .ensures) ∙ laws.taken-of (c .before .before .before .before .before .before .before .before .before .is-taken .result) (c .before .before .before .before .before .before .before .before .if2 .left)) in
-    let g = o .ensures .1 ∙ laws.image-read s h in
+    let g = ap (λ (r : Read). r .image) (o .ensures) ∙ laws.image-read k s h in
     let m = c .before .before .before .before .before .before .start-from .ensures .1 ∙ (ap (λ g. startFrom g k .machine) g ∙ laws.start-machine s k f (λ j. omega (arith, c .before .before .before .before .before .before .before .before .before .before .before .before .before .before .shared-slice-known .given j)) h) in
     let n = c .before .before .before .write-record in
     let w = told-injective (n .result) (recordAnswer (length b)) (n .ensures .0) ∙ sym (laws.start-room s k f (length b) h) in
@@ -85,7 +85,7 @@ start-spec =
     threads-fit-requires
     packed-of-requires
     returns
-    read-image-requires
+    read-part-requires
     is-taken-requires
     packed-of-requires-2
     returns-2

@@ -34,6 +34,12 @@ d6-requires c κs = search needs
 d7-requires : tie.Need-d7-requires
 d7-requires c κs = search needs
 
+s3-requires : tie.Need-s3-requires
+s3-requires c κs = let r = c .before .before .before .pre .0 in (r .thread-in, r .head-in (rw (c .match .keys8)))
+
+s6-requires : tie.Need-s6-requires
+s6-requires c κs = let r = c .before .before .before .pre .0 in (r .thread-in, r .next-in (rw (c .match .keys9)))
+
 returns : tie.Need-returns
 returns c = rw (c .d1 .ensures, c .before .match .keys1)
 
@@ -56,11 +62,18 @@ returns-7 : tie.Need-returns-7
 returns-7 c = rw (c .d7 .ensures, c .before .match .keys7)
 
 returns-8 : tie.Need-returns-8
-returns-8 c =
+returns-8 c = rw (c .s3 .ensures, c .before .match .keys8)
+
+returns-9 : tie.Need-returns-9
+returns-9 c = rw (c .s6 .ensures, c .before .match .keys9)
+
+returns-10 : tie.Need-returns-10
+returns-10 c =
     let a = c .before .before .before .args in
     let r = c .match .rest in
     let s = thread (a .m) (a .k) .step in
-    let h : 19 < s = laws.past 19 s (laws.past 18 s (laws.past 17 s (laws.past 16 s (laws.past 15 s (laws.past 14 s (laws.past 13 s (omega arith) (r .0 .0 .0 .0 .0 .0 .1)) (r .0 .0 .0 .0 .0 .1)) (r .0 .0 .0 .0 .1)) (r .0 .0 .0 .1)) (r .0 .0 .1)) (r .0 .1)) (r .1) in
+    let d : 19 < s = laws.past 19 s (laws.past 18 s (laws.past 17 s (laws.past 16 s (laws.past 15 s (laws.past 14 s (laws.past 13 s (omega arith) (r .0 .0 .0 .0 .0 .0 .0 .0 .1)) (r .0 .0 .0 .0 .0 .0 .0 .1)) (r .0 .0 .0 .0 .0 .0 .1)) (r .0 .0 .0 .0 .0 .1)) (r .0 .0 .0 .0 .1)) (r .0 .0 .0 .1)) (r .0 .0 .1) in
+    let h : 21 < s = laws.past 21 s (laws.past 20 s d (r .0 .1)) (r .1) in
     rw (no-step s h)
 
 pub dequeue-step-spec : {M : Type 1} → statement M
@@ -76,6 +89,8 @@ dequeue-step-spec =
     d5-requires
     d6-requires
     d7-requires
+    s3-requires
+    s6-requires
     returns
     returns-2
     returns-3
@@ -83,4 +98,6 @@ dequeue-step-spec =
     returns-5
     returns-6
     returns-7
-    returns-8)
+    returns-8
+    returns-9
+    returns-10)

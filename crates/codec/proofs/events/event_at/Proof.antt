@@ -1,31 +1,32 @@
 use mathlib.Core.Path.{_∙_}
 use borrow.Author.Needs.{needs}
+use native.Mathlib.Omega.{arith}
 use Rattle.codec.proofs.events.event_at.Statement.{statement}
 use Rattle.codec.proofs.events.event_at.Tie as tie
 
-place-of-requires : tie.Need-place-of-requires
-place-of-requires c κs = search needs
+size-of-requires : tie.Need-size-of-requires
+size-of-requires c κs = search needs
 
 add-event-from : tie.Need-add-event-from
-add-event-from c = search needs
+add-event-from c = omega (arith, c .size-of .ensures, c .before .before .pre .1)
 
 mul-event-from : tie.Need-mul-event-from
-mul-event-from c = search needs
+mul-event-from c = omega (arith, c .size-of .ensures, c .before .before .pre .1)
 
 add-event-from-2 : tie.Need-add-event-from-2
-add-event-from-2 c = search needs
+add-event-from-2 c = omega (arith, c .size-of .ensures, c .before .before .pre .1)
 
 event-from-requires : tie.Need-event-from-requires
-event-from-requires c κs = search needs
+event-from-requires c κs = omega (arith, c .size-of .ensures, c .before .before .pre .1)
 
 returns : tie.Need-returns
-returns c = c .event-from .ensures ∙ rw (c .before .place-of .ensures)
+returns c = c .event-from .ensures ∙ rw (c .before .size-of .ensures)
 
 pub event-at-spec : {M : Type 1} → statement M
 event-at-spec =
     tie.close
     (tie.spec
-    place-of-requires
+    size-of-requires
     add-event-from
     mul-event-from
     add-event-from-2

@@ -1,6 +1,7 @@
 use Rattle.image.specs.Refusals.{imageAnswer}
 use lib.ListN.{length, drop, length-drop}
 use lib.Seq.{take-all}
+use Rattle.image.specs.Bytes.{at1}
 use Prim.Native.Nat.{_*_, _-_, _≤_}
 use mathlib.Core.Path.{ap, _∙_}
 use native.Mathlib.Omega.{arith}
@@ -97,7 +98,7 @@ returns-6 c =
       ← r .before .half-at .ensures,
       le-ltb _ _ (r .if5 .left),
     )
-    (c .check-part .ensures ∙ ap (imageAnswer (r .before .half-at .result * w)) (take-all (length s - 8) (drop 8 s) (omega (arith, length-drop 8 s))))
+    (c .check-part .ensures ∙ ap (imageAnswer (at1 s 5) (r .before .half-at .result * w)) (take-all (length s - 8) (drop 8 s) (omega (arith, length-drop 8 s))))
 
 pub check-file-spec : {M : Type 1} → statement M
 check-file-spec =

@@ -14,15 +14,15 @@ use Rattle.codec.proofs.sound.dummy_at.Statement.{statement}
 use Rattle.codec.proofs.sound.dummy_at.Tie as tie
 
 abbrev Inv-loop : tie.InvT-loop
-Inv-loop s n h i₀ i = (i ≤ n) × (dummyOf (imageIn s) ≡ least (unrecovered (imageIn s)) (n - i) i)
+Inv-loop s z n h i₀ i = (i ≤ n) × (dummyOf (imageIn s) ≡ least (unrecovered (imageIn s)) (n - i) i)
 
 abbrev μ-loop : tie.MeasureT-loop
-μ-loop s n h i₀ i = n - i
+μ-loop s z n h i₀ i = n - i
 
 loop-holds : tie.Need-loop-holds Inv-loop μ-loop
 loop-holds c =
     let s = c .before .args .s .now in
-    (omega arith, unrecovered-is (imageIn s) ∙ rw (sub-zero, c .before .pre .0, nodes-in s))
+    (omega arith, unrecovered-is (imageIn s) ∙ rw (sub-zero, c .before .pre .0, nodes-in s (c .before .args .z) (c .before .pre .1 .0)))
 
 recovered-at-requires : tie.Need-recovered-at-requires Inv-loop μ-loop
 recovered-at-requires c κs = (omega arith, search needs)

@@ -14,21 +14,21 @@ use Rattle.codec.proofs.sound.first_twin_at.Tie as tie
 
 -- no node below j is a twin of node i
 abbrev Inv-loop : tie.InvT-loop
-Inv-loop s n h i j₀ j = (j ≤ i) × (any (twins (imageIn s) i) j ≡ false)
+Inv-loop s z n h i j₀ j = (j ≤ i) × (any (twins (imageIn s) i) j ≡ false)
 
 abbrev μ-loop : tie.MeasureT-loop
-μ-loop s n h i j₀ j = i - j
+μ-loop s z n h i j₀ j = i - j
 
 -- no node below i has a lower-numbered twin
 abbrev Inv-pairs : tie.InvT-pairs
-Inv-pairs s n h i₀ i = (i ≤ n) × (firstTwin (imageIn s) ≡ least (hasTwin (imageIn s)) (n - i) i)
+Inv-pairs s z n h i₀ i = (i ≤ n) × (firstTwin (imageIn s) ≡ least (hasTwin (imageIn s)) (n - i) i)
 
 abbrev μ-pairs : tie.MeasureT-pairs
-μ-pairs s n h i₀ i = n - i
+μ-pairs s z n h i₀ i = n - i
 
 pairs-holds : tie.Need-pairs-holds Inv-loop μ-loop Inv-pairs μ-pairs
 unfolding firstTwin
-pairs-holds c = (omega arith, rw (sub-zero, c .before .pre .0, nodes-in (c .before .args .s .now)))
+pairs-holds c = (omega arith, rw (sub-zero, c .before .pre .0, nodes-in (c .before .args .s .now) (c .before .args .z) (c .before .pre .1 .0)))
 
 loop-holds : tie.Need-loop-holds Inv-loop μ-loop Inv-pairs μ-pairs
 unfolding any

@@ -14,15 +14,15 @@ use Rattle.codec.proofs.sound.first_unclear_at.Statement.{statement}
 use Rattle.codec.proofs.sound.first_unclear_at.Tie as tie
 
 abbrev Inv-loop : tie.InvT-loop
-Inv-loop s n i₀ i = (i ≤ n) × (firstUnclear (imageIn s) ≡ least (unclear (imageIn s)) (n - i) i)
+Inv-loop s z n i₀ i = (i ≤ n) × (firstUnclear (imageIn s) ≡ least (unclear (imageIn s)) (n - i) i)
 
 abbrev μ-loop : tie.MeasureT-loop
-μ-loop s n i₀ i = n - i
+μ-loop s z n i₀ i = n - i
 
 loop-holds : tie.Need-loop-holds Inv-loop μ-loop
 loop-holds c =
     let s = c .before .args .s .now in
-    (omega arith, unclear-is (imageIn s) ∙ rw (sub-zero, c .before .pre .0, nodes-in s))
+    (omega arith, unclear-is (imageIn s) ∙ rw (sub-zero, c .before .pre .0, nodes-in s (c .before .args .z) (c .before .pre .1)))
 
 linked-at-requires : tie.Need-linked-at-requires Inv-loop μ-loop
 linked-at-requires c κs = (omega arith, search needs)

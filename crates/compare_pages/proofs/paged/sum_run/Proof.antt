@@ -15,9 +15,11 @@ slice-aggregate-sum-table c = search needs
 
 sum-table-requires : tie.Need-sum-table-requires
 sum-table-requires c κs =
-    let z = c .before .before .before .before .before .before in (
+    let z = c .before .before .before .before .before .before in
+    let n = pages.page-small (z .args .s .now) (z .args .r) (z .pre .0) (z .pre .1) in (
       pages.page-form (z .args .s .now) (z .args .r) (z .pre .0) (z .pre .1),
-      pages.page-small (z .args .s .now) (z .args .r) (z .pre .0) (z .pre .1),
+      n .0,
+      n .1,
       rw (c .before .before .counts-of .ensures) (pages.page-ready (z .args .s .now) (z .args .r) (z .pre .0) (z .pre .1)),
       omega arith,
     )

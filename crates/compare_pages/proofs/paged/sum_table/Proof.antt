@@ -2,31 +2,34 @@ use Prim.Native.Nat.{_≤_, _-_}
 use native.Mathlib.Omega.{arith}
 use mathlib.Core.Path.{_≡_, refl, sym, ap, subst, _∙_}
 use lib.ListN.{length, drop}
-use Rattle.image.specs.declared.Image.{Image}
+use mathlib.Core.Bool.{true}
+use Rattle.image.specs.Form.{known, headLines, imageSize}
+use Rattle.image.specs.Layout.{imageShape}
+use Rattle.image.specs.declared.Shape.{Shape}
 use Rattle.machine.specs.Line.{lineCount}
 use Rattle.endtable.specs.Opened.{blankCounts}
 use Rattle.endtable.specs.Picks.{picksOf, Filled}
 use Rattle.endtable.proofs.Digits as digits
-use Rattle.image.proofs.FormLaws.{place-most}
+use Rattle.pages.proofs.OwnLaws as own
 use Rattle.runs.proofs.PageLaws as pages
 use borrow.Author.Needs.{needs}
 use Rattle.compare_pages.proofs.paged.sum_table.Statement.{statement}
 use Rattle.compare_pages.proofs.paged.sum_table.Tie as tie
 
 abbrev Inv-loop : tie.InvT-loop
-Inv-loop t counts form n count lent₀ whole sum₀ k₀ lent sum k = (k ≤ count) × (length lent ≡ length lent₀)
+Inv-loop t counts z count lent₀ whole sum₀ k₀ lent sum k = (k ≤ count) × (length lent ≡ length lent₀)
 
 abbrev μ-loop : tie.MeasureT-loop
-μ-loop t counts form n count lent₀ whole sum₀ k₀ lent sum k = count - k
+μ-loop t counts z count lent₀ whole sum₀ k₀ lent sum k = count - k
 
-place-of-requires : tie.Need-place-of-requires Inv-loop μ-loop
-place-of-requires c κs = (c .before .pre .0, c .before .pre .1)
+size-of-requires : tie.Need-size-of-requires Inv-loop μ-loop
+size-of-requires c κs = c .before .pre .0
 
 loop-holds : tie.Need-loop-holds Inv-loop μ-loop
 loop-holds c = (omega arith, refl)
 
 ending-picks-requires : tie.Need-ending-picks-requires Inv-loop μ-loop
-ending-picks-requires c κs = let z = c .before .before .before .before in (z .pre .1, z .pre .2 .0)
+ending-picks-requires c κs = let z = c .before .before .before .before in (z .pre .1, z .pre .2, z .pre .3 .0)
 
 ending-image-requires : tie.Need-ending-image-requires Inv-loop μ-loop
 unfolding picksOf
@@ -35,22 +38,21 @@ ending-image-requires c κs =
     let a = z .args in
     let p = c .before .before .loop in (
       z .pre .1,
-      subst (λ ps. Filled ps (lineCount (a .n))) (sym (c .ending-picks .ensures))
-          (digits.digits-front (a .counts) (lineCount (a .n)) (p .k) (drop (lineCount (a .n)) blankCounts) (z .pre .2)),
+      z .pre .2,
+      subst (λ ps. Filled ps (lineCount (a .z))) (sym (c .ending-picks .ensures))
+          (digits.digits-front (a .counts) (lineCount (a .z)) (p .k) (drop (lineCount (a .z)) blankCounts) (z .pre .3)),
     )
-
-in-form-requires : tie.Need-in-form-requires Inv-loop μ-loop
-in-form-requires c κs = tt
 
 put-image-requires : tie.Need-put-image-requires Inv-loop μ-loop
 put-image-requires c κs =
-    let p = c .before .before .before .before .before .loop in
-    let z = c .before .before .before .before .before .before .before .before in
-    let i = c .before .before .ending-image in
-    let g = c .before .in-form in
-    let n : g .result .n ≡ z .args .n = ap (λ (x : Image). x .n) (g .ensures) ∙ ap (λ (x : Image). x .n) (i .ensures) ∙ pages.picked-nodes _ _ _ in
-    let f : g .result .form ≡ z .args .form = ap (λ (x : Image). x .form) (g .ensures) in
-    rw (n, f) (z .pre .0, (z .pre .1, omega (arith, place-most (z .args .form) (z .args .n) (z .pre .0) (z .pre .1) .1, z .pre .3, p .inv .1)))
+    let p = c .before .before .before .before .loop in
+    let z = c .before .before .before .before .before .before .before in
+    let a = z .args in
+    let g = c .before .ending-image in
+    let e : imageShape (g .result) ≡ own.owned (a .z) = ap imageShape (g .ensures) ∙ pages.picked-shape _ _ (a .z) in
+    let m : imageSize (a .z) ≤ 846 = own.size-few (a .z) (z .pre .0) (z .pre .1) (z .pre .2) in
+    subst (λ (x : Shape). (known (x .form) ≡ true) × ((x .n ≤ 64) × ((headLines x ≤ 8) × (imageSize x ≤ length (p .lent))))) (sym e)
+    (z .pre .0, (z .pre .1, (omega (arith, z .pre .2, own.own-lines (a .z)), omega (arith, m, z .pre .4, p .inv .1, own.own-size (a .z)))))
 
 sum-front-requires : tie.Need-sum-front-requires Inv-loop μ-loop
 sum-front-requires c κs = tt
@@ -64,7 +66,7 @@ loop-less c = omega arith
 loop-again : tie.Need-loop-again Inv-loop μ-loop
 loop-again c =
     let f = c .before .before .before .before in
-    (omega arith, f .put-image .kept .0 ∙ f .before .before .before .before .before .before .loop .inv .1)
+    (omega arith, f .put-image .kept .0 ∙ f .before .before .before .before .before .loop .inv .1)
 
 same-length : tie.Need-same-length Inv-loop μ-loop
 same-length c = c .before .loop .inv .1
@@ -78,11 +80,10 @@ sum-table-spec =
     (tie.spec
     Inv-loop
     μ-loop
-    place-of-requires
+    size-of-requires
     loop-holds
     ending-picks-requires
     ending-image-requires
-    in-form-requires
     put-image-requires
     sum-front-requires
     add-k

@@ -68,7 +68,7 @@ split-returns-2 :
     (t : ℕ) → split-lts.Need-returns-2 (split-below t, split.Post) (split-at t) split.Post
 split-returns-2 t c =
     let a = c .before .before .args in
-    let n : length (a .picks) ≡ 65 = search needs in
+    let n : length (a .picks) ≡ 72 = search needs in
     c .split .ensures ∙ laws.split-step (a .t1) (a .picks) (a .left) (a .k) (pos-of-ne-zero (c .before .if1 .left)) (omega arith)
 
 pub +split-spec : {M : Type 1} → statement M

@@ -1,15 +1,30 @@
-use mathlib.Core.Path.{refl, sym, ap, _∙_}
+use Prim.Native.Nat.{_≤_}
+use mathlib.Core.Path.{_≡_, refl, sym, ap, subst, _∙_}
+use mathlib.Core.Bool.{true}
 use native.Mathlib.Omega.{arith}
 use borrow.Author.Tests.{eq-eqb, ne-eqb, not-true, not-false}
 use borrow.Author.Needs.{needs}
 use Rattle.answer.specs.declared.Answer.the-variants.{Taken, NotZero}
+use Rattle.image.specs.Form.{headLines}
+use Rattle.image.specs.Layout.{imageShape}
 use Rattle.image.specs.Refusals.{startable}
+use Rattle.image.proofs.HeadLaws.{lines-few}
+use Rattle.machine.specs.Line.{shapeOf, persisted}
+use Rattle.machine.specs.Range.{inRange}
+use Rattle.machine.specs.declared.Machine.{Machine}
+use Rattle.steps.proofs.Own.{own-lines}
 use Rattle.image.specs.declared.Image.{Image}
 use Rattle.machine.specs.Event.{crashes}
 use Rattle.events.proofs.ByAnswer as by
 use Rattle.range.proofs.InRange as range
 use Rattle.events.proofs.arms.crash.Statement.{statement}
 use Rattle.events.proofs.arms.crash.Tie as tie
+
+-- the persisted image has as many nodes and head lines as there are places for
+startable-in : (m : Machine) (g : Image) → inRange m ≡ true → g ≡ persisted m → (g .n ≤ 64) × (headLines (imageShape g) ≤ 8)
+startable-in m g h e =
+    let s = range.in-range m h .sizes in
+    subst (λ (g : Image). (g .n ≤ 64) × (headLines (imageShape g) ≤ 8)) (sym e) (s .nodes-high, omega (arith, own-lines m, lines-few (shapeOf m) (s .threads-high)))
 
 returns : tie.Need-returns
 returns c =
@@ -25,7 +40,7 @@ kept-image-requires : tie.Need-kept-image-requires
 kept-image-requires c κs = search needs
 
 startable-of-requires : tie.Need-startable-of-requires
-startable-of-requires c κs = omega (arith, range.in-range _ (c .before .before .before .before .before .pre) .sizes .nodes-high, ap (λ (g : Image). g .n) (c .kept-image .ensures))
+startable-of-requires c κs = let z = c .before .before .before .before .before in startable-in (z .args .m) _ (z .pre) (c .kept-image .ensures)
 
 is-taken-requires : tie.Need-is-taken-requires
 is-taken-requires c κs = search needs
@@ -37,7 +52,7 @@ returns-3 c =
     by.refused (a .p) (a .m) (a .e) crashes (c .before .before .startable-of .result) (rw (eq-eqb _ _ (c .before .before .before .before .before .before .if1 .left), eq-eqb _ _ (c .before .before .before .before .if2 .left)) (sym z)) (sym (c .before .is-taken .ensures) ∙ not-true (c .before .is-taken .result) (c .if3 .taken))
 
 start-requires : tie.Need-start-requires
-start-requires c κs = omega (arith, range.in-range _ (c .before .before .before .before .before .before .before .before .pre) .sizes .nodes-high, ap (λ (g : Image). g .n) (c .before .before .before .kept-image .ensures))
+start-requires c κs = let z = c .before .before .before .before .before .before .before .before in startable-in (z .args .m) _ (z .pre) (c .before .before .before .kept-image .ensures)
 
 returns-4 : tie.Need-returns-4
 returns-4 c =

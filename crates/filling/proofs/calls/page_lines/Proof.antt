@@ -38,18 +38,20 @@ returns c =
 counts-of-requires : tie.Need-counts-of-requires
 counts-of-requires c κs = search needs
 
-cast-ending-count : tie.Need-cast-ending-count
-cast-ending-count c = search needs
-
-add-ending-count : tie.Need-add-ending-count
-add-ending-count c = search needs
-
-ending-count-requires : tie.Need-ending-count-requires
-ending-count-requires c κs =
+lines-of-requires : tie.Need-lines-of-requires
+lines-of-requires c κs =
     let z = c .before .before .before .before .before .before .before .before in
     let p = c .before .before .before .before .before .page-of in
     let f = sym (c .before .before .before .before .is-taken .ensures) ∙ going.taken-of (c .before .before .before .before .is-taken .result) (c .before .before .before .if1 .left) in
-    (omega (arith, pages.page-small (z .args .s .now) (p .result) (p .ensures) f), rw (c .counts-of .ensures) (pages.page-counted (z .args .s .now) (p .result) (p .ensures) f))
+    pages.page-small (z .args .s .now) (p .result) (p .ensures) f .1
+
+ending-count-requires : tie.Need-ending-count-requires
+ending-count-requires c κs =
+    let z = c .before .before .before .before .before .before .before .before .before in
+    let p = c .before .before .before .before .before .before .page-of in
+    let f = sym (c .before .before .before .before .before .is-taken .ensures) ∙ going.taken-of (c .before .before .before .before .before .is-taken .result) (c .before .before .before .before .if1 .left) in
+    let n = pages.page-small (z .args .s .now) (p .result) (p .ensures) f in
+    (omega (arith, n .0, n .1, c .lines-of .ensures), rw (c .before .counts-of .ensures, c .lines-of .ensures) (pages.page-counted (z .args .s .now) (p .result) (p .ensures) f))
 
 cast-if2 : tie.Need-cast-if2
 cast-if2 c = search needs
@@ -59,11 +61,11 @@ no-lines-requires-2 c κs = search needs
 
 returns-2 : tie.Need-returns-2
 returns-2 c =
-    let z = c .before .before .before .before .before .before .before .before .before .before .before in
+    let z = c .before .before .before .before .before .before .before .before .before .before .before .before in
     let a = z .args in
-    let p = c .before .before .before .before .before .before .before .before .page-of in
-    let f = sym (c .before .before .before .before .before .before .before .is-taken .ensures) ∙ going.taken-of (c .before .before .before .before .before .before .before .is-taken .result) (c .before .before .before .before .before .before .if1 .left) in
-    let n : c .before .before .ending-count .result ≡ endingCount (a .s .now) = c .before .before .ending-count .ensures ∙ rw (c .before .before .before .counts-of .ensures) (pages.page-count (z .args .s .now) (p .result) (p .ensures) f) in
+    let p = c .before .before .before .before .before .before .before .before .before .page-of in
+    let f = sym (c .before .before .before .before .before .before .before .before .is-taken .ensures) ∙ going.taken-of (c .before .before .before .before .before .before .before .before .is-taken .result) (c .before .before .before .before .before .before .before .if1 .left) in
+    let n : c .before .before .ending-count .result ≡ endingCount (a .s .now) = c .before .before .ending-count .ensures ∙ rw (c .before .before .before .before .counts-of .ensures, c .before .before .before .lines-of .ensures) (pages.page-count (z .args .s .now) (p .result) (p .ensures) f) in
     let e = answers.lines-none (a .s .now) (numbers.page-yes (a .s .now) (p .result) (p .ensures) f) (a .k) (length (a .b .now)) (omega (arith, n, c .before .if2 .taken)) in
     let q = answers.said-as (a .s .now) (a .k) (a .b .now) (c .no-lines2 .result) (a .b .now) (c .no-lines2 .ensures) (answers.said-none (a .s .now) (a .k) (a .b .now) NoEnding (a .b .now) e refl refl) in
     (q .0, (q .1 .0, (q .1 .1 .0, (q .1 .1 .1, λ h l m. absurd (omega (arith, n, c .before .if2 .taken))))))
@@ -79,17 +81,19 @@ cast-from c = search needs
 
 fill-requires : tie.Need-fill-requires
 fill-requires c κs =
-    let z = c .before .before .before .before .before .before .before .before .before .before .before .before .before .before in
+    let z = c .before .before .before .before .before .before .before .before .before .before .before .before .before .before .before in
     let a = z .args in
-    let p = c .before .before .before .before .before .before .before .before .before .before .before .page-of in
-    let f = sym (c .before .before .before .before .before .before .before .before .before .before .is-taken .ensures) ∙ going.taken-of (c .before .before .before .before .before .before .before .before .before .before .is-taken .result) (c .before .before .before .before .before .before .before .before .before .if1 .left) in
+    let p = c .before .before .before .before .before .before .before .before .before .before .before .before .page-of in
+    let f = sym (c .before .before .before .before .before .before .before .before .before .before .before .is-taken .ensures) ∙ going.taken-of (c .before .before .before .before .before .before .before .before .before .before .before .is-taken .result) (c .before .before .before .before .before .before .before .before .before .before .if1 .left) in
     let o = c .before .before .before .open-schedule in
-    let l = numbers.opened-limits (a .s .now) (o .result) (o .ensures) (numbers.schedule-yes (a .s .now) (p .result) (p .ensures) f) in (
-      pages.page-small (a .s .now) (p .result) (p .ensures) f,
-      rw (c .before .before .before .before .before .before .counts-of .ensures) (pages.page-ready (a .s .now) (p .result) (p .ensures) f),
+    let l = numbers.opened-limits (a .s .now) (o .result) (o .ensures) (numbers.schedule-yes (a .s .now) (p .result) (p .ensures) f) in
+    let n = pages.page-small (a .s .now) (p .result) (p .ensures) f in (
+      n .0,
+      n .1,
+      rw (c .before .before .before .before .before .before .before .counts-of .ensures) (pages.page-ready (a .s .now) (p .result) (p .ensures) f),
       l .0,
       l .1,
-      rw (c .before .before .before .before .before .ending-count .ensures, c .before .before .before .before .before .before .counts-of .ensures) (numbers.count-limit (a .s .now) (p .result) (p .ensures) f),
+      rw (c .before .before .before .before .before .ending-count .ensures, c .before .before .before .before .before .before .before .counts-of .ensures, c .before .before .before .before .before .before .lines-of .ensures) (numbers.count-limit (a .s .now) (p .result) (p .ensures) f),
       omega (arith, c .before .before .before .before .if2 .left),
     )
 
@@ -101,15 +105,15 @@ same-length c = search needs
 
 returns-3 : tie.Need-returns-3
 returns-3 c =
-    let z = c .before .before .before .before .before .before .before .before .before .before .before .before .before .before .before .before .before .before .before .before in
+    let z = c .before .before .before .before .before .before .before .before .before .before .before .before .before .before .before .before .before .before .before .before .before in
     let a = z .args in
-    let p = c .before .before .before .before .before .before .before .before .before .before .before .before .before .before .before .before .before .page-of in
-    let f = sym (c .before .before .before .before .before .before .before .before .before .before .before .before .before .before .before .before .is-taken .ensures) ∙ going.taken-of (c .before .before .before .before .before .before .before .before .before .before .before .before .before .before .before .before .is-taken .result) (c .before .before .before .before .before .before .before .before .before .before .before .before .before .before .before .if1 .left) in
+    let p = c .before .before .before .before .before .before .before .before .before .before .before .before .before .before .before .before .before .before .page-of in
+    let f = sym (c .before .before .before .before .before .before .before .before .before .before .before .before .before .before .before .before .before .is-taken .ensures) ∙ going.taken-of (c .before .before .before .before .before .before .before .before .before .before .before .before .before .before .before .before .before .is-taken .result) (c .before .before .before .before .before .before .before .before .before .before .before .before .before .before .before .before .if1 .left) in
     let o = c .before .before .before .before .before .before .before .before .before .open-schedule in
     let w = c .before .before .before .before .before .fill in
     let d = numbers.opened-numbers (a .s .now) (o .result) (o .ensures) (numbers.schedule-yes (a .s .now) (p .result) (p .ensures) f) in
-    let n : c .before .before .before .before .before .before .before .before .before .before .before .ending-count .result ≡ endingCount (a .s .now) = c .before .before .before .before .before .before .before .before .before .before .before .ending-count .ensures ∙ rw (c .before .before .before .before .before .before .before .before .before .before .before .before .counts-of .ensures) (pages.page-count (z .args .s .now) (p .result) (p .ensures) f) in
-    let x = tables.page-lined (a .s .now) (p .result) (p .ensures) f (c .before .before .before .before .before .before .before .table-of .result) (c .before .before .before .before .before .before .before .before .before .before .before .before .counts-of .result) (o .result .schedule .t) (o .result .schedule .count) (c .before .before .before .before .before .before .before .before .before .before .before .ending-count .result) (c .before .before .before .before .before .before .before .table-of .ensures) (c .before .before .before .before .before .before .before .before .before .before .before .before .counts-of .ensures) (d .0) (d .1) n (a .b .now) (a .k) (length (a .b .now)) (w .last .1 .1 .1 .1 .1 .1 .1 .0) (w .result .next) (w .result .place) (w .ensures .0, (omega (arith, w .ensures .1 .0), w .ensures .1 .1 .0)) in
+    let n : c .before .before .before .before .before .before .before .before .before .before .before .ending-count .result ≡ endingCount (a .s .now) = c .before .before .before .before .before .before .before .before .before .before .before .ending-count .ensures ∙ rw (c .before .before .before .before .before .before .before .before .before .before .before .before .before .counts-of .ensures, c .before .before .before .before .before .before .before .before .before .before .before .before .lines-of .ensures) (pages.page-count (z .args .s .now) (p .result) (p .ensures) f) in
+    let x = tables.page-lined (a .s .now) (p .result) (p .ensures) f (c .before .before .before .before .before .before .before .table-of .result) (c .before .before .before .before .before .before .before .before .before .before .before .before .before .counts-of .result) (o .result .schedule .t) (o .result .schedule .count) (c .before .before .before .before .before .before .before .before .before .before .before .ending-count .result) (c .before .before .before .before .before .before .before .table-of .ensures) (c .before .before .before .before .before .before .before .before .before .before .before .before .before .counts-of .ensures) (d .0) (d .1) n (a .b .now) (a .k) (length (a .b .now)) (w .last .1 .1 .1 .1 .1 .1 .1 .0) (w .result .next) (w .result .place) (w .ensures .0, (omega (arith, w .ensures .1 .0), w .ensures .1 .1 .0)) in
     let h : a .k ≤ endingCount (a .s .now) = omega (arith, n, c .before .before .before .before .before .before .before .before .before .before .if2 .left) in
     let y = numbers.page-yes (a .s .now) (p .result) (p .ensures) f in
     let l = lined.lined-stays (pageLine (a .s .now)) (a .b .now) (a .k) (suc (endingCount (a .s .now))) (length (a .b .now)) _ (w .result .next) (w .result .place) x (omega arith) (c .before .if3 .taken) in
@@ -117,23 +121,23 @@ returns-3 c =
     let q = answers.said-as (a .s .now) (a .k) (a .b .now) (c .no-lines3 .result) (w .last .1 .1 .1 .1 .1 .1 .1 .0) (c .no-lines3 .ensures) (answers.said-none (a .s .now) (a .k) (a .b .now) Room (w .last .1 .1 .1 .1 .1 .1 .1 .0) e refl (l .1)) in
     (q .0, (q .1 .0, (q .1 .1 .0, (q .1 .1 .1, λ h l m. absurd (omega (arith, w .ensures .1 .1 .1 m, c .before .if3 .taken))))))
 
-sub-t26 : tie.Need-sub-t26
-sub-t26 c = search needs
+sub-t25 : tie.Need-sub-t25
+sub-t25 c = search needs
 
 same-length-2 : tie.Need-same-length-2
 same-length-2 c = search needs
 
 returns-4 : tie.Need-returns-4
 returns-4 c =
-    let z = c .before .before .before .before .before .before .before .before .before .before .before .before .before .before .before .before .before .before .before .before in
+    let z = c .before .before .before .before .before .before .before .before .before .before .before .before .before .before .before .before .before .before .before .before .before in
     let a = z .args in
-    let p = c .before .before .before .before .before .before .before .before .before .before .before .before .before .before .before .before .before .page-of in
-    let f = sym (c .before .before .before .before .before .before .before .before .before .before .before .before .before .before .before .before .is-taken .ensures) ∙ going.taken-of (c .before .before .before .before .before .before .before .before .before .before .before .before .before .before .before .before .is-taken .result) (c .before .before .before .before .before .before .before .before .before .before .before .before .before .before .before .if1 .left) in
+    let p = c .before .before .before .before .before .before .before .before .before .before .before .before .before .before .before .before .before .before .page-of in
+    let f = sym (c .before .before .before .before .before .before .before .before .before .before .before .before .before .before .before .before .before .is-taken .ensures) ∙ going.taken-of (c .before .before .before .before .before .before .before .before .before .before .before .before .before .before .before .before .before .is-taken .result) (c .before .before .before .before .before .before .before .before .before .before .before .before .before .before .before .before .if1 .left) in
     let o = c .before .before .before .before .before .before .before .before .before .open-schedule in
     let w = c .before .before .before .before .before .fill in
     let d = numbers.opened-numbers (a .s .now) (o .result) (o .ensures) (numbers.schedule-yes (a .s .now) (p .result) (p .ensures) f) in
-    let n : c .before .before .before .before .before .before .before .before .before .before .before .ending-count .result ≡ endingCount (a .s .now) = c .before .before .before .before .before .before .before .before .before .before .before .ending-count .ensures ∙ rw (c .before .before .before .before .before .before .before .before .before .before .before .before .counts-of .ensures) (pages.page-count (z .args .s .now) (p .result) (p .ensures) f) in
-    let x = tables.page-lined (a .s .now) (p .result) (p .ensures) f (c .before .before .before .before .before .before .before .table-of .result) (c .before .before .before .before .before .before .before .before .before .before .before .before .counts-of .result) (o .result .schedule .t) (o .result .schedule .count) (c .before .before .before .before .before .before .before .before .before .before .before .ending-count .result) (c .before .before .before .before .before .before .before .table-of .ensures) (c .before .before .before .before .before .before .before .before .before .before .before .before .counts-of .ensures) (d .0) (d .1) n (a .b .now) (a .k) (length (a .b .now)) (w .last .1 .1 .1 .1 .1 .1 .1 .0) (w .result .next) (w .result .place) (w .ensures .0, (omega (arith, w .ensures .1 .0), w .ensures .1 .1 .0)) in
+    let n : c .before .before .before .before .before .before .before .before .before .before .before .ending-count .result ≡ endingCount (a .s .now) = c .before .before .before .before .before .before .before .before .before .before .before .ending-count .ensures ∙ rw (c .before .before .before .before .before .before .before .before .before .before .before .before .before .counts-of .ensures, c .before .before .before .before .before .before .before .before .before .before .before .before .lines-of .ensures) (pages.page-count (z .args .s .now) (p .result) (p .ensures) f) in
+    let x = tables.page-lined (a .s .now) (p .result) (p .ensures) f (c .before .before .before .before .before .before .before .table-of .result) (c .before .before .before .before .before .before .before .before .before .before .before .before .before .counts-of .result) (o .result .schedule .t) (o .result .schedule .count) (c .before .before .before .before .before .before .before .before .before .before .before .ending-count .result) (c .before .before .before .before .before .before .before .table-of .ensures) (c .before .before .before .before .before .before .before .before .before .before .before .before .before .counts-of .ensures) (d .0) (d .1) n (a .b .now) (a .k) (length (a .b .now)) (w .last .1 .1 .1 .1 .1 .1 .1 .0) (w .result .next) (w .result .place) (w .ensures .0, (omega (arith, w .ensures .1 .0), w .ensures .1 .1 .0)) in
     let h : a .k ≤ endingCount (a .s .now) = omega (arith, n, c .before .before .before .before .before .before .before .before .before .before .if2 .left) in
     let y = numbers.page-yes (a .s .now) (p .result) (p .ensures) f in
     let l = lined.lined-goes (pageLine (a .s .now)) (a .b .now) (a .k) (suc (endingCount (a .s .now))) (length (a .b .now)) _ (w .result .next) (w .result .place) x (c .before .if3 .left) in
@@ -150,8 +154,7 @@ page-lines-spec =
     no-lines-requires
     returns
     counts-of-requires
-    cast-ending-count
-    add-ending-count
+    lines-of-requires
     ending-count-requires
     cast-if2
     no-lines-requires-2
@@ -163,6 +166,6 @@ page-lines-spec =
     no-lines-requires-3
     same-length
     returns-3
-    sub-t26
+    sub-t25
     same-length-2
     returns-4)

@@ -7,7 +7,7 @@ use borrow.Author.Needs.{needs}
 use Rattle.lists.specs.Find.{least}
 use Rattle.lists.proofs.FindLaws as find
 use Rattle.image.specs.Recovered.{dummyOf}
-use Rattle.image.proofs.HeadLaws.{head-largest}
+use Rattle.image.proofs.HeadLaws.{head-is}
 use Rattle.image.proofs.RecoveredLaws.{unrecovered, unrecovered-is}
 use Rattle.image.proofs.recovered.dummy_of.Statement.{statement}
 use Rattle.image.proofs.recovered.dummy_of.Tie as tie
@@ -21,8 +21,8 @@ abbrev μ-loop : tie.MeasureT-loop
 cast-n : tie.Need-cast-n Inv-loop μ-loop
 cast-n c = search needs
 
-largest-of-requires : tie.Need-largest-of-requires Inv-loop μ-loop
-largest-of-requires c κs = omega arith
+head-of-requires : tie.Need-head-of-requires Inv-loop μ-loop
+head-of-requires c κs = search needs
 
 loop-holds : tie.Need-loop-holds Inv-loop μ-loop
 loop-holds c = (omega arith, unrecovered-is (c .before .before .args .t1) ∙ rw sub-zero)
@@ -41,7 +41,7 @@ unfolding unrecovered
 returns c =
     let p = c .before .before .before .before .loop in
     let g = c .before .before .before .before .before .before .before .args .t1 in
-    let h = c .before .before .before .before .before .largest-of .ensures ∙ head-largest g in
+    let h = c .before .before .before .before .before .head-of .ensures ∙ head-is g in
     sym (p .inv .1 ∙ find.least-hit (unrecovered g) (g .n) (p .i) (omega arith) (rw (← h, ← c .before .is-recovered .ensures, not-true (c .before .is-recovered .result) (c .if1 .taken))))
 
 add-i : tie.Need-add-i Inv-loop μ-loop
@@ -55,7 +55,7 @@ unfolding unrecovered
 loop-again c =
     let p = c .before .before .before .before .loop in
     let g = c .before .before .before .before .before .before .before .args .t1 in
-    let h = c .before .before .before .before .before .largest-of .ensures ∙ head-largest g in
+    let h = c .before .before .before .before .before .head-of .ensures ∙ head-is g in
     (omega arith, p .inv .1 ∙ find.least-next (unrecovered g) (g .n) (p .i) (omega arith) (rw (← h, ← c .before .is-recovered .ensures, not-false (c .before .is-recovered .result) (c .if1 .left))))
 
 returns-2 : tie.Need-returns-2 Inv-loop μ-loop
@@ -70,7 +70,7 @@ dummy-of-spec =
     Inv-loop
     μ-loop
     cast-n
-    largest-of-requires
+    head-of-requires
     loop-holds
     mul-v
     element-copy-out-v

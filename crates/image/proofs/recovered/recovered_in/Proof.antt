@@ -2,14 +2,14 @@ use borrow.Author.Needs.{needs}
 use Rattle.image.proofs.recovered.recovered_in.Statement.{statement}
 use Rattle.image.proofs.recovered.recovered_in.Tie as tie
 
-largest-of-requires : tie.Need-largest-of-requires
-largest-of-requires c κs = search needs
+head-of-requires : tie.Need-head-of-requires
+head-of-requires c κs = search needs
 
 is-recovered-requires : tie.Need-is-recovered-requires
 is-recovered-requires c κs = search needs
 
 returns : tie.Need-returns
-returns c = rw (c .is-recovered .ensures, c .before .largest-of .ensures)
+returns c = rw (c .is-recovered .ensures, c .before .head-of .ensures)
 
 pub recovered-in-spec : {M : Type 1} → statement M
-recovered-in-spec = tie.close (tie.spec largest-of-requires is-recovered-requires returns)
+recovered-in-spec = tie.close (tie.spec head-of-requires is-recovered-requires returns)

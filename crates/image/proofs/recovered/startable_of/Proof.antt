@@ -9,7 +9,7 @@ use borrow.Author.Needs.{needs}
 use Rattle.lists.specs.Find.{least, any}
 use Rattle.lists.proofs.FindLaws as find
 use Rattle.image.specs.Recovered.{twins, hasTwin, firstTwin, dummyOf}
-use Rattle.image.proofs.HeadLaws.{head-largest}
+use Rattle.image.proofs.HeadLaws.{head-is}
 use Rattle.image.proofs.RecoveredLaws.{unrecovered, unrecovered-is, startable-by}
 use Rattle.image.proofs.recovered.startable_of.Statement.{statement}
 use Rattle.image.proofs.recovered.startable_of.Tie as tie
@@ -38,8 +38,8 @@ abbrev μ-loop2 : tie.MeasureT-loop2
 cast-n : tie.Need-cast-n Inv-loop μ-loop Inv-pairs μ-pairs Inv-loop2 μ-loop2
 cast-n c = search needs
 
-largest-of-requires : tie.Need-largest-of-requires Inv-loop μ-loop Inv-pairs μ-pairs Inv-loop2 μ-loop2
-largest-of-requires c κs = omega arith
+head-of-requires : tie.Need-head-of-requires Inv-loop μ-loop Inv-pairs μ-pairs Inv-loop2 μ-loop2
+head-of-requires c κs = search needs
 
 pairs-holds : tie.Need-pairs-holds Inv-loop μ-loop Inv-pairs μ-pairs Inv-loop2 μ-loop2
 unfolding firstTwin
@@ -76,7 +76,7 @@ loop-again c =
     let l = c .before .before .before .before .before in
     let p = l .before .before in
     let g = p .before .before .before .args .t1 in
-    let h = p .before .largest-of .ensures ∙ head-largest g in
+    let h = p .before .head-of .ensures ∙ head-is g in
     let i = p .pairs .i in
     (omega arith, find.any-more (twins g i) (l .loop .j) (l .loop .inv .1) (rw (← h) (sym (c .before .are-twins .ensures) ∙ c .if1 .left)))
 
@@ -103,7 +103,7 @@ unfolding hasTwin twins
 found c =
     let p = c .before in
     let g = p .before .before .before .args .t1 in
-    let h = p .before .largest-of .ensures ∙ head-largest g in
+    let h = p .before .head-of .ensures ∙ head-is g in
     let i = p .pairs .i in
     sym
     (p .pairs .inv .1
@@ -114,8 +114,8 @@ found c =
     find.least-hit (hasTwin g) (g .n) i (x .0 .taken) (find.any-hit (twins g i) i (x .1 .j) (x .2 .taken) hit))
     (c .pairs-test .came))
 
-cast-t23 : tie.Need-cast-t23 Inv-loop μ-loop Inv-pairs μ-pairs Inv-loop2 μ-loop2
-cast-t23 c = omega arith
+cast-t26 : tie.Need-cast-t26 Inv-loop μ-loop Inv-pairs μ-pairs Inv-loop2 μ-loop2
+cast-t26 c = omega arith
 
 returns : tie.Need-returns Inv-loop μ-loop Inv-pairs μ-pairs Inv-loop2 μ-loop2
 returns c =
@@ -141,7 +141,7 @@ returns-2 c =
     let m = c .before .before .before .before in
     let q = m .before .before .before in
     let g = q .before .before .before .args .t1 in
-    let h = q .before .largest-of .ensures ∙ head-largest g in
+    let h = q .before .head-of .ensures ∙ head-is g in
     let k = m .loop2 .k in
     let r = c .before .is-recovered in
     let d = sym (m .loop2 .inv .1 ∙ find.least-hit (unrecovered g) (g .n) k (omega arith) (rw (← h, ← r .ensures, not-true (r .result) (c .if3 .taken)))) in
@@ -159,7 +159,7 @@ loop2-again c =
     let m = c .before .before .before .before in
     let q = m .before .before .before in
     let g = q .before .before .before .args .t1 in
-    let h = q .before .largest-of .ensures ∙ head-largest g in
+    let h = q .before .head-of .ensures ∙ head-is g in
     let r = c .before .is-recovered in
     (omega arith, m .loop2 .inv .1 ∙ find.least-next (unrecovered g) (g .n) (m .loop2 .k) (omega arith) (rw (← h, ← r .ensures, not-false (r .result) (c .if3 .left))))
 
@@ -183,7 +183,7 @@ startable-of-spec =
     Inv-loop2
     μ-loop2
     cast-n
-    largest-of-requires
+    head-of-requires
     pairs-holds
     loop-holds
     mul-a
@@ -197,7 +197,7 @@ startable-of-spec =
     add-i
     pairs-less
     pairs-again
-    cast-t23
+    cast-t26
     returns
     loop2-holds
     mul-v

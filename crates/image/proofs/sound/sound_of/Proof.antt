@@ -9,7 +9,7 @@ use borrow.Author.Needs.{needs}
 use Rattle.lists.specs.Find.{least, any}
 use Rattle.lists.proofs.FindLaws as find
 use Rattle.image.specs.Recovered.{twins, hasTwin, firstTwin, firstUnclear, dummyOf}
-use Rattle.image.proofs.HeadLaws.{head-largest}
+use Rattle.image.proofs.HeadLaws.{head-is}
 use Rattle.image.proofs.RecoveredLaws.{unclear, unclear-is, unrecovered, unrecovered-is, sound-by}
 use Rattle.image.proofs.sound.sound_of.Statement.{statement}
 use Rattle.image.proofs.sound.sound_of.Tie as tie
@@ -54,8 +54,8 @@ mul-v c = omega arith
 element-copy-out-v : tie.Need-element-copy-out-v Inv-loop μ-loop Inv-loop2 μ-loop2 Inv-pairs μ-pairs Inv-loop3 μ-loop3
 element-copy-out-v c = search needs
 
-cast-t20 : tie.Need-cast-t20 Inv-loop μ-loop Inv-loop2 μ-loop2 Inv-pairs μ-pairs Inv-loop3 μ-loop3
-cast-t20 c = omega arith
+cast-t21 : tie.Need-cast-t21 Inv-loop μ-loop Inv-loop2 μ-loop2 Inv-pairs μ-pairs Inv-loop3 μ-loop3
+cast-t21 c = omega arith
 
 returns : tie.Need-returns Inv-loop μ-loop Inv-loop2 μ-loop2 Inv-pairs μ-pairs Inv-loop3 μ-loop3
 unfolding unclear
@@ -79,8 +79,8 @@ loop-again c =
     let g = p .before .args .t1 in
     (omega arith, p .loop .inv .1 ∙ find.least-next (unclear g) (g .n) (p .loop .u) (omega arith) (le-ltb _ _ (c .if1 .left)))
 
-largest-of-requires : tie.Need-largest-of-requires Inv-loop μ-loop Inv-loop2 μ-loop2 Inv-pairs μ-pairs Inv-loop3 μ-loop3
-largest-of-requires c κs = omega arith
+head-of-requires : tie.Need-head-of-requires Inv-loop μ-loop Inv-loop2 μ-loop2 Inv-pairs μ-pairs Inv-loop3 μ-loop3
+head-of-requires c κs = search needs
 
 pairs-holds : tie.Need-pairs-holds Inv-loop μ-loop Inv-loop2 μ-loop2 Inv-pairs μ-pairs Inv-loop3 μ-loop3
 unfolding firstTwin
@@ -117,7 +117,7 @@ loop2-again c =
     let l = c .before .before .before .before .before in
     let p = l .before .before in
     let g = p .before .before .before .before .before .args .t1 in
-    let h = p .before .largest-of .ensures ∙ head-largest g in
+    let h = p .before .head-of .ensures ∙ head-is g in
     let i = p .pairs .i in
     (omega arith, find.any-more (twins g i) (l .loop2 .j) (l .loop2 .inv .1) (rw (← h) (sym (c .before .are-twins .ensures) ∙ c .if2 .left)))
 
@@ -144,7 +144,7 @@ unfolding hasTwin twins
 found c =
     let p = c .before in
     let g = p .before .before .before .before .before .args .t1 in
-    let h = p .before .largest-of .ensures ∙ head-largest g in
+    let h = p .before .head-of .ensures ∙ head-is g in
     let i = p .pairs .i in
     sym
     (p .pairs .inv .1
@@ -160,8 +160,8 @@ cleared c =
     let l = c .before .before .before in
     sym (l .before .loop .inv .1 ∙ find.least-end (unclear (c .before .before .before .before .before .args .t1)) (c .before .before .before .before .before .args .t1 .n) (l .before .loop .u) (l .loop-test .left))
 
-cast-t31 : tie.Need-cast-t31 Inv-loop μ-loop Inv-loop2 μ-loop2 Inv-pairs μ-pairs Inv-loop3 μ-loop3
-cast-t31 c = omega arith
+cast-t34 : tie.Need-cast-t34 Inv-loop μ-loop Inv-loop2 μ-loop2 Inv-pairs μ-pairs Inv-loop3 μ-loop3
+cast-t34 c = omega arith
 
 returns-2 : tie.Need-returns-2 Inv-loop μ-loop Inv-loop2 μ-loop2 Inv-pairs μ-pairs Inv-loop3 μ-loop3
 returns-2 c =
@@ -189,7 +189,7 @@ returns-3 c =
     let q = m .before .before .before in
     let g = q .before .before .before .before .before .args .t1 in
     let u = q .before .before .before in
-    let h = q .before .largest-of .ensures ∙ head-largest g in
+    let h = q .before .head-of .ensures ∙ head-is g in
     let k = m .loop3 .k in
     let r = c .before .is-recovered in
     let d = sym (m .loop3 .inv .1 ∙ find.least-hit (unrecovered g) (g .n) k (omega arith) (rw (← h, ← r .ensures, not-true (r .result) (c .if4 .taken)))) in
@@ -207,7 +207,7 @@ loop3-again c =
     let m = c .before .before .before .before in
     let q = m .before .before .before in
     let g = q .before .before .before .before .before .args .t1 in
-    let h = q .before .largest-of .ensures ∙ head-largest g in
+    let h = q .before .head-of .ensures ∙ head-is g in
     let r = c .before .is-recovered in
     (omega arith, m .loop3 .inv .1 ∙ find.least-next (unrecovered g) (g .n) (m .loop3 .k) (omega arith) (rw (← h, ← r .ensures, not-false (r .result) (c .if4 .left))))
 
@@ -237,12 +237,12 @@ sound-of-spec =
     loop-holds
     mul-v
     element-copy-out-v
-    cast-t20
+    cast-t21
     returns
     add-u
     loop-less
     loop-again
-    largest-of-requires
+    head-of-requires
     pairs-holds
     loop2-holds
     mul-a
@@ -256,7 +256,7 @@ sound-of-spec =
     add-i
     pairs-less
     pairs-again
-    cast-t31
+    cast-t34
     returns-2
     loop3-holds
     mul-v-2

@@ -21,7 +21,7 @@ loop-holds : tie.Need-loop-holds Inv-loop μ-loop
 loop-holds c = (omega arith, tables.free-none (c .before .args .g) (c .before .args .d))
 
 with-spare-requires : tie.Need-with-spare-requires Inv-loop μ-loop
-with-spare-requires c κs = (omega arith, c .before .loop .inv .1)
+with-spare-requires c κs = (omega arith, c .before .before .before .pre .1, c .before .loop .inv .1)
 
 add-i : tie.Need-add-i Inv-loop μ-loop
 add-i c = omega arith

@@ -26,7 +26,7 @@ loop-holds c =
     (omega arith, c .blank-nodes .ensures ∙ tables.nodes-none (a .g) (a .d) (queueOf (a .g)))
 
 node-of-requires : tie.Need-node-of-requires Inv-loop μ-loop
-node-of-requires c κs = (omega arith, omega arith, c .before .before .before .before .pre .1)
+node-of-requires c κs = let s = c .before .before .before .before in (omega arith, s .pre .1, omega arith, s .pre .2)
 
 mul-nodes : tie.Need-mul-nodes Inv-loop μ-loop
 mul-nodes c = omega arith

@@ -3,10 +3,10 @@ use Rattle.machine.specs.Laid.{refusedStart}
 use mathlib.Core.Bool.{true, false}
 use borrow.Author.Tests.{not-true, not-false}
 use Rattle.answer.specs.Answers.{told, accepted}
-use Rattle.answer.specs.declared.Answer.the-variants.{Taken, Mark, Nodes, Threads}
-use Rattle.image.specs.Form.{known}
-use Rattle.image.specs.Refusals.{nodesFit, sound, fitting, whole}
-use Rattle.machine.specs.Start.{threadsFit}
+use Rattle.answer.specs.declared.Answer.the-variants.{Taken, Threads}
+use Rattle.image.specs.Layout.{imageShape}
+use Rattle.image.specs.Refusals.{threadsFit, shapeAnswer, sound, fitting, whole}
+use Rattle.image.proofs.ShapeLaws.{Shaped, shape-is, shaped-lines}
 use Rattle.machine.specs.declared.Out.{Out}
 use Rattle.machine.proofs.AnswerLaws as answers
 use Rattle.image.proofs.SoundLaws.{whole-unsound, whole-sound, fitting-then}
@@ -27,113 +27,87 @@ returns c =
     let e = c .refused .ensures ∙ sym (answers.start-refused (s .g) (s .t) Threads (answers.answer-threads (s .g) (s .t) no) refl) in
     (ap (λ (o : Out). told (o .answer)) e, ap (λ (o : Out). o .machine) e)
 
-is-known-requires : tie.Need-is-known-requires
-is-known-requires c κs = search needs
+shape-of-requires : tie.Need-shape-of-requires
+shape-of-requires c κs = search needs
+
+is-taken-requires : tie.Need-is-taken-requires
+is-taken-requires c κs = search needs
 
 refused-requires-2 : tie.Need-refused-requires-2
 refused-requires-2 c κs = search needs
 
 returns-2 : tie.Need-returns-2
 returns-2 c =
-    let p = c .before .before .before in
+    let z = c .before .before .before in
+    let p = z .before in
     let s = p .before .before .args in
     let yes : threadsFit (s .t) ≡ true = sym (p .before .threads-fit .ensures) ∙ not-false _ (p .if1 .left) in
-    let no : known (s .g .form) ≡ false = sym (c .before .before .is-known .ensures) ∙ not-true _ (c .before .if2 .taken) in
-    let e = c .refused2 .ensures ∙ sym (answers.start-refused (s .g) (s .t) Mark (answers.answer-form (s .g) (s .t) yes no) refl) in
+    let is = z .shape-of .ensures in
+    let no : accepted (shapeAnswer (s .t) (imageShape (s .g)) Taken) ≡ false = sym (ap accepted is) ∙ sym (c .before .before .is-taken .ensures) ∙ not-true _ (c .before .if2 .taken) in
+    let e = c .refused2 .ensures ∙ ap refusedStart is ∙ sym (answers.start-refused (s .g) (s .t) _ (answers.answer-shape (s .g) (s .t) yes _ refl no) no) in
     (ap (λ (o : Out). told (o .answer)) e, ap (λ (o : Out). o .machine) e)
 
-nodes-fit-requires : tie.Need-nodes-fit-requires
-nodes-fit-requires c κs = search needs
+-- the shape was taken
+shaped : (c : tie.Else2) → Shaped (c .before .before .before .before .before .args .t) (imageShape (c .before .before .before .before .before .args .g))
+shaped c =
+    let s = c .before .before .before .before .before .args in
+    shape-is (s .t) (imageShape (s .g)) Taken (sym (ap accepted (c .before .before .shape-of .ensures)) ∙ sym (c .before .is-taken .ensures) ∙ not-false _ (c .if2 .left)) .0
+
+yes-threads : (c : tie.Else2) → threadsFit (c .before .before .before .before .before .args .t) ≡ true
+yes-threads c = let p = c .before .before .before in sym (p .before .threads-fit .ensures) ∙ not-false _ (p .if1 .left)
+
+sound-of-requires : tie.Need-sound-of-requires
+sound-of-requires c κs = shaped-lines _ _ (shaped c)
+
+is-taken-requires-2 : tie.Need-is-taken-requires-2
+is-taken-requires-2 c κs = search needs
 
 refused-requires-3 : tie.Need-refused-requires-3
 refused-requires-3 c κs = search needs
 
 returns-3 : tie.Need-returns-3
 returns-3 c =
-    let q = c .before .before .before in
-    let p = q .before .before in
-    let s = p .before .before .args in
-    let yes : threadsFit (s .t) ≡ true = sym (p .before .threads-fit .ensures) ∙ not-false _ (p .if1 .left) in
-    let form : known (s .g .form) ≡ true = sym (q .before .is-known .ensures) ∙ not-false _ (q .if2 .left) in
-    let no : nodesFit (s .g .n) ≡ false = sym (c .before .before .nodes-fit .ensures) ∙ not-true _ (c .before .if3 .taken) in
-    let e = c .refused3 .ensures ∙ sym (answers.start-refused (s .g) (s .t) Nodes (answers.answer-nodes (s .g) (s .t) yes form no) refl) in
+    let m = c .before .before .before in
+    let k = m .before in
+    let s = k .before .before .before .before .before .args in
+    let is = m .sound-of .ensures in
+    let no : accepted (sound (s .g) Taken) ≡ false = sym (ap accepted is) ∙ sym (c .before .before .is-taken2 .ensures) ∙ not-true _ (c .before .if3 .taken) in
+    let e = c .refused3 .ensures ∙ ap refusedStart is ∙ sym (answers.start-refused (s .g) (s .t) (sound (s .g) Taken) (answers.answer-whole (s .g) (s .t) (yes-threads k) (shaped k) ∙ whole-unsound (s .g) no) no) in
     (ap (λ (o : Out). told (o .answer)) e, ap (λ (o : Out). o .machine) e)
 
-sound-of-requires : tie.Need-sound-of-requires
-sound-of-requires c κs =
-    let s = c .before .before .before .before .before .before .args in
-    answers.nodes-range (s .g .n) (sym (c .before .nodes-fit .ensures) ∙ not-false _ (c .if3 .left)) .1
+fitting-of-requires : tie.Need-fitting-of-requires
+fitting-of-requires c κs = shaped-lines _ _ (shaped (c .before .before .before))
 
-is-taken-requires : tie.Need-is-taken-requires
-is-taken-requires c κs = search needs
+is-taken-requires-3 : tie.Need-is-taken-requires-3
+is-taken-requires-3 c κs = search needs
 
 refused-requires-4 : tie.Need-refused-requires-4
 refused-requires-4 c κs = search needs
 
 returns-4 : tie.Need-returns-4
 returns-4 c =
-    let m = c .before .before .before in
-    let p = m .before in
-    let k = p .before .before in
-    let q = k .before .before in
-    let s = q .before .before .args in
-    let yes : threadsFit (s .t) ≡ true = sym (q .before .threads-fit .ensures) ∙ not-false _ (q .if1 .left) in
-    let form : known (s .g .form) ≡ true = sym (k .before .is-known .ensures) ∙ not-false _ (k .if2 .left) in
-    let fit : nodesFit (s .g .n) ≡ true = sym (p .before .nodes-fit .ensures) ∙ not-false _ (p .if3 .left) in
-    let is = m .sound-of .ensures in
-    let no : accepted (sound (s .g) Taken) ≡ false = sym (ap accepted is) ∙ sym (c .before .before .is-taken .ensures) ∙ not-true _ (c .before .if4 .taken) in
-    let e = c .refused4 .ensures ∙ ap refusedStart is ∙ sym (answers.start-refused (s .g) (s .t) (sound (s .g) Taken) (answers.answer-whole (s .g) (s .t) yes form fit ∙ whole-unsound (s .g) no) no) in
+    let f = c .before .before .before in
+    let m = f .before .before .before in
+    let k = m .before in
+    let s = k .before .before .before .before .before .args in
+    let ok : accepted (sound (s .g) Taken) ≡ true = sym (ap accepted (m .sound-of .ensures)) ∙ sym (f .before .before .is-taken2 .ensures) ∙ not-false _ (f .before .if3 .left) in
+    let is = f .fitting-of .ensures in
+    let no : accepted (fitting (s .g) Taken) ≡ false = sym (ap accepted is) ∙ sym (c .before .before .is-taken3 .ensures) ∙ not-true _ (c .before .if4 .taken) in
+    let e = c .refused4 .ensures ∙ ap refusedStart is ∙ sym (answers.start-refused (s .g) (s .t) (fitting (s .g) Taken) (answers.answer-whole (s .g) (s .t) (yes-threads k) (shaped k) ∙ whole-sound (s .g) ok) no) in
     (ap (λ (o : Out). told (o .answer)) e, ap (λ (o : Out). o .machine) e)
 
-fitting-of-requires : tie.Need-fitting-of-requires
-fitting-of-requires c κs =
-    let p = c .before .before .before in
-    let s = p .before .before .before .before .before .before .args in
-    answers.nodes-range (s .g .n) (sym (p .before .nodes-fit .ensures) ∙ not-false _ (p .if3 .left)) .1
-
-is-taken-requires-2 : tie.Need-is-taken-requires-2
-is-taken-requires-2 c κs = search needs
-
-refused-requires-5 : tie.Need-refused-requires-5
-refused-requires-5 c κs = search needs
+start-requires : tie.Need-start-requires
+start-requires c κs = shaped-lines _ _ (shaped (c .before .before .before .before .before .before))
 
 returns-5 : tie.Need-returns-5
 returns-5 c =
     let f = c .before .before .before in
     let m = f .before .before .before in
-    let p = m .before in
-    let k = p .before .before in
-    let q = k .before .before in
-    let s = q .before .before .args in
-    let yes : threadsFit (s .t) ≡ true = sym (q .before .threads-fit .ensures) ∙ not-false _ (q .if1 .left) in
-    let form : known (s .g .form) ≡ true = sym (k .before .is-known .ensures) ∙ not-false _ (k .if2 .left) in
-    let fit : nodesFit (s .g .n) ≡ true = sym (p .before .nodes-fit .ensures) ∙ not-false _ (p .if3 .left) in
-    let ok : accepted (sound (s .g) Taken) ≡ true = sym (ap accepted (m .sound-of .ensures)) ∙ sym (f .before .before .is-taken .ensures) ∙ not-false _ (f .before .if4 .left) in
-    let is = f .fitting-of .ensures in
-    let no : accepted (fitting (s .g) Taken) ≡ false = sym (ap accepted is) ∙ sym (c .before .before .is-taken2 .ensures) ∙ not-true _ (c .before .if5 .taken) in
-    let e = c .refused5 .ensures ∙ ap refusedStart is ∙ sym (answers.start-refused (s .g) (s .t) (fitting (s .g) Taken) (answers.answer-whole (s .g) (s .t) yes form fit ∙ whole-sound (s .g) ok) no) in
-    (ap (λ (o : Out). told (o .answer)) e, ap (λ (o : Out). o .machine) e)
-
-start-requires : tie.Need-start-requires
-start-requires c κs =
-    let p = c .before .before .before .before .before .before in
-    let s = p .before .before .before .before .before .before .args in
-    answers.nodes-range (s .g .n) (sym (p .before .nodes-fit .ensures) ∙ not-false _ (p .if3 .left)) .1
-
-returns-6 : tie.Need-returns-6
-returns-6 c =
-    let f = c .before .before .before in
-    let m = f .before .before .before in
-    let p = m .before in
-    let k = p .before .before in
-    let q = k .before .before in
-    let s = q .before .before .args in
-    let yes : threadsFit (s .t) ≡ true = sym (q .before .threads-fit .ensures) ∙ not-false _ (q .if1 .left) in
-    let form : known (s .g .form) ≡ true = sym (k .before .is-known .ensures) ∙ not-false _ (k .if2 .left) in
-    let fit : nodesFit (s .g .n) ≡ true = sym (p .before .nodes-fit .ensures) ∙ not-false _ (p .if3 .left) in
-    let ok : accepted (sound (s .g) Taken) ≡ true = sym (ap accepted (m .sound-of .ensures)) ∙ sym (f .before .before .is-taken .ensures) ∙ not-false _ (f .before .if4 .left) in
-    let yes2 : accepted (fitting (s .g) Taken) ≡ true = sym (ap accepted (f .fitting-of .ensures)) ∙ sym (c .before .before .is-taken2 .ensures) ∙ not-false _ (c .before .if5 .left) in
-    let e = answers.start-taken (s .g) (s .t) (answers.answer-whole (s .g) (s .t) yes form fit ∙ whole-sound (s .g) ok ∙ fitting-then (s .g) Taken yes2) in
+    let k = m .before in
+    let s = k .before .before .before .before .before .args in
+    let ok : accepted (sound (s .g) Taken) ≡ true = sym (ap accepted (m .sound-of .ensures)) ∙ sym (f .before .before .is-taken2 .ensures) ∙ not-false _ (f .before .if3 .left) in
+    let yes2 : accepted (fitting (s .g) Taken) ≡ true = sym (ap accepted (f .fitting-of .ensures)) ∙ sym (c .before .before .is-taken3 .ensures) ∙ not-false _ (c .before .if4 .left) in
+    let e = answers.start-taken (s .g) (s .t) (answers.answer-whole (s .g) (s .t) (yes-threads k) (shaped k) ∙ whole-sound (s .g) ok ∙ fitting-then (s .g) Taken yes2) in
     (sym (ap (λ (o : Out). told (o .answer)) e), c .start .ensures ∙ sym (ap (λ (o : Out). o .machine) e))
 
 pub start-from-spec : {M : Type 1} → statement M
@@ -143,19 +117,17 @@ start-from-spec =
     threads-fit-requires
     refused-requires
     returns
-    is-known-requires
+    shape-of-requires
+    is-taken-requires
     refused-requires-2
     returns-2
-    nodes-fit-requires
+    sound-of-requires
+    is-taken-requires-2
     refused-requires-3
     returns-3
-    sound-of-requires
-    is-taken-requires
+    fitting-of-requires
+    is-taken-requires-3
     refused-requires-4
     returns-4
-    fitting-of-requires
-    is-taken-requires-2
-    refused-requires-5
-    returns-5
     start-requires
-    returns-6)
+    returns-5)

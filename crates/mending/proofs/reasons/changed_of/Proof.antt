@@ -12,10 +12,10 @@ use Rattle.mending.proofs.reasons.changed_of.Statement.{statement}
 use Rattle.mending.proofs.reasons.changed_of.Tie as tie
 
 abbrev Inv-loop : tie.InvT-loop
-Inv-loop s n spare count₀ i₀ count i = (i ≤ n) × (count ≡ changed (imageIn s) i)
+Inv-loop s z n spare count₀ i₀ count i = (i ≤ n) × (count ≡ changed (imageIn s) i)
 
 abbrev μ-loop : tie.MeasureT-loop
-μ-loop s n spare count₀ i₀ count i = n - i
+μ-loop s z n spare count₀ i₀ count i = n - i
 
 loop-holds : tie.Need-loop-holds Inv-loop μ-loop
 loop-holds c = (omega arith, turns.changed-none (imageIn (c .before .args .s .now)))
@@ -30,7 +30,7 @@ add-count : tie.Need-add-count Inv-loop μ-loop
 add-count c =
     let p = c .before .before .before .loop in
     let b = c .before .before .before .before .before in
-    omega (arith, p .inv .1, turns.changed-le (imageIn (b .args .s .now)) (p .i), c .one-where .ensures, turns.one-or-none (not (eqb (c .before .reason-at .result) 0)), b .pre .1 .0 .1 .0, b .pre .0)
+    omega (arith, p .inv .1, turns.changed-le (imageIn (b .args .s .now)) (p .i), c .one-where .ensures, turns.one-or-none (not (eqb (c .before .reason-at .result) 0)), b .pre .1 .0 .nodes, b .pre .0)
 
 add-i : tie.Need-add-i Inv-loop μ-loop
 add-i c = omega arith

@@ -11,10 +11,10 @@ use Rattle.mending.proofs.reasons.has_twin_at.Statement.{statement}
 use Rattle.mending.proofs.reasons.has_twin_at.Tie as tie
 
 abbrev Inv-loop : tie.InvT-loop
-Inv-loop s i h j₀ j = (j ≤ i) × (any (twins (imageIn s) i) j ≡ false)
+Inv-loop s z i h j₀ j = (j ≤ i) × (any (twins (imageIn s) i) j ≡ false)
 
 abbrev μ-loop : tie.MeasureT-loop
-μ-loop s i h j₀ j = i - j
+μ-loop s z i h j₀ j = i - j
 
 head-at-requires : tie.Need-head-at-requires Inv-loop μ-loop
 head-at-requires c κs = search needs

@@ -9,10 +9,10 @@ use Rattle.mending.proofs.reasons.largest_at.Statement.{statement}
 use Rattle.mending.proofs.reasons.largest_at.Tie as tie
 
 abbrev Inv-loop : tie.InvT-loop
-Inv-loop s n r₀ k₀ r k = (k ≤ n) × (r ≡ largestAt (imageIn s) k)
+Inv-loop s z n r₀ k₀ r k = (k ≤ n) × (r ≡ largestAt (imageIn s) k)
 
 abbrev μ-loop : tie.MeasureT-loop
-μ-loop s n r₀ k₀ r k = n - k
+μ-loop s z n r₀ k₀ r k = n - k
 
 loop-holds : tie.Need-loop-holds Inv-loop μ-loop
 loop-holds c = (omega arith, turns.largest-none (imageIn (c .before .args .s .now)))

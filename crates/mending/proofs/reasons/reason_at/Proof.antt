@@ -16,7 +16,7 @@ returns c =
     let l = c .before in
     let b = l .before .before in
     let g = imageIn (b .args .s .now) in
-    rw (← turns.reason-by g (b .args .i) (l .linked-at .result) (hasTwin g (b .args .i)) (b .args .spare) (rw (nodes-in (b .args .s .now)) (b .pre .0)) (l .linked-at .ensures) refl (b .pre .1 .1), lt-ltb _ _ (c .if1 .taken))
+    rw (← turns.reason-by g (b .args .i) (l .linked-at .result) (hasTwin g (b .args .i)) (b .args .spare) (rw (nodes-in (b .args .s .now) (b .args .z) (b .pre .1 .0)) (b .pre .0)) (l .linked-at .ensures) refl (b .pre .1 .1), lt-ltb _ _ (c .if1 .taken))
 
 has-twin-at-requires : tie.Need-has-twin-at-requires
 has-twin-at-requires c κs = search needs
@@ -29,7 +29,7 @@ returns-2 c =
     let b = l .before .before in
     let g = imageIn (b .args .s .now) in
     rw (
-      ← turns.reason-by g (b .args .i) (l .linked-at .result) (t .has-twin-at .result) (b .args .spare) (rw (nodes-in (b .args .s .now)) (b .pre .0)) (l .linked-at .ensures) (t .has-twin-at .ensures) (b .pre .1 .1),
+      ← turns.reason-by g (b .args .i) (l .linked-at .result) (t .has-twin-at .result) (b .args .spare) (rw (nodes-in (b .args .s .now) (b .args .z) (b .pre .1 .0)) (b .pre .0)) (l .linked-at .ensures) (t .has-twin-at .ensures) (b .pre .1 .1),
       le-ltb _ _ (p .if1 .left),
       c .if2 .taken,
     )
@@ -43,7 +43,7 @@ returns-3 c =
     let b = l .before .before in
     let g = imageIn (b .args .s .now) in
     rw (
-      ← turns.reason-by g (b .args .i) (l .linked-at .result) (t .has-twin-at .result) (b .args .spare) (rw (nodes-in (b .args .s .now)) (b .pre .0)) (l .linked-at .ensures) (t .has-twin-at .ensures) (b .pre .1 .1),
+      ← turns.reason-by g (b .args .i) (l .linked-at .result) (t .has-twin-at .result) (b .args .spare) (rw (nodes-in (b .args .s .now) (b .args .z) (b .pre .1 .0)) (b .pre .0)) (l .linked-at .ensures) (t .has-twin-at .ensures) (b .pre .1 .1),
       le-ltb _ _ (p .if1 .left),
       q .if2 .left,
       eq-eqb _ _ (c .if3 .taken),
@@ -58,7 +58,7 @@ returns-4 c =
     let b = l .before .before in
     let g = imageIn (b .args .s .now) in
     rw (
-      ← turns.reason-by g (b .args .i) (l .linked-at .result) (t .has-twin-at .result) (b .args .spare) (rw (nodes-in (b .args .s .now)) (b .pre .0)) (l .linked-at .ensures) (t .has-twin-at .ensures) (b .pre .1 .1),
+      ← turns.reason-by g (b .args .i) (l .linked-at .result) (t .has-twin-at .result) (b .args .spare) (rw (nodes-in (b .args .s .now) (b .args .z) (b .pre .1 .0)) (b .pre .0)) (l .linked-at .ensures) (t .has-twin-at .ensures) (b .pre .1 .1),
       le-ltb _ _ (p .if1 .left),
       q .if2 .left,
       ne-eqb _ _ (c .if3 .left),

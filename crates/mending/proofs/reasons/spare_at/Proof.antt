@@ -19,7 +19,7 @@ returns c =
     let t = c .before in
     let b = t .before .before .before in
     let g = imageIn (b .args .s .now) in
-    rw (← turns.spare-by g (b .args .n) (t .first-twin-at .result) (dummyOf g) (b .pre .0 ∙ sym (nodes-in (b .args .s .now))) (t .first-twin-at .ensures) refl, ne-eqb _ _ (c .if1 .taken))
+    rw (← turns.spare-by g (b .args .n) (t .first-twin-at .result) (dummyOf g) (b .pre .0 ∙ sym (nodes-in (b .args .s .now) (b .args .z) (b .pre .1))) (t .first-twin-at .ensures) refl, ne-eqb _ _ (c .if1 .taken))
 
 dummy-at-requires : tie.Need-dummy-at-requires
 dummy-at-requires c κs = search needs
@@ -32,7 +32,7 @@ returns-2 c =
     let b = t .before .before .before in
     let g = imageIn (b .args .s .now) in
     rw (
-      ← turns.spare-by g (b .args .n) (t .first-twin-at .result) (d .dummy-at .result) (b .pre .0 ∙ sym (nodes-in (b .args .s .now))) (t .first-twin-at .ensures) (d .dummy-at .ensures),
+      ← turns.spare-by g (b .args .n) (t .first-twin-at .result) (d .dummy-at .result) (b .pre .0 ∙ sym (nodes-in (b .args .s .now) (b .args .z) (b .pre .1))) (t .first-twin-at .ensures) (d .dummy-at .ensures),
       eq-eqb _ _ (p .if1 .left),
       ne-eqb _ _ (c .if2 .taken),
     )
@@ -49,7 +49,7 @@ returns-3 c =
     let b = t .before .before .before in
     let g = imageIn (b .args .s .now) in
     rw (
-      ← turns.spare-by g (b .args .n) (t .first-twin-at .result) (d .dummy-at .result) (b .pre .0 ∙ sym (nodes-in (b .args .s .now))) (t .first-twin-at .ensures) (d .dummy-at .ensures),
+      ← turns.spare-by g (b .args .n) (t .first-twin-at .result) (d .dummy-at .result) (b .pre .0 ∙ sym (nodes-in (b .args .s .now) (b .args .z) (b .pre .1))) (t .first-twin-at .ensures) (d .dummy-at .ensures),
       eq-eqb _ _ (p .if1 .left),
       eq-eqb _ _ (q .if2 .left),
     ) (c .largest-at .ensures)

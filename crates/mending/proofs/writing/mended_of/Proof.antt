@@ -12,13 +12,13 @@ use Rattle.mending.proofs.writing.mended_of.Statement.{statement}
 use Rattle.mending.proofs.writing.mended_of.Tie as tie
 
 abbrev Inv-loop : tie.InvT-loop
-Inv-loop s n spare g nodes₀ i₀ nodes i = (i ≤ n) × (nodes ≡ turns.nodesMended (imageIn s) i)
+Inv-loop s z n spare g nodes₀ i₀ nodes i = (i ≤ n) × (nodes ≡ turns.nodesMended (imageIn s) i)
 
 abbrev μ-loop : tie.MeasureT-loop
-μ-loop s n spare g nodes₀ i₀ nodes i = n - i
+μ-loop s z n spare g nodes₀ i₀ nodes i = n - i
 
 image-in-requires : tie.Need-image-in-requires Inv-loop μ-loop
-image-in-requires c κs = search needs
+image-in-requires c κs = turns.lies-own _ _ (c .before .pre .1 .0)
 
 loop-holds : tie.Need-loop-holds Inv-loop μ-loop
 loop-holds c =
@@ -29,26 +29,26 @@ reason-at-requires c κs = let p = c .before .before .before .before .before .pr
 
 mul-v : tie.Need-mul-v Inv-loop μ-loop
 mul-v c =
-    omega (arith, c .before .before .before .before .before .before .pre .0, c .before .before .before .before .before .before .pre .1 .0 .1 .0)
+    omega (arith, c .before .before .before .before .before .before .pre .0, c .before .before .before .before .before .before .pre .1 .0 .nodes)
 
 element-copy-out-v : tie.Need-element-copy-out-v Inv-loop μ-loop
 element-copy-out-v c =
-    omega (arith, c .before .before .before .before .before .before .pre .0, c .before .before .before .before .before .before .pre .1 .0 .1 .0)
+    omega (arith, c .before .before .before .before .before .before .pre .0, c .before .before .before .before .before .before .pre .1 .0 .nodes)
 
 mended-content-requires : tie.Need-mended-content-requires Inv-loop μ-loop
 mended-content-requires c κs = search needs
 
 mul-nodes : tie.Need-mul-nodes Inv-loop μ-loop
 mul-nodes c =
-    omega (arith, c .before .before .before .before .before .before .before .before .pre .0, c .before .before .before .before .before .before .before .before .pre .1 .0 .1 .0)
+    omega (arith, c .before .before .before .before .before .before .before .before .pre .0, c .before .before .before .before .before .before .before .before .pre .1 .0 .nodes)
 
 array-set-from-nodes : tie.Need-array-set-from-nodes Inv-loop μ-loop
 array-set-from-nodes c =
-    omega (arith, c .before .before .before .before .before .before .before .before .pre .0, c .before .before .before .before .before .before .before .before .pre .1 .0 .1 .0)
+    omega (arith, c .before .before .before .before .before .before .before .before .pre .0, c .before .before .before .before .before .before .before .before .pre .1 .0 .nodes)
 
 add-i : tie.Need-add-i Inv-loop μ-loop
 add-i c =
-    omega (arith, c .before .before .before .before .before .before .before .before .pre .0, c .before .before .before .before .before .before .before .before .pre .1 .0 .1 .0)
+    omega (arith, c .before .before .before .before .before .before .before .before .pre .0, c .before .before .before .before .before .before .before .before .pre .1 .0 .nodes)
 
 loop-less : tie.Need-loop-less Inv-loop μ-loop
 loop-less c = omega arith
@@ -58,17 +58,17 @@ loop-again c =
     let p = c .before .before .before .before .loop in
     let q = c .before .before .before .before .before .before in
     let s = c .before .before .before .before .before .before .before .before .args .s .now in
-    let l = turns.in-length s (c .before .before .before .before .before .before .before .before .pre .1 .0 .1 .0) in
-    (omega arith, rw (c .mended-content .ensures, c .before .before .reason-at .ensures, q .image-in .ensures, p .inv .1) (turns.nodes-next (imageIn s) (p .i) (omega (arith, l, c .before .before .before .before .before .before .before .before .pre .0, c .before .before .before .before .before .before .before .before .pre .1 .0 .1 .0))))
+    let l = turns.in-length s (turns.lies-own s _ (c .before .before .before .before .before .before .before .before .pre .1 .0) .nodes) in
+    (omega arith, rw (c .mended-content .ensures, c .before .before .reason-at .ensures, q .image-in .ensures, p .inv .1) (turns.nodes-next (imageIn s) (p .i) (omega (arith, l, c .before .before .before .before .before .before .before .before .pre .0, c .before .before .before .before .before .before .before .before .pre .1 .0 .nodes))))
 
 returns : tie.Need-returns Inv-loop μ-loop
 returns c =
     let p = c .before .before .loop in
     let q = c .before .before .before .before in
     let s = c .before .before .before .before .before .before .args .s .now in
-    let e : p .i ≡ imageIn s .n = (omega (arith, p .inv .0) ∙ (c .before .before .before .before .before .before .pre .0 ∙ sym (nodes-in s))) in
-    let n : imageIn s .n ≤ length (imageIn s .nodes) = omega (arith, nodes-in s, turns.in-length s (c .before .before .before .before .before .before .pre .1 .0 .1 .0), c .before .before .before .before .before .before .pre .1 .0 .1 .0) in
-    ap (λ (g : Image). record { form = g .form; n = g .n; heads = g .heads; nodes = p .nodes }) (q .image-in .ensures)
+    let e : p .i ≡ imageIn s .n = (omega (arith, p .inv .0) ∙ (c .before .before .before .before .before .before .pre .0 ∙ sym (nodes-in s (c .before .before .before .before .before .before .args .z) (c .before .before .before .before .before .before .pre .1 .0)))) in
+    let n : imageIn s .n ≤ length (imageIn s .nodes) = omega (arith, nodes-in s (c .before .before .before .before .before .before .args .z) (c .before .before .before .before .before .before .pre .1 .0), turns.in-length s (turns.lies-own s _ (c .before .before .before .before .before .before .pre .1 .0) .nodes), c .before .before .before .before .before .before .pre .1 .0 .nodes) in
+    ap (λ (g : Image). record { form = g .form; n = g .n; t = g .t; heads = g .heads; nodes = p .nodes }) (q .image-in .ensures)
     ∙ turns.mended-by (imageIn s) n (p .nodes) (p .inv .1 ∙ ap (turns.nodesMended (imageIn s)) e)
 
 pub mended-of-spec : {M : Type 1} → statement M

@@ -12,10 +12,10 @@ use Rattle.mending.proofs.writing.put_changes.Statement.{statement}
 use Rattle.mending.proofs.writing.put_changes.Tie as tie
 
 abbrev Inv-loop : tie.InvT-loop
-Inv-loop s n spare l₀ at₀ i₀ l at i = (i ≤ n) × ((at ≡ length (changes (imageIn s) i)) × (l ≡ over l₀ 0 (changes (imageIn s) i)))
+Inv-loop s z n spare l₀ at₀ i₀ l at i = (i ≤ n) × ((at ≡ length (changes (imageIn s) i)) × (l ≡ over l₀ 0 (changes (imageIn s) i)))
 
 abbrev μ-loop : tie.MeasureT-loop
-μ-loop s n spare l₀ at₀ i₀ l at i = n - i
+μ-loop s z n spare l₀ at₀ i₀ l at i = n - i
 
 loop-holds : tie.Need-loop-holds Inv-loop μ-loop
 unfolding over
@@ -28,7 +28,7 @@ reason-at-requires c κs = let p = c .before .before .before .before .pre .0 in 
 
 cast-put-entry : tie.Need-cast-put-entry Inv-loop μ-loop
 cast-put-entry c =
-    omega (arith, c .before .before .before .before .before .before .pre .0 .0, c .before .before .before .before .before .before .pre .0 .1 .0 .1 .0)
+    omega (arith, c .before .before .before .before .before .before .pre .0 .0, c .before .before .before .before .before .before .pre .0 .1 .0 .nodes)
 
 put-entry-requires : tie.Need-put-entry-requires Inv-loop μ-loop
 put-entry-requires c κs =
@@ -40,7 +40,7 @@ put-entry-requires c κs =
 
 add-i : tie.Need-add-i Inv-loop μ-loop
 add-i c =
-    omega (arith, c .before .before .before .before .before .before .before .before .before .pre .0 .0, c .before .before .before .before .before .before .before .before .before .pre .0 .1 .0 .1 .0)
+    omega (arith, c .before .before .before .before .before .before .before .before .before .pre .0 .0, c .before .before .before .before .before .before .before .before .before .pre .0 .1 .0 .nodes)
 
 loop-less : tie.Need-loop-less Inv-loop μ-loop
 loop-less c = omega arith

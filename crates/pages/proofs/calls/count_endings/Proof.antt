@@ -1,11 +1,9 @@
 use Rattle.answer.specs.Answers.{told, accepted}
-use borrow.Author.Needs.{needs}
 use native.Mathlib.Omega.{arith}
 use mathlib.Core.Path.{_≡_, refl, sym, ap, _∙_}
 use Prim.Native.Nat.{_+_, _*_, _≤_, _<_}
 use Rattle.runs.proofs.GoingLaws as going
 use Rattle.runs.proofs.PageLaws as laws
-use Rattle.codec.proofs.Accepted as codec
 use borrow.Author.Needs.{needs}
 use Rattle.pages.proofs.calls.count_endings.Statement.{statement}
 use Rattle.pages.proofs.calls.count_endings.Tie as tie
@@ -31,25 +29,30 @@ returns c =
 counts-of-requires : tie.Need-counts-of-requires
 counts-of-requires c κs = search needs
 
-cast-ending-count : tie.Need-cast-ending-count
-cast-ending-count c = search needs
-
-add-ending-count : tie.Need-add-ending-count
-add-ending-count c = search needs
+lines-of-requires : tie.Need-lines-of-requires
+lines-of-requires c κs =
+    let z = c .before .before .before .before .before .before .before in
+    let p = c .before .before .before .before .before .page-of in
+    let t = c .before .before .before .before .is-taken in
+    let f = sym (t .ensures) ∙ going.taken-of (t .result) (c .before .before .before .if1 .left) in
+    laws.page-small (z .args .s .now) (p .result) (p .ensures) f .1
 
 ending-count-requires : tie.Need-ending-count-requires
 ending-count-requires c κs =
     let z = c .before .before .before .before .before .before .before .before in
     let p = c .before .before .before .before .before .before .page-of in
-    let f = sym (c .before .before .before .before .before .is-taken .ensures) ∙ going.taken-of (c .before .before .before .before .before .is-taken .result) (c .before .before .before .before .if1 .left) in
-    (omega (arith, laws.page-small (z .args .s .now) (p .result) (p .ensures) f), rw (c .before .counts-of .ensures) (laws.page-counted (z .args .s .now) (p .result) (p .ensures) f))
+    let t = c .before .before .before .before .before .is-taken in
+    let f = sym (t .ensures) ∙ going.taken-of (t .result) (c .before .before .before .before .if1 .left) in
+    let n = laws.page-small (z .args .s .now) (p .result) (p .ensures) f in
+    (omega (arith, n .0, n .1, c .lines-of .ensures), rw (c .before .counts-of .ensures, c .lines-of .ensures) (laws.page-counted (z .args .s .now) (p .result) (p .ensures) f))
 
 returns-2 : tie.Need-returns-2
 returns-2 c =
     let z = c .before .before .before .before .before .before .before .before .before in
     let p = c .before .before .before .before .before .before .before .page-of in
-    let f = sym (c .before .before .before .before .before .before .is-taken .ensures) ∙ going.taken-of (c .before .before .before .before .before .before .is-taken .result) (c .before .before .before .before .before .if1 .left) in
-    (ap told (p .ensures .answer), c .ending-count .ensures ∙ rw (c .before .before .counts-of .ensures) (laws.count-taken (z .args .s .now) (p .result) (p .ensures) f))
+    let t = c .before .before .before .before .before .before .is-taken in
+    let f = sym (t .ensures) ∙ going.taken-of (t .result) (c .before .before .before .before .before .if1 .left) in
+    (ap told (p .ensures .answer), c .ending-count .ensures ∙ rw (c .before .before .counts-of .ensures, c .before .lines-of .ensures) (laws.count-taken (z .args .s .now) (p .result) (p .ensures) f))
 
 pub count-endings-spec : {M : Type 1} → statement M
 count-endings-spec =
@@ -59,7 +62,6 @@ count-endings-spec =
     is-taken-requires
     returns
     counts-of-requires
-    cast-ending-count
-    add-ending-count
+    lines-of-requires
     ending-count-requires
     returns-2)

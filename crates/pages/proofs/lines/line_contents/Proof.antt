@@ -4,6 +4,7 @@ use mathlib.Core.Bool.{true, false}
 use native.Mathlib.Omega.{arith}
 use borrow.Author.Needs.{needs}
 use Rattle.answer.specs.Answers.{told, accepted}
+use Rattle.machine.specs.Line.{shapeOf, lineCount}
 use Rattle.page.specs.Refusals.{pageAnswer}
 use Rattle.pages.specs.Lines.{lineAnswer}
 use Rattle.runs.proofs.GoingLaws as going
@@ -33,11 +34,13 @@ returns c =
     let h = ap accepted (sym e) ∙ g in
     (ap told (n .0 ∙ p .ensures .answer ∙ e), (n .1 .0 ∙ laws.no-count s l h, n .1 .1 ∙ laws.no-row s l h))
 
-cast-if2 : tie.Need-cast-if2
-cast-if2 c = search needs
-
-add-if2 : tie.Need-add-if2
-add-if2 c = search needs
+lines-of-requires : tie.Need-lines-of-requires
+lines-of-requires c κs =
+    let s = c .before .before .before .before .before .args .s .now in
+    let p = c .before .before .before .page-of in
+    let t = c .before .before .is-taken in
+    let a = sym (t .ensures) ∙ going.taken-of (t .result) (c .before .if1 .left) in
+    pages.page-small s (p .result) (p .ensures) a .1
 
 no-line-requires-2 : tie.Need-no-line-requires-2
 no-line-requires-2 c κs = search needs
@@ -48,9 +51,9 @@ returns-2 c =
     let l = c .before .before .before .before .before .before .before .before .args .l in
     let p = c .before .before .before .before .before .before .page-of in
     let t = c .before .before .before .before .before .is-taken in
-    let n = c .no-line2 .ensures in
     let a = sym (t .ensures) ∙ going.taken-of (t .result) (c .before .before .before .before .if1 .left) in
-    let e = laws.line-none s (p .result) (p .ensures) a l (omega (arith, c .before .if2 .taken)) in
+    let n = c .no-line2 .ensures in
+    let e = laws.line-none s (p .result) (p .ensures) a l (omega (arith, c .before .if2 .taken, c .before .before .lines-of .ensures)) in
     let h = ap accepted (sym e) in
     (ap told (n .0 ∙ e), (n .1 .0 ∙ laws.no-count s l h, n .1 .1 ∙ laws.no-row s l h))
 
@@ -60,10 +63,12 @@ mul-row c = search needs
 array-copy-out-row : tie.Need-array-copy-out-row
 array-copy-out-row c =
     let s = c .before .before .before .before .before .before .before .before .args .s .now in
+    let l = c .before .before .before .before .before .before .before .before .args .l in
     let p = c .before .before .before .before .before .before .page-of in
     let t = c .before .before .before .before .before .is-taken in
     let a = sym (t .ensures) ∙ going.taken-of (t .result) (c .before .before .before .before .if1 .left) in
-    omega (arith, c .before .if2 .left, pages.page-small s (p .result) (p .ensures) a)
+    let w = pages.page-small s (p .result) (p .ensures) a in
+    omega (arith, c .before .if2 .left, c .before .before .lines-of .ensures, w .0, w .1)
 
 shown-requires : tie.Need-shown-requires
 shown-requires c κs =
@@ -72,7 +77,7 @@ shown-requires c κs =
     let p = c .before .before .before .before .before .before .before .page-of in
     let t = c .before .before .before .before .before .before .is-taken in
     let a = sym (t .ensures) ∙ going.taken-of (t .result) (c .before .before .before .before .before .if1 .left) in
-    laws.line-few s (p .result) (p .ensures) a l (omega (arith, c .before .before .if2 .left))
+    laws.line-few s (p .result) (p .ensures) a l (omega (arith, c .before .before .if2 .left, c .before .before .before .lines-of .ensures))
 
 returns-3 : tie.Need-returns-3
 returns-3 c =
@@ -80,9 +85,9 @@ returns-3 c =
     let l = c .before .before .before .before .before .before .before .before .before .before .args .l in
     let p = c .before .before .before .before .before .before .before .before .page-of in
     let t = c .before .before .before .before .before .before .before .is-taken in
-    let n = c .shown .ensures in
     let a = sym (t .ensures) ∙ going.taken-of (t .result) (c .before .before .before .before .before .before .if1 .left) in
-    let h : l < p .result .machine .n + 1 = omega (arith, c .before .before .before .if2 .left) in
+    let n = c .shown .ensures in
+    let h : l < lineCount (shapeOf (p .result .machine)) = omega (arith, c .before .before .before .if2 .left, c .before .before .before .before .lines-of .ensures) in
     (ap told (n .0 ∙ laws.line-taken s (p .result) (p .ensures) a l h), (n .1 .0 ∙ laws.line-count s (p .result) (p .ensures) a l h, n .1 .1 ∙ laws.line-row s (p .result) (p .ensures) a l h))
 
 pub line-contents-spec : {M : Type 1} → statement M
@@ -93,8 +98,7 @@ line-contents-spec =
     is-taken-requires
     no-line-requires
     returns
-    cast-if2
-    add-if2
+    lines-of-requires
     no-line-requires-2
     returns-2
     mul-row

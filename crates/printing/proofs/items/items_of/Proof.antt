@@ -13,7 +13,7 @@ abbrev μ-loop : tie.MeasureT-loop
 μ-loop g q c items₀ p₀ items p = c - p
 
 queue-of-requires : tie.Need-queue-of-requires Inv-loop μ-loop
-queue-of-requires c κs = omega arith
+queue-of-requires c κs = c .pre
 
 no-items-requires : tie.Need-no-items-requires Inv-loop μ-loop
 no-items-requires c κs = tt
@@ -24,7 +24,7 @@ loop-holds c = (omega arith, c .no-items .ensures ∙ laws.filled-none (c .befor
 element-copy-out-k : tie.Need-element-copy-out-k Inv-loop μ-loop
 element-copy-out-k c =
     let s = c .before .before .before .before in
-    omega (arith, laws.few (s .args .t1) (c .before .before .before .queue-of .result) (s .pre) (c .before .before .before .queue-of .ensures))
+    omega (arith, laws.few (s .args .t1) (c .before .before .before .queue-of .result) (s .pre .0) (c .before .before .before .queue-of .ensures))
 
 cast-k : tie.Need-cast-k Inv-loop μ-loop
 cast-k c = search needs
@@ -33,25 +33,25 @@ mul-v : tie.Need-mul-v Inv-loop μ-loop
 mul-v c =
     let s = c .before .before .before .before .before in
     let q = c .before .before .before .before .queue-of in
-    omega (arith, laws.within (s .args .t1) (q .result) (s .pre) (q .ensures) (c .before .before .loop .p) (omega arith))
+    omega (arith, laws.within (s .args .t1) (q .result) (s .pre .0) (q .ensures) (c .before .before .loop .p) (omega arith))
 
 element-copy-out-v : tie.Need-element-copy-out-v Inv-loop μ-loop
 element-copy-out-v c =
     let s = c .before .before .before .before .before in
     let q = c .before .before .before .before .queue-of in
-    laws.within (s .args .t1) (q .result) (s .pre) (q .ensures) (c .before .before .loop .p) (omega arith)
+    laws.within (s .args .t1) (q .result) (s .pre .0) (q .ensures) (c .before .before .loop .p) (omega arith)
 
 mul-items : tie.Need-mul-items Inv-loop μ-loop
 mul-items c =
     let s = c .before .before .before .before .before .before in
     let q = c .before .before .before .before .before .queue-of in
-    omega (arith, laws.few (s .args .t1) (q .result) (s .pre) (q .ensures))
+    omega (arith, laws.few (s .args .t1) (q .result) (s .pre .0) (q .ensures))
 
 array-write-items : tie.Need-array-write-items Inv-loop μ-loop
 array-write-items c =
     let s = c .before .before .before .before .before .before in
     let q = c .before .before .before .before .before .queue-of in
-    omega (arith, laws.few (s .args .t1) (q .result) (s .pre) (q .ensures))
+    omega (arith, laws.few (s .args .t1) (q .result) (s .pre .0) (q .ensures))
 
 add-p : tie.Need-add-p Inv-loop μ-loop
 add-p c = omega arith
@@ -64,7 +64,7 @@ loop-again c =
     let s = c .before .before .before .before .before .before in
     let q = c .before .before .before .before .before .queue-of in
     let p = c .before .before .before .loop in
-    (omega arith, rw (p .inv .1) (laws.filled-next (s .args .t1) (q .result .at) (p .p) (omega (arith, laws.few (s .args .t1) (q .result) (s .pre) (q .ensures)))))
+    (omega arith, rw (p .inv .1) (laws.filled-next (s .args .t1) (q .result .at) (p .p) (omega (arith, laws.few (s .args .t1) (q .result) (s .pre .0) (q .ensures)))))
 
 returns : tie.Need-returns Inv-loop μ-loop
 returns c =

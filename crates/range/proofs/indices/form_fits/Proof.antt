@@ -1,5 +1,6 @@
 use mathlib.Core.Path.{_≡_, refl, sym, ap, _∙_}
 use borrow.Author.Tests.{not-true, not-false}
+use Rattle.image.proofs.HeadLaws.{lines-few}
 use Rattle.range.proofs.Narrow as laws
 use borrow.Author.Needs.{needs}
 use Rattle.range.proofs.indices.form_fits.Statement.{statement}
@@ -12,7 +13,7 @@ returns : tie.Need-returns
 returns c = rw (laws.form-by _, ← c .before .is-known .ensures, not-true (c .before .is-known .result) (c .if1 .taken))
 
 heads-narrow-requires : tie.Need-heads-narrow-requires
-heads-narrow-requires c κs = search needs
+heads-narrow-requires c κs = lines-few _ (c .before .before .pre .1)
 
 returns-2 : tie.Need-returns-2
 returns-2 c = rw (laws.form-by _, ← c .before .before .before .is-known .ensures, not-false (c .before .before .before .is-known .result) (c .before .before .if1 .left), ← c .before .heads-narrow .ensures, not-true (c .before .heads-narrow .result) (c .if2 .taken))

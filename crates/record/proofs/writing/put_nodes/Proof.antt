@@ -11,14 +11,14 @@ use Rattle.record.proofs.writing.put_nodes.Statement.{statement}
 use Rattle.record.proofs.writing.put_nodes.Tie as tie
 
 abbrev Inv-loop : tie.InvT-loop
-Inv-loop b₀ m i₀ b i = (i ≤ 64) × (b ≡ over b₀ 34 (joined (nodePart m) i))
+Inv-loop b₀ m i₀ b i = (i ≤ 64) × (b ≡ over b₀ 146 (joined (nodePart m) i))
 
 abbrev μ-loop : tie.MeasureT-loop
 μ-loop b₀ m i₀ b i = 64 - i
 
 loop-holds : tie.Need-loop-holds Inv-loop μ-loop
 unfolding joined
-loop-holds c = (omega arith, laws.over-none (c .before .args .b .now) 34)
+loop-holds c = (omega arith, laws.over-none (c .before .args .b .now) 146)
 
 mul-node-bytes : tie.Need-mul-node-bytes Inv-loop μ-loop
 mul-node-bytes c = omega arith
@@ -48,7 +48,7 @@ copy-requires : tie.Need-copy-requires Inv-loop μ-loop
 copy-requires c κs =
     let p = c .before .before .before .before .before .before .loop in
     let a = c .before .before .before .before .before .before .before .before .args in
-    omega (arith, ap length (c .before .before .node-bytes .ensures), ap length (p .inv .1), tabs.length-over (a .b .now) 34 (joined (nodePart (a .t2)) (p .i)))
+    omega (arith, ap length (c .before .before .node-bytes .ensures), ap length (p .inv .1), tabs.length-over (a .b .now) 146 (joined (nodePart (a .t2)) (p .i)))
 
 add-i : tie.Need-add-i Inv-loop μ-loop
 add-i c = omega arith
@@ -61,12 +61,12 @@ unfolding nodePart
 loop-again c =
     let p = c .before .before .before .before .before .before .before .before .before .loop in
     let a = c .before .before .before .before .before .before .before .before .before .before .before .args in
-    (omega arith, rw (c .before .before .copy .ensures, c .before .before .before .before .before .node-bytes .ensures, p .inv .1) (laws.row-next (a .b .now) 34 28 (p .i) (nodePart (a .t2)) (laws.node-length (a .t2))))
+    (omega arith, rw (c .before .before .copy .ensures, c .before .before .before .before .before .node-bytes .ensures, p .inv .1) (laws.row-next (a .b .now) 146 28 (p .i) (nodePart (a .t2)) (laws.node-length (a .t2))))
 
 same-length : tie.Need-same-length Inv-loop μ-loop
 same-length c =
     let p = c .before .loop in
-    ap length (p .inv .1) ∙ tabs.length-over (c .before .before .before .args .b .now) 34 (joined (nodePart (c .before .before .before .args .t2)) (p .i))
+    ap length (p .inv .1) ∙ tabs.length-over (c .before .before .before .args .b .now) 146 (joined (nodePart (c .before .before .before .args .t2)) (p .i))
 
 returns : tie.Need-returns Inv-loop μ-loop
 returns c =

@@ -14,6 +14,12 @@ slice-aggregate-copy c = search needs
 copy-requires : tie.Need-copy-requires
 copy-requires c κs = search needs
 
+put-longs-requires : tie.Need-put-longs-requires
+put-longs-requires c κs = search needs
+
+put-longs-requires-2 : tie.Need-put-longs-requires-2
+put-longs-requires-2 c κs = search needs
+
 put-nodes-requires : tie.Need-put-nodes-requires
 put-nodes-requires c κs = search needs
 
@@ -27,16 +33,20 @@ same-length : tie.Need-same-length
 same-length c =
     let t = c .before .before in
     let n = t .before .before .before .before in
-    let h = n .before .before .before .before in
-    simp length-set (t .put-threads .kept .0 ∙ (n .put-nodes .kept .0 ∙ h .copy .kept .0))
+    let y = n .before .before .before .before in
+    let x = y .before .before .before .before in
+    let h = x .before .before .before .before in
+    simp length-set (t .put-threads .kept .0 ∙ (n .put-nodes .kept .0 ∙ (y .put-longs2 .kept .0 ∙ (x .put-longs .kept .0 ∙ h .copy .kept .0))))
 
 returns : tie.Need-returns
 returns c =
     let t = c .before .before in
     let n = t .before .before .before .before in
-    let h = n .before .before .before .before in
-    let a = h .before .before .before .before .before .args in
-    rw (t .put-threads .ensures, n .put-nodes .ensures, h .copy .ensures, h .before .before .before .head-bytes .ensures) (laws.record-over (a .m) (a .b .now))
+    let y = n .before .before .before .before in
+    let x = y .before .before .before .before in
+    let h = x .before .before .before .before in
+    let a = h .before .before .before .before .before .before .before .args in
+    rw (t .put-threads .ensures, n .put-nodes .ensures, y .put-longs2 .ensures, x .put-longs .ensures, h .copy .ensures, h .before .before .before .head-bytes .ensures) (laws.record-over (a .m) (a .b .now))
 
 pub put-record-spec : {M : Type 1} → statement M
 put-record-spec =
@@ -45,6 +55,8 @@ put-record-spec =
     head-bytes-requires
     slice-aggregate-copy
     copy-requires
+    put-longs-requires
+    put-longs-requires-2
     put-nodes-requires
     put-threads-requires
     slice-write-b

@@ -11,14 +11,14 @@ use Rattle.record.proofs.writing.put_threads.Statement.{statement}
 use Rattle.record.proofs.writing.put_threads.Tie as tie
 
 abbrev Inv-loop : tie.InvT-loop
-Inv-loop b₀ m i₀ b i = (i ≤ 8) × (b ≡ over b₀ 1826 (joined (threadPart m) i))
+Inv-loop b₀ m i₀ b i = (i ≤ 8) × (b ≡ over b₀ 1938 (joined (threadPart m) i))
 
 abbrev μ-loop : tie.MeasureT-loop
 μ-loop b₀ m i₀ b i = 8 - i
 
 loop-holds : tie.Need-loop-holds Inv-loop μ-loop
 unfolding joined
-loop-holds c = (omega arith, laws.over-none (c .before .args .b .now) 1826)
+loop-holds c = (omega arith, laws.over-none (c .before .args .b .now) 1938)
 
 mul-thread-bytes : tie.Need-mul-thread-bytes Inv-loop μ-loop
 mul-thread-bytes c = omega arith
@@ -42,7 +42,7 @@ copy-requires : tie.Need-copy-requires Inv-loop μ-loop
 copy-requires c κs =
     let p = c .before .before .before .before .before .loop in
     let a = c .before .before .before .before .before .before .before .args in
-    omega (arith, ap length (c .before .before .thread-bytes .ensures), ap length (p .inv .1), tabs.length-over (a .b .now) 1826 (joined (threadPart (a .t2)) (p .i)))
+    omega (arith, ap length (c .before .before .thread-bytes .ensures), ap length (p .inv .1), tabs.length-over (a .b .now) 1938 (joined (threadPart (a .t2)) (p .i)))
 
 add-i : tie.Need-add-i Inv-loop μ-loop
 add-i c = omega arith
@@ -55,12 +55,12 @@ unfolding threadPart
 loop-again c =
     let p = c .before .before .before .before .before .before .before .before .loop in
     let a = c .before .before .before .before .before .before .before .before .before .before .args in
-    (omega arith, rw (c .before .before .copy .ensures, c .before .before .before .before .before .thread-bytes .ensures, p .inv .1) (laws.row-next (a .b .now) 1826 18 (p .i) (threadPart (a .t2)) (laws.thread-length (a .t2))))
+    (omega arith, rw (c .before .before .copy .ensures, c .before .before .before .before .before .thread-bytes .ensures, p .inv .1) (laws.row-next (a .b .now) 1938 18 (p .i) (threadPart (a .t2)) (laws.thread-length (a .t2))))
 
 same-length : tie.Need-same-length Inv-loop μ-loop
 same-length c =
     let p = c .before .loop in
-    ap length (p .inv .1) ∙ tabs.length-over (c .before .before .before .args .b .now) 1826 (joined (threadPart (c .before .before .before .args .t2)) (p .i))
+    ap length (p .inv .1) ∙ tabs.length-over (c .before .before .before .args .b .now) 1938 (joined (threadPart (c .before .before .before .args .t2)) (p .i))
 
 returns : tie.Need-returns Inv-loop μ-loop
 returns c =

@@ -2,28 +2,24 @@ use Prim.Native.Nat.{_-_, _<_}
 use mathlib.Core.Path.{_≡_}
 use native.Mathlib.Omega.{arith}
 use borrow.Author.Needs.{needs}
-use Rattle.image.specs.Layout.{formIn}
-use Rattle.schedule.specs.Layout.{imagePart, nodesIn, countIn}
+use Rattle.schedule.specs.Layout.{scheduleShape, countIn}
 use Rattle.replaying.proofs.ReplayLaws as laws
 use Rattle.replaying.proofs.running.replay_events.Statement.{statement}
 use Rattle.replaying.proofs.running.replay_events.Tie as tie
 
 abbrev Inv-loop : tie.InvT-loop
-Inv-loop s form n count m₀ known₀ i₀ m known i =
-    (form ≡ formIn (imagePart s)) × (n ≡ nodesIn s) × (count ≡ countIn s) × laws.Under s i m known
+Inv-loop s z count m₀ known₀ i₀ m known i =
+    (z ≡ scheduleShape s) × (count ≡ countIn s) × laws.Under s i m known
 
 abbrev μ-loop : tie.MeasureT-loop
-μ-loop s form n count m₀ known₀ i₀ m known i = count - i
-
-cast-n : tie.Need-cast-n Inv-loop μ-loop
-cast-n c = search needs
+μ-loop s z count m₀ known₀ i₀ m known i = count - i
 
 cast-count : tie.Need-cast-count Inv-loop μ-loop
 cast-count c = search needs
 
 start-requires : tie.Need-start-requires Inv-loop μ-loop
 start-requires c κs =
-    let z = c .before .before .before .before in
+    let z = c .before .before .before in
     laws.nodes-small (z .args .s .now) (z .args .d) (z .pre .1) (z .pre .0)
 
 nothing-odd-requires : tie.Need-nothing-odd-requires Inv-loop μ-loop
@@ -31,36 +27,36 @@ nothing-odd-requires c κs = search needs
 
 loop-holds : tie.Need-loop-holds Inv-loop μ-loop
 loop-holds c =
-    let z = c .before .before .before .before .before .before in
+    let z = c .before .before .before .before .before in
     let s = z .args .s .now in
     let d = z .args .d in
     let e = z .pre .1 in
-    (laws.form-is s d e, laws.nodes-is s d e, laws.count-is s d e, laws.under-begun s d e (c .before .start .result) (c .before .start .ensures) (c .nothing-odd .result) (c .nothing-odd .ensures))
+    (laws.shape-is s d e, laws.count-is s d e, laws.under-begun s d e (c .before .start .result) (c .before .start .ensures) (c .nothing-odd .result) (c .nothing-odd .ensures))
 
 probed-at-requires : tie.Need-probed-at-requires Inv-loop μ-loop
 probed-at-requires c κs =
     let p = c .before .loop in
-    let z = c .before .before .before .before .before .before .before .before in
-    laws.probe-fits (z .args .s .now) (z .pre .0) (p .i) (omega (arith, p .inv .2, c .loop-test .taken)) _ _ (p .inv .0) (p .inv .1)
+    let z = c .before .before .before .before .before .before .before in
+    laws.probe-fits (z .args .s .now) (z .pre .0) (p .i) (omega (arith, p .inv .1, c .loop-test .taken)) _ (p .inv .0)
 
 cast-act : tie.Need-cast-act Inv-loop μ-loop
 cast-act c =
     let q = c .before .before in
-    let z = q .before .before .before .before .before .before .before .before in
-    omega (arith, q .before .loop .inv .2, q .loop-test .taken, laws.probe-taken (z .args .s .now) (z .pre .0) .count)
+    let z = q .before .before .before .before .before .before .before in
+    omega (arith, q .before .loop .inv .1, q .loop-test .taken, laws.probe-taken (z .args .s .now) (z .pre .0) .count)
 
 act-requires : tie.Need-act-requires Inv-loop μ-loop
 act-requires c κs =
     let q = c .before .before in
     let p = q .before .loop in
-    let z = q .before .before .before .before .before .before .before .before in
-    laws.under-range (z .args .s .now) (z .pre .0) (λ j. omega (arith, q .before .before .before .before .before .before .before .shared-slice-known .given j)) (p .i) (p .m) (p .known) (p .inv .3)
+    let z = q .before .before .before .before .before .before .before in
+    laws.under-range (z .args .s .now) (z .pre .0) (λ j. omega (arith, q .before .before .before .before .before .before .shared-slice-known .given j)) (p .i) (p .m) (p .known) (p .inv .2)
 
 cast-answer-to : tie.Need-cast-answer-to Inv-loop μ-loop
 cast-answer-to c =
     let q = c .before .before .before in
-    let z = q .before .before .before .before .before .before .before .before in
-    omega (arith, q .before .loop .inv .2, q .loop-test .taken, laws.probe-taken (z .args .s .now) (z .pre .0) .count)
+    let z = q .before .before .before .before .before .before .before in
+    omega (arith, q .before .loop .inv .1, q .loop-test .taken, laws.probe-taken (z .args .s .now) (z .pre .0) .count)
 
 answer-to-requires : tie.Need-answer-to-requires Inv-loop μ-loop
 answer-to-requires c κs = search needs
@@ -75,22 +71,22 @@ returns : tie.Need-returns Inv-loop μ-loop
 returns c =
     let q = c .before .before .before .before .before .before .before in
     let p = q .before .loop in
-    let z = q .before .before .before .before .before .before .before .before in
+    let z = q .before .before .before .before .before .before .before in
     let s = z .args .s .now in
     let x = c .before .before .before .before .before .before .probed-at in
     let o = c .before .before .before .before .act in
     let b = c .before .before .before .answer-to in
     let t = c .before .before .is-taken in
-    let h = (let l : p .i < countIn s = omega (arith, p .inv .2, q .loop-test .taken) in l) in
-    let u = p .inv .3 in
-    let xe = laws.probed-is s (p .i) _ _ (p .inv .0) (p .inv .1) (x .result) (x .ensures) in
+    let h = (let l : p .i < countIn s = omega (arith, p .inv .1, q .loop-test .taken) in l) in
+    let u = p .inv .2 in
+    let xe = laws.probed-is s (p .i) _ (p .inv .0) (x .result) (x .ensures) in
     laws.under-stop s (p .i) (p .m) (p .known) u h (x .result) xe (o .result) (o .ensures) (b .result) (b .ensures) (t .result) (t .ensures) (z .pre .0) (c .before .if1 .taken) (c .nothing-odd2 .result) (c .nothing-odd2 .ensures)
 
 cast-note : tie.Need-cast-note Inv-loop μ-loop
 cast-note c =
     let q = c .before .before .before .before .before .before in
-    let z = q .before .before .before .before .before .before .before .before in
-    omega (arith, q .before .loop .inv .2, q .loop-test .taken, laws.probe-taken (z .args .s .now) (z .pre .0) .count)
+    let z = q .before .before .before .before .before .before .before in
+    omega (arith, q .before .loop .inv .1, q .loop-test .taken, laws.probe-taken (z .args .s .now) (z .pre .0) .count)
 
 note-requires : tie.Need-note-requires Inv-loop μ-loop
 note-requires c κs = search needs
@@ -98,8 +94,8 @@ note-requires c κs = search needs
 add-i : tie.Need-add-i Inv-loop μ-loop
 add-i c =
     let q = c .before .before .before .before .before .before .before .before in
-    let z = q .before .before .before .before .before .before .before .before in
-    omega (arith, q .before .loop .inv .2, q .loop-test .taken, laws.probe-taken (z .args .s .now) (z .pre .0) .count)
+    let z = q .before .before .before .before .before .before .before in
+    omega (arith, q .before .loop .inv .1, q .loop-test .taken, laws.probe-taken (z .args .s .now) (z .pre .0) .count)
 
 loop-less : tie.Need-loop-less Inv-loop μ-loop
 loop-less c = omega arith
@@ -108,22 +104,22 @@ loop-again : tie.Need-loop-again Inv-loop μ-loop
 loop-again c =
     let q = c .before .before .before .before .before .before .before .before in
     let p = q .before .loop in
-    let z = q .before .before .before .before .before .before .before .before in
+    let z = q .before .before .before .before .before .before .before in
     let s = z .args .s .now in
     let x = c .before .before .before .before .before .before .before .probed-at in
     let o = c .before .before .before .before .before .act in
     let b = c .before .before .before .before .answer-to in
     let t = c .before .before .before .is-taken in
-    let h = (let l : p .i < countIn s = omega (arith, p .inv .2, q .loop-test .taken) in l) in
-    let u = p .inv .3 in
-    let xe = laws.probed-is s (p .i) _ _ (p .inv .0) (p .inv .1) (x .result) (x .ensures) in
-    (p .inv .0, p .inv .1, p .inv .2, laws.under-next s (p .i) (p .m) (p .known) u h (x .result) xe (o .result) (o .ensures) (b .result) (b .ensures) (t .result) (t .ensures) (c .before .before .if1 .left) (c .before .note .result) (c .before .note .ensures))
+    let h = (let l : p .i < countIn s = omega (arith, p .inv .1, q .loop-test .taken) in l) in
+    let u = p .inv .2 in
+    let xe = laws.probed-is s (p .i) _ (p .inv .0) (x .result) (x .ensures) in
+    (p .inv .0, p .inv .1, laws.under-next s (p .i) (p .m) (p .known) u h (x .result) xe (o .result) (o .ensures) (b .result) (b .ensures) (t .result) (t .ensures) (c .before .before .if1 .left) (c .before .note .result) (c .before .note .ensures))
 
 returns-2 : tie.Need-returns-2 Inv-loop μ-loop
 returns-2 c =
     let p = c .before .loop in
-    let z = c .before .before .before .before .before .before .before .before in
-    laws.under-end (z .args .s .now) (z .pre .0) (p .i) (p .m) (p .known) (p .inv .3) (omega (arith, p .inv .2, c .loop-test .left))
+    let z = c .before .before .before .before .before .before .before in
+    laws.under-end (z .args .s .now) (z .pre .0) (p .i) (p .m) (p .known) (p .inv .2) (omega (arith, p .inv .1, c .loop-test .left))
 
 pub replay-events-spec : {M : Type 1} → statement M
 replay-events-spec =
@@ -131,7 +127,6 @@ replay-events-spec =
     (tie.spec
     Inv-loop
     μ-loop
-    cast-n
     cast-count
     start-requires
     nothing-odd-requires

@@ -11,10 +11,10 @@ use Rattle.runs.proofs.rows.rows_of.Lts as lts
 use Rattle.runs.proofs.rows.no_rows.Reads as no-rows-reads
 
 abbrev Inv-loop : tie.InvT-loop
-Inv-loop t counts rows₀ i₀ rows i = (i ≤ 65) × (rows ≡ rowsOf t counts i)
+Inv-loop t counts rows₀ i₀ rows i = (i ≤ 72) × (rows ≡ rowsOf t counts i)
 
 abbrev μ-loop : tie.MeasureT-loop
-μ-loop t counts rows₀ i₀ rows i = 65 - i
+μ-loop t counts rows₀ i₀ rows i = 72 - i
 
 no-rows-requires : tie.Need-no-rows-requires Inv-loop μ-loop
 no-rows-requires c κs = omega arith
@@ -52,7 +52,7 @@ loop-again c =
 returns : tie.Need-returns Inv-loop μ-loop
 returns c =
     let p = c .before .loop in
-    let e : p .i ≡ 65 = omega arith in
+    let e : p .i ≡ 72 = omega arith in
     p .inv .1 ∙ rw e
 
 pub rows-of-spec : {M : Type 1} → statement M

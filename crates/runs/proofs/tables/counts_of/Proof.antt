@@ -12,10 +12,10 @@ use Rattle.runs.proofs.tables.counts_of.Lts as lts
 use Rattle.endtable.proofs.opened.blank_counts.Reads as blank-counts-reads
 
 abbrev Inv-loop : tie.InvT-loop
-Inv-loop rows counts₀ i₀ counts i = (i ≤ 65) × (counts ≡ countsTo rows i)
+Inv-loop rows counts₀ i₀ counts i = (i ≤ 72) × (counts ≡ countsTo rows i)
 
 abbrev μ-loop : tie.MeasureT-loop
-μ-loop rows counts₀ i₀ counts i = 65 - i
+μ-loop rows counts₀ i₀ counts i = 72 - i
 
 blank-counts-requires : tie.Need-blank-counts-requires Inv-loop μ-loop
 blank-counts-requires c κs = omega arith
@@ -47,8 +47,8 @@ returns : tie.Need-returns Inv-loop μ-loop
 returns c =
     let p = c .before .loop in
     let a = c .before .before .before .args in
-    let e : p .i ≡ 65 = omega arith in
-    let n : length (a .t1) ≡ 65 = search needs in
+    let e : p .i ≡ 72 = omega arith in
+    let n : length (a .t1) ≡ 72 = search needs in
     p .inv .1 ∙ rw e (laws.counts-all (a .t1) n)
 
 pub counts-of-spec : {M : Type 1} → statement M

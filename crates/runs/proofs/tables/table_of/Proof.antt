@@ -12,10 +12,10 @@ use Rattle.runs.proofs.tables.table_of.Lts as lts
 use Rattle.endtable.proofs.opened.blank_table.Reads as blank-table-reads
 
 abbrev Inv-loop : tie.InvT-loop
-Inv-loop rows t₀ i₀ t i = (i ≤ 65) × (t ≡ atsTo rows i)
+Inv-loop rows t₀ i₀ t i = (i ≤ 72) × (t ≡ atsTo rows i)
 
 abbrev μ-loop : tie.MeasureT-loop
-μ-loop rows t₀ i₀ t i = 65 - i
+μ-loop rows t₀ i₀ t i = 72 - i
 
 blank-table-requires : tie.Need-blank-table-requires Inv-loop μ-loop
 blank-table-requires c κs = omega arith
@@ -50,8 +50,8 @@ returns : tie.Need-returns Inv-loop μ-loop
 returns c =
     let p = c .before .loop in
     let a = c .before .before .before .args in
-    let e : p .i ≡ 65 = omega arith in
-    let n : length (a .t1) ≡ 65 = search needs in
+    let e : p .i ≡ 72 = omega arith in
+    let n : length (a .t1) ≡ 72 = search needs in
     p .inv .1 ∙ rw e (laws.ats-all (a .t1) n)
 
 pub table-of-spec : {M : Type 1} → statement M

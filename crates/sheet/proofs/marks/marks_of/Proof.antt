@@ -10,7 +10,7 @@ use Rattle.sheet.proofs.marks.marks_of.Statement.{statement}
 use Rattle.sheet.proofs.marks.marks_of.Tie as tie
 
 abbrev Inv-loop : tie.InvT-loop
-Inv-loop n t counts ranks₀ items₀ last e₀ ranks items e = (e ≤ last) × (ranks ≡ marksOf t counts n e) × (items ≡ itemsIn t e)
+Inv-loop n t counts ranks₀ items₀ last e₀ ranks items e = (e ≤ last) × (ranks ≡ marksOf t counts e) × (items ≡ itemsIn t e)
 
 abbrev μ-loop : tie.MeasureT-loop
 μ-loop n t counts ranks₀ items₀ last e₀ ranks items e = last - e
@@ -30,7 +30,7 @@ mul-last c = omega arith
 loop-holds : tie.Need-loop-holds Inv-loop μ-loop
 loop-holds c =
     let a = c .before .before .args in
-    (omega arith, c .before .no-ranks .ensures ∙ laws.marks-none (a .t1) (a .t2) (a .n), c .no-items .ensures ∙ laws.items-none (a .t1))
+    (omega arith, c .before .no-ranks .ensures ∙ laws.marks-none (a .t1) (a .t2), c .no-items .ensures ∙ laws.items-none (a .t1))
 
 mul-v : tie.Need-mul-v Inv-loop μ-loop
 mul-v c = omega arith
@@ -73,7 +73,7 @@ loop-again c =
     let a = c .before .before .before .before .before .before .args in
     let p = c .before .before .before .loop in (
       omega arith,
-      ap₂ (λ (l : List ℕ) (x : ℕ). set l (p .e) x) (p .inv .1) (c .mark-of .ensures) ∙ laws.marks-next (a .t1) (a .t2) (a .n) (p .e) (omega arith),
+      ap₂ (λ (l : List ℕ) (x : ℕ). set l (p .e) x) (p .inv .1) (c .mark-of .ensures) ∙ laws.marks-next (a .t1) (a .t2) (p .e) (omega arith),
       ap (λ (l : List ℕ). set l (p .e) (contentAt (getD (a .t1) (p .e / 16) []) (p .e % 16) .item)) (p .inv .2) ∙ laws.items-next (a .t1) (p .e) (omega arith),
     )
 
@@ -82,7 +82,7 @@ returns c =
     let a = c .before .before .before .before .args in
     let p = c .before .loop in
     let e : p .e ≡ slotCount (a .n) = omega (arith, laws.slots-are (a .n)) in
-    ap₂ (λ (r i : List ℕ). record { ranks = r; items = i }) (p .inv .1 ∙ ap (marksOf (a .t1) (a .t2) (a .n)) e) (p .inv .2 ∙ ap (itemsIn (a .t1)) e)
+    ap₂ (λ (r i : List ℕ). record { ranks = r; items = i }) (p .inv .1 ∙ ap (marksOf (a .t1) (a .t2)) e) (p .inv .2 ∙ ap (itemsIn (a .t1)) e)
 
 pub marks-of-spec : {M : Type 1} → statement M
 marks-of-spec =

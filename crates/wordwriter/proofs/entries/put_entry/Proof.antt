@@ -3,7 +3,7 @@ use native.Mathlib.Omega.{arith}
 use mathlib.Core.Path.{_≡_, refl, sym, ap, ap₂, _∙_}
 use Prim.Native.Nat.{_-_}
 use Rattle.image.specs.Layout.{contentAt, headIn}
-use Rattle.schedule.specs.Layout.{eventPlace, countIn, nodesIn}
+use Rattle.image.specs.Form.{known}
 use borrow.Author.Needs.{needs}
 use Rattle.wordwriter.proofs.entries.put_entry.Statement.{statement}
 use Rattle.wordwriter.proofs.entries.put_entry.Tie as tie
@@ -33,7 +33,7 @@ same-length-3 : tie.Need-same-length-3
 same-length-3 c = search needs
 
 returns-3 : tie.Need-returns-3
-returns-3 c = rw (entries.entry-head (c .before .before .before .before .before .before .before .before .before .before .args .s .now) (c .before .before .before .before .before .before .before .before .before .before .args .k) (c .before .before .before .before .before .before .before .before .before .before .args .d .image .form) (headIn (c .before .before .before .before .before .before .before .before .before .before .args .d .image) 0) (entries.form-is (c .before .before .before .before .before .before .before .before .before .before .args .s .now) (c .before .before .before .before .before .before .before .before .before .before .args .d) (c .before .before .before .before .before .before .before .before .before .before .pre .1)) (entries.head-is (c .before .before .before .before .before .before .before .before .before .before .args .s .now) (c .before .before .before .before .before .before .before .before .before .before .args .d) (c .before .before .before .before .before .before .before .before .before .before .pre .1)) (c .before .before .before .before .if3 .taken)) (c .before .before .put-heads .ensures)
+returns-3 c = rw (entries.entry-head (c .before .before .before .before .before .before .before .before .before .before .args .s .now) (c .before .before .before .before .before .before .before .before .before .before .args .k) (c .before .before .before .before .before .before .before .before .before .before .args .d .image .form) (headIn (c .before .before .before .before .before .before .before .before .before .before .args .d .image) 0) (entries.form-is (c .before .before .before .before .before .before .before .before .before .before .args .s .now) (c .before .before .before .before .before .before .before .before .before .before .args .d) (c .before .before .before .before .before .before .before .before .before .before .pre .1)) (entries.head-is (c .before .before .before .before .before .before .before .before .before .before .args .s .now) (c .before .before .before .before .before .before .before .before .before .before .args .d) (c .before .before .before .before .before .before .before .before .before .before .pre .1) (c .before .before .before .before .before .before .before .before .before .before .pre .4)) (c .before .before .before .before .if3 .taken)) (c .before .before .put-heads .ensures)
 
 cast-m : tie.Need-cast-m
 cast-m c = search needs
@@ -57,7 +57,7 @@ same-length-4 : tie.Need-same-length-4
 same-length-4 c = search needs
 
 returns-4 : tie.Need-returns-4
-returns-4 c = let n = entries.nodes-is (c .before .before .before .before .before .before .before .before .before .before .before .before .args .s .now) (c .before .before .before .before .before .before .before .before .before .before .before .before .args .d) (c .before .before .before .before .before .before .before .before .before .before .before .before .pre .1) in rw (entries.entry-node (c .before .before .before .before .before .before .before .before .before .before .before .before .args .s .now) (c .before .before .before .before .before .before .before .before .before .before .before .before .args .k) (contentAt (c .before .before .before .before .before .before .before .before .before .before .before .before .args .d .image .nodes) (c .before .before .before .before .before .before .before .before .before .before .before .before .args .k - 3)) (entries.node-is (c .before .before .before .before .before .before .before .before .before .before .before .before .args .s .now) (c .before .before .before .before .before .before .before .before .before .before .before .before .args .d) (c .before .before .before .before .before .before .before .before .before .before .before .before .pre .1) (c .before .before .before .before .before .before .before .before .before .before .before .before .args .k - 3) (omega (arith, n))) (c .before .before .before .before .before .before .before .before .if1 .left) (c .before .before .before .before .before .before .before .if2 .left) (c .before .before .before .before .before .before .if3 .left) (omega (arith, n))) (c .before .before .put-node-entry .ensures)
+returns-4 c = let n = entries.nodes-is (c .before .before .before .before .before .before .before .before .before .before .before .before .args .s .now) (c .before .before .before .before .before .before .before .before .before .before .before .before .args .d) (c .before .before .before .before .before .before .before .before .before .before .before .before .pre .1) in rw (entries.entry-node (c .before .before .before .before .before .before .before .before .before .before .before .before .args .s .now) (c .before .before .before .before .before .before .before .before .before .before .before .before .args .k) (contentAt (c .before .before .before .before .before .before .before .before .before .before .before .before .args .d .image .nodes) (c .before .before .before .before .before .before .before .before .before .before .before .before .args .k - 3)) (entries.node-is (c .before .before .before .before .before .before .before .before .before .before .before .before .args .s .now) (c .before .before .before .before .before .before .before .before .before .before .before .before .args .d) (c .before .before .before .before .before .before .before .before .before .before .before .before .pre .1) (c .before .before .before .before .before .before .before .before .before .before .before .before .pre .4) (c .before .before .before .before .before .before .before .before .before .before .before .before .args .k - 3) (omega (arith, n))) (c .before .before .before .before .before .before .before .before .if1 .left) (c .before .before .before .before .before .before .before .if2 .left) (c .before .before .before .before .before .before .if3 .left) (omega (arith, n))) (c .before .before .put-node-entry .ensures)
 
 cast-put-event-entry : tie.Need-cast-put-event-entry
 cast-put-event-entry c = search needs
@@ -69,7 +69,13 @@ sub-put-event-entry-2 : tie.Need-sub-put-event-entry-2
 sub-put-event-entry-2 c = search needs
 
 put-event-entry-requires : tie.Need-put-event-entry-requires
-put-event-entry-requires c κs = let n = entries.nodes-is (c .before .before .before .before .before .before .before .before .before .args .s .now) (c .before .before .before .before .before .before .before .before .before .args .d) (c .before .before .before .before .before .before .before .before .before .pre .1) in let q = entries.count-is (c .before .before .before .before .before .before .before .before .before .args .s .now) (c .before .before .before .before .before .before .before .before .before .args .d) (c .before .before .before .before .before .before .before .before .before .pre .1) in let f = entries.form-is (c .before .before .before .before .before .before .before .before .before .args .s .now) (c .before .before .before .before .before .before .before .before .before .args .d) (c .before .before .before .before .before .before .before .before .before .pre .1) in (f, n, q, rw f (entries.form (c .before .before .before .before .before .before .before .before .before .args .s .now) (c .before .before .before .before .before .before .before .before .before .pre .0)), omega (arith, n, entries.few (c .before .before .before .before .before .before .before .before .before .args .s .now) (c .before .before .before .before .before .before .before .before .before .pre .0)), omega (arith, q, entries.short (c .before .before .before .before .before .before .before .before .before .args .s .now) (c .before .before .before .before .before .before .before .before .before .pre .0)), omega (arith, n, q, c .before .before .before .before .before .before .before .before .before .pre .2), rw (f, n, q) (entries.events-fit (c .before .before .before .before .before .before .before .before .before .args .s .now) (c .before .before .before .before .before .before .before .before .before .pre .0)), omega arith)
+put-event-entry-requires c κs = let a = c .before .before .before .before .before .before .before .before .before .args in
+    let p = c .before .before .before .before .before .before .before .before .before .pre in
+    let z = entries.shape-is (a .s .now) (a .d) (p .1) in
+    let n = entries.nodes-is (a .s .now) (a .d) (p .1) in
+    let q = entries.count-is (a .s .now) (a .d) (p .1) in
+    let f = entries.form-is (a .s .now) (a .d) (p .1) in
+    (z, q, ap known f ∙ entries.form (a .s .now) (p .0), omega (arith, q, entries.short (a .s .now) (p .0)), omega (arith, n, q, p .2), rw (z, q) (entries.events-fit (a .s .now) (p .0)), omega (arith, p .3))
 
 same-length-5 : tie.Need-same-length-5
 same-length-5 c = search needs

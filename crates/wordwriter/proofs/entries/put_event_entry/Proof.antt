@@ -7,17 +7,17 @@ use Rattle.wordwriter.proofs.entries.put_event_entry.Statement.{stateme
 use Rattle.wordwriter.proofs.entries.put_event_entry.Tie as tie
 
 is-following-requires : tie.Need-is-following-requires
-is-following-requires c κs = (c .before .before .pre .0, c .before .before .pre .1, c .before .before .pre .3, omega (arith, c .before .before .pre .4), omega (arith, c .before .before .pre .5, c .before .before .pre .6), omega (arith, c .before .before .pre .6, c .before .before .pre .7))
+is-following-requires c κs = let p = c .before .before .pre in (p .0, p .2, omega (arith, p .4, p .5))
 
 returns : tie.Need-returns
 unfolding over
 returns c = rw (entries.entry-follows (c .before .before .before .before .args .s .now) (c .before .before .before .before .args .j) (sym (c .before .is-following .ensures) ∙ c .if1 .taken)) ((refl, refl), omega arith)
 
 event-at-requires : tie.Need-event-at-requires
-event-at-requires c κs = (c .before .before .before .before .pre .3, (omega (arith, c .before .before .before .before .pre .4), omega (arith, c .before .before .before .before .pre .6, c .before .before .before .before .pre .7)))
+event-at-requires c κs = let p = c .before .before .before .before .pre in (p .2, omega (arith, p .4, p .5))
 
 run-end-requires : tie.Need-run-end-requires
-run-end-requires c κs = (c .before .before .before .before .before .pre .0, c .before .before .before .before .before .pre .1, c .before .before .before .before .before .pre .2, c .before .before .before .before .before .pre .3, c .before .before .before .before .before .pre .4, c .before .before .before .before .before .pre .5, c .before .before .before .before .before .pre .6, c .before .before .before .before .before .pre .7)
+run-end-requires c κs = let p = c .before .before .before .before .before .pre in (p .0, p .1, p .2, p .3, p .4, p .5)
 
 sub-put-event : tie.Need-sub-put-event
 sub-put-event c = search needs
@@ -32,7 +32,7 @@ same-length : tie.Need-same-length
 same-length c = search needs
 
 returns-2 : tie.Need-returns-2
-returns-2 c = let a = c .before .before .before .before .before .before .before .before .before .before .args in let x = c .before .before .before .before .before .event-at .ensures ∙ entries.event-is (c .before .before .before .before .before .before .before .before .before .before .args .s .now) (c .before .before .before .before .before .before .before .before .before .before .args .form) (c .before .before .before .before .before .before .before .before .before .before .args .n) (c .before .before .before .before .before .before .before .before .before .before .args .j) (c .before .before .before .before .before .before .before .before .before .before .pre .0) (c .before .before .before .before .before .before .before .before .before .before .pre .1) in rw (entries.entry-leads (a .s .now) (a .j) (c .before .before .before .before .before .event-at .result) (c .before .before .before .before .run-end .result) x (c .before .before .before .before .run-end .ensures .0) (sym (c .before .before .before .before .before .before .before .is-following .ensures) ∙ c .before .before .before .before .before .before .if1 .left)) (c .before .before .put-event .ensures)
+returns-2 c = let a = c .before .before .before .before .before .before .before .before .before .before .args in let x = c .before .before .before .before .before .event-at .ensures ∙ entries.event-is (c .before .before .before .before .before .before .before .before .before .before .args .s .now) (c .before .before .before .before .before .before .before .before .before .before .args .z) (c .before .before .before .before .before .before .before .before .before .before .args .j) (c .before .before .before .before .before .before .before .before .before .before .pre .0) in rw (entries.entry-leads (a .s .now) (a .j) (c .before .before .before .before .before .event-at .result) (c .before .before .before .before .run-end .result) x (c .before .before .before .before .run-end .ensures .0) (sym (c .before .before .before .before .before .before .before .is-following .ensures) ∙ c .before .before .before .before .before .before .if1 .left)) (c .before .before .put-event .ensures)
 
 pub put-event-entry-spec : {M : Type 1} → statement M
 put-event-entry-spec = tie.close (tie.spec is-following-requires returns event-at-requires run-end-requires sub-put-event cast-put-event put-event-requires same-length returns-2)

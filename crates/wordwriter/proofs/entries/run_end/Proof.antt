@@ -8,19 +8,19 @@ use Rattle.wordwriter.proofs.entries.run_end.Statement.{statement}
 use Rattle.wordwriter.proofs.entries.run_end.Tie as tie
 
 abbrev Inv-loop : tie.InvT-loop
-Inv-loop s form n count j i₀ i = (j < i) × (i ≤ count) × (runEnd s j ≡ entries.ends s count i)
+Inv-loop s z count j i₀ i = (j < i) × (i ≤ count) × (runEnd s j ≡ entries.ends s count i)
 
 abbrev μ-loop : tie.MeasureT-loop
-μ-loop s form n count j i₀ i = count - i
+μ-loop s z count j i₀ i = count - i
 
 add-i : tie.Need-add-i Inv-loop μ-loop
 add-i c = omega arith
 
 loop-holds : tie.Need-loop-holds Inv-loop μ-loop
-loop-holds c = let a = c .before .args in (omega arith, omega arith, entries.ends-first (a .s .now) (a .j) ∙ ap (λ n. entries.ends (a .s .now) n (a .j + 1)) (sym (c .before .pre .2)))
+loop-holds c = let a = c .before .args in (omega arith, omega arith, entries.ends-first (a .s .now) (a .j) ∙ ap (λ n. entries.ends (a .s .now) n (a .j + 1)) (sym (c .before .pre .1)))
 
 is-following-requires : tie.Need-is-following-requires Inv-loop μ-loop
-is-following-requires c κs = (c .before .before .before .pre .0, c .before .before .before .pre .1, c .before .before .before .pre .3, omega arith, omega arith, omega (arith, c .before .before .before .pre .7))
+is-following-requires c κs = let p = c .before .before .before .pre in (p .0, p .2, omega (arith, p .5))
 
 returns : tie.Need-returns Inv-loop μ-loop
 returns c = let p = c .before .before .before .loop in (sym (p .inv .2 ∙ entries.ends-here (c .before .before .before .before .before .args .s .now) (c .before .before .before .before .before .args .count) (p .i) (omega arith) (sym (c .before .is-following .ensures) ∙ not-true _ (c .if1 .taken))), (omega arith, omega arith))
