@@ -12,7 +12,7 @@ use Rattle.machine.specs.Start.{startOf, startAnswer, blankMachine}
 use Rattle.machine.specs.Event as machine
 use Rattle.machine.specs.Event.{Deed, unknown, enqueues, dequeues, steps, writesBack, crashes, deedOf, eventAnswer}
 use Rattle.machine.specs.Record.{thread}
-use Rattle.machine.specs.Stage.{stage, Stage, noStep, A1, A2, A3, A4, A5, A6, A7, A8, A9, A10, A11, A12, D1, D2, D3, D4, D5, D6, D7, S3, S6}
+use Rattle.machine.specs.Stage.{stage, Stage, noStep, A1, A2, A3, A4, A5, A6, A7, A8, A9, A10, A11, A12, D1, D2, D3, D4, D5, D6, D7, S3, S6, F10, F3, F6}
 use Rattle.machine.specs.declared.Thread.{Thread}
 use Rattle.machine.specs.declared.Machine.{Machine}
 use Rattle.machine.specs.declared.Event.{Event}
@@ -71,6 +71,9 @@ acts-of D6 v i b = b
 acts-of D7 v i b = b
 acts-of S3 v i b = b
 acts-of S6 v i b = b
+acts-of F10 v i b = b
+acts-of F3 v i b = b
+acts-of F6 v i b = b
 
 -- ---- one event
 

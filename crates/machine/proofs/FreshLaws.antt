@@ -3,10 +3,8 @@ use Prim.Native.Nat.{ℕ, zero, suc, _≤_, _<_}
 use mathlib.Core.Path.{_≡_, ap, _∙_}
 use mathlib.Core.Bool.{true, false}
 use native.Mathlib.Omega.{arith}
-use native.Mathlib.Decide.{decLt}
 use borrow.Author.Tests.{le-leb, le-ltb, ne-eqb}
 use lib.Dec.{ltb}
-use lib.ListN.{getD, replicate, List·getD-eq-default, getD-replicate, length-replicate}
 use Rattle.lists.specs.Find.{least}
 use Rattle.lists.proofs.FindLaws as find
 use Rattle.answer.specs.Answers.{accepted}
@@ -21,15 +19,12 @@ use Rattle.image.proofs.SoundLaws.{Fitting, is-fitting}
 use Rattle.machine.specs.Start.{zeroImage, freshOf, startAnswer, freshFrom}
 use Rattle.machine.specs.Range.{inRange}
 use Rattle.machine.proofs.AnswerLaws.{start-taken}
+use Rattle.machine.proofs.FlushLaws.{same-at}
 use Rattle.machine.proofs.RangeLaws.{start-in-range}
 
 zero-at : (i : ℕ) → contentAt noContents i ≡ noContent
 unfolding noContents
-zero-at i = by (decLt i 64)
-  where
-    by : Dec (i < 64) → getD (replicate 64 noContent) i noContent ≡ noContent
-    by (yes h) = getD-replicate 64 i noContent noContent h
-    by (no h) = List·getD-eq-default (replicate 64 noContent) noContent {n = i} (omega (arith, length-replicate 64 noContent))
+zero-at i = same-at 64 noContent i
 
 module _ (n : ℕ) where
   zero-unrecovered : (i : ℕ) → recoveredAt (zeroImage n) i ≡ false

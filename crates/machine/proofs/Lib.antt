@@ -10,4 +10,5 @@ pub mod StartLaws
 pub mod RangeLaws
 pub mod FreshLaws
 pub mod LineLaws
+pub mod FlushLaws
 pub mod StageLaws

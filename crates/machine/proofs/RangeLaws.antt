@@ -17,10 +17,10 @@ use Rattle.image.specs.Form.{known, topOf, headLines}
 use Rattle.image.specs.Layout.{contentAt, imageShape, headIn}
 use Rattle.image.specs.Recovered.{headOf, dummyOf}
 use Rattle.image.proofs.HeadLaws.{heads-at, head-within}
-use Rattle.machine.specs.Record.{none, node, kept, thread}
-use Rattle.machine.specs.Line.{shapeOf}
-use Rattle.machine.specs.Stage.{lastStep}
-use Rattle.machine.specs.Range.{isLink, sizesFit, endsFit, freeFits, nodeFits, threadFits, rangesFit, isIndex, headFits, indexFits, formFits, inRange}
+use Rattle.machine.specs.Record.{none, node, kept, thread, overHead, overNode}
+use Rattle.machine.specs.Line.{Line, shapeOf, overAt}
+use Rattle.machine.specs.declared.Line.the-variants.{OfHead as ofHead, OfNode as ofNode}
+use Rattle.machine.specs.Range.{isLink, sizesFit, endsFit, freeFits, nodeFits, threadFits, rangesFit, isIndex, headFits, indexFits, formFits, isSet, flushFits, flushesFit, inRange}
 use Rattle.machine.specs.Start.{queueOf, behind, startWith, startOf, startAnswer, spare}
 use Rattle.machine.specs.Rising.{among}
 use Rattle.machine.specs.declared.Machine.{Machine}
@@ -28,6 +28,7 @@ use Rattle.machine.specs.declared.Node.{Node}
 use Rattle.machine.proofs.AcceptedLaws.{Accepted, accepted-start}
 use Rattle.machine.proofs.LinkLaws as links
 use Rattle.machine.proofs.StartLaws as starts
+use Rattle.machine.proofs.FlushLaws as flushes
 use Rattle.lists.proofs.WordLaws.{wordOf-lt}
 use Rattle.lists.proofs.BoolLaws.{both-of}
 
@@ -100,7 +101,7 @@ module _ (g : Image) (t : ℕ) (ok : accepted (startAnswer g t) ≡ true) where
 
   thread-fits : (k : ℕ) → k < 8 → threadFits (startOf g t) k ≡ true
   unfolding threadFits
-  thread-fits k h = rw (starts.thread-is g t k h) (rw (le-leb 0 (lastStep (startOf g t)) (omega arith)))
+  thread-fits k h = rw (starts.thread-is g t k h)
 
   start-ranges : rangesFit (startOf g t) ≡ true
   unfolding rangesFit
@@ -164,6 +165,26 @@ module _ (g : Image) (t : ℕ) (ok : accepted (startAnswer g t) ≡ true) where
       (ap not nodes)
       (ap not threads)
 
+  -- ---- no thread has flushed
+
+  flush-fits : (k : ℕ) → flushFits (startOf g t) k ≡ true
+  unfolding flushFits
+  flush-fits k =
+      rw (flushes.start-flushed g t k, flushes.start-late g t k, le-leb 0 (topOf (startOf g t .form)) (omega arith))
+      (lt-ltb 0 (2 ^ startOf g t .t) (positive (startOf g t .t)))
+
+  over-fits : (l : Line) → isSet (startOf g t) (overAt (startOf g t) l) ≡ true
+  over-fits l = rw (flushes.start-over g t l) (lt-ltb 0 (2 ^ startOf g t .t) (positive (startOf g t .t)))
+
+  start-flushes : flushesFit (startOf g t) ≡ true
+  unfolding flushesFit
+  start-flushes =
+      both-of _ _
+      (ap not (any-none (λ k. not (flushFits (startOf g t) k)) (startOf g t .t) (λ k h. ap not (flush-fits k))))
+      (both-of _ _
+      (ap not (any-none (λ k. not (isSet (startOf g t) (overHead (startOf g t) k))) (headLines (shapeOf (startOf g t))) (λ k h. ap not (over-fits (ofHead k)))))
+      (ap not (any-none (λ i. not (isSet (startOf g t) (overNode (startOf g t) i))) (startOf g t .n) (λ i h. ap not (over-fits (ofNode i))))))
+
   pub start-in-range : inRange (startOf g t) ≡ true
   unfolding inRange
-  start-in-range = rw start-ranges start-form
+  start-in-range = rw (start-ranges, start-form) start-flushes

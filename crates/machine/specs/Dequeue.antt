@@ -1,5 +1,5 @@
 -- Dequeue, step by step: D1 to D7 of thread k. h is the head read, x the next read. In #101 the thread has an index line, line k, and two steps more:
--- S3 in front of D3 and S6 in front of D6.
+-- S3 in front of D3 and S6 in front of D6. F3 and F6 are the fences behind D3 and D6.
 use Prim.Native.Nat.{ℕ}
 use mathlib.Core.Bool.{true}
 use lib.Dec.{eqb}
@@ -7,9 +7,10 @@ use Rattle.lists.specs.Find.{pick, both}
 use Rattle.answer.specs.declared.Answer.the-variants.{Item, Empty}
 use Rattle.image.specs.Form.{perDesk}
 use Rattle.machine.specs.Record.{none, node, headAt, thread, readHead, readNext, readItem, putHead, putHeadNode, putHeadAt}
-use Rattle.machine.specs.Stage.{D1, D2, D3, D4, D5, D6, D7, S3, S6, number}
-use Rattle.machine.specs.Line.{ofHead, ownHead, persist}
-use Rattle.machine.specs.Retire.{quiet, moving, going, answering, storing, persisting, left, retiredHeld}
+use Rattle.machine.specs.Stage.{D1, D2, D3, D4, D5, D6, D7, S3, S6, F3, F6, number}
+use Rattle.machine.specs.Line.{ofHead, ownHead}
+use Rattle.machine.specs.Flush.{flush, fence}
+use Rattle.machine.specs.Retire.{quiet, moving, going, answering, storing, flushing, fencing, left, retiredHeld}
 use Rattle.machine.specs.declared.Machine.{Machine}
 use Rattle.machine.specs.declared.Acted.{Acted}
 
@@ -31,9 +32,17 @@ storesIndex m k x s = storing (ofHead k) (going (putHeadAt m k (node m x .index)
 abbrev pub stepS3 : Machine → ℕ → Acted
 stepS3 m k = storesIndex m k (thread m k .head) (number D3)
 
--- D3 line 0, or the thread's own, persisted. Answer Empty
+-- D3 line 0, or the thread's own, persisted, #104: by "a flush step, then a fence step"
 abbrev pub stepD3 : Machine → ℕ → Acted
-stepD3 m k = persisting (ofHead (ownHead m k)) (answering Empty (persist m (ofHead (ownHead m k))) k)
+stepD3 m k =
+    let l = ofHead (ownHead m k) in
+    flushing k l (going (flush m k l) k (number F3))
+
+-- "D3 answers at the fence": Empty
+abbrev pub stepF3 : Machine → ℕ → Acted
+stepF3 m k =
+    let l = ofHead (ownHead m k) in
+    fencing k l (answering Empty (fence m k l) k)
 
 -- D4 if Head is still the pair read, it becomes the next node as read at D2, with that node's index, go to D5; else to D1;
 -- #101: the number alone is read, compared and stored, and no line is touched
@@ -54,9 +63,16 @@ stepD5 m k =
 abbrev pub stepS6 : Machine → ℕ → Acted
 stepS6 m k = storesIndex m k (thread m k .next) (number D6)
 
--- D6 line 0 persisted; "then persists that line as a second step"
+-- D6 line 0 persisted; "then persists that line as a second step"; #104: a flush, then a fence
 abbrev pub stepD6 : Machine → ℕ → Acted
-stepD6 m k = persisting (ofHead (ownHead m k)) (going (persist m (ofHead (ownHead m k))) k (number D7))
+stepD6 m k =
+    let l = ofHead (ownHead m k) in
+    flushing k l (going (flush m k l) k (number F6))
+
+abbrev pub stepF6 : Machine → ℕ → Acted
+stepF6 m k =
+    let l = ofHead (ownHead m k) in
+    fencing k l (going (fence m k l) k (number D7))
 
 -- D7 the node this thread held from its previous successful dequeue, if any, is retired; the old dummy is now held. Answer the item
 abbrev pub stepD7 : Machine → ℕ → Acted

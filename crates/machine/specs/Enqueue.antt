@@ -1,13 +1,14 @@
--- Enqueue, step by step: A1 to A12 of thread k. i is the thread's own node, t the tail it read.
+-- Enqueue, step by step: A1 to A12 of thread k, and F10, the fence behind A10. i is the thread's own node, t the tail it read.
 use Prim.Native.Nat.{ℕ, _+_}
 use lib.Dec.{eqb, leb}
 use Rattle.lists.specs.Find.{pick}
 use Rattle.answer.specs.declared.Answer.the-variants.{Done, Full, WornOut}
 use Rattle.image.specs.Form.{topOf}
 use Rattle.machine.specs.Record.{none, node, thread, ownNode, readTail, withItem, withNext, withLinked, withIndex, putNode, putTail}
-use Rattle.machine.specs.Stage.{A2, A3, A4, A5, A6, A7, A8, A9, A10, A11, A12, number}
-use Rattle.machine.specs.Line.{ofNode, persist}
-use Rattle.machine.specs.Retire.{moving, going, answering, storing, persisting, nextFree, handOut, freed}
+use Rattle.machine.specs.Stage.{A2, A3, A4, A5, A6, A7, A8, A9, A10, A11, A12, F10, number}
+use Rattle.machine.specs.Line.{ofNode}
+use Rattle.machine.specs.Flush.{flush, fence}
+use Rattle.machine.specs.Retire.{moving, going, answering, storing, flushing, fencing, nextFree, handOut, freed}
 use Rattle.machine.specs.declared.Machine.{Machine}
 use Rattle.machine.specs.declared.Acted.{Acted}
 
@@ -62,11 +63,16 @@ stepA9 m k =
     let i = thread m k .node in
     storing (ofNode i) (going (putNode m i (withLinked (node m i) 1)) k (number A10))
 
--- A10 the node's line is persisted, as one step
+-- A10 the node's line is persisted, #104: by "a flush step, then a fence step"
 abbrev pub stepA10 : Machine → ℕ → Acted
 stepA10 m k =
     let l = ofNode (thread m k .node) in
-    persisting l (going (persist m l) k (number A11))
+    flushing k l (going (flush m k l) k (number F10))
+
+abbrev pub stepF10 : Machine → ℕ → Acted
+stepF10 m k =
+    let l = ofNode (thread m k .node) in
+    fencing k l (going (fence m k l) k (number A11))
 
 -- A11 Tail becomes the new node if it is still t. Answer Done
 abbrev pub stepA11 : Machine → ℕ → Acted

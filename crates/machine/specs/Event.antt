@@ -11,12 +11,12 @@ use Rattle.answer.specs.declared.Answer.the-variants.{Taken, Kind, Number, Busy
 use Rattle.image.specs.Layout.{sameContent}
 use Rattle.image.specs.Refusals.{startable}
 use Rattle.machine.specs.Record.{thread, putThread}
-use Rattle.machine.specs.Stage.{Stage, noStep, A1, A2, A3, A4, A5, A6, A7, A8, A9, A10, A11, A12, D1, D2, D3, D4, D5, D6, D7, S3, S6, number, stage, busy}
+use Rattle.machine.specs.Stage.{Stage, noStep, A1, A2, A3, A4, A5, A6, A7, A8, A9, A10, A11, A12, D1, D2, D3, D4, D5, D6, D7, S3, S6, F10, F3, F6, number, stage, busy}
 use Rattle.machine.specs.Line.{Line, shapeOf, lineCount, lineAt, cachedAt, persistedAt, persist, persisted}
 use Rattle.machine.specs.Start.{startOf}
 use Rattle.machine.specs.Retire.{out, quiet, persisting}
-use Rattle.machine.specs.Enqueue.{stepA1, stepA2, stepA3, stepA4, stepA5, stepA6, stepA7, stepA8, stepA9, stepA10, stepA11, stepA12}
-use Rattle.machine.specs.Dequeue.{stepD1, stepD2, stepD3, stepD4, stepD5, stepD6, stepD7, stepS3, stepS6}
+use Rattle.machine.specs.Enqueue.{stepA1, stepA2, stepA3, stepA4, stepA5, stepA6, stepA7, stepA8, stepA9, stepA10, stepA11, stepA12, stepF10}
+use Rattle.machine.specs.Dequeue.{stepD1, stepD2, stepD3, stepD4, stepD5, stepD6, stepD7, stepS3, stepS6, stepF3, stepF6}
 use Rattle.machine.specs.Range.{inRange}
 use Rattle.machine.specs.declared.Machine.{Machine}
 use Rattle.machine.specs.declared.Thread.{Thread}
@@ -93,6 +93,9 @@ stepped m k D6 = stepD6 m k
 stepped m k D7 = stepD7 m k
 stepped m k S3 = stepS3 m k
 stepped m k S6 = stepS6 m k
+stepped m k F10 = stepF10 m k
+stepped m k F3 = stepF3 m k
+stepped m k F6 = stepF6 m k
 
 -- 1 begins an enqueue, 2 a dequeue, 3 moves the thread by one step, 4 writes back a line, 5 is a crash followed by recovery
 -- a start is no touch: it begins the moments anew

@@ -1,6 +1,7 @@
 pub mod Record
 pub mod Stage
 pub mod Line
+pub mod Flush
 pub mod Start
 pub mod Laid
 pub mod Rising

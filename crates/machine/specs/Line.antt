@@ -3,18 +3,19 @@ use Prim.Native.Nat.{ℕ, _+_, _-_}
 use mathlib.Core.Bool.{Bool, true, false}
 use lib.Dec.{eqb, ltb}
 use Rattle.lists.specs.Find.{pick}
+use Rattle.lists.specs.Word.{wordOf}
 use Rattle.image.specs.Form.{headLines, ownThreads, perDesk}
 use Rattle.image.specs.declared.Content.{Content}
 use Rattle.image.specs.declared.Image.{Image}
 use Rattle.image.specs.declared.Shape.{Shape}
-use Rattle.machine.specs.Record.{node, kept, headAt, keptHead, contentOf, putKept, putKeptHead}
+use Rattle.machine.specs.Record.{node, kept, headAt, keptHead, contentOf, putKept, putKeptHead, overHead, overNode, putOverHead, putOverNode}
 use Rattle.machine.specs.declared.Machine.{Machine}
 -- a head line or a node's line
 pub use Rattle.machine.specs.declared.Line.{Line}
 pub use Rattle.machine.specs.declared.Line.the-variants.{OfHead as ofHead, OfNode as ofNode}
--- what an event does to the lines' contents: nothing, a store to one line, the persist of one line
+-- what an event does to the lines' contents: nothing, a store to one line, the persist of one line at once; a thread's flush of one line, its fence
 pub use Rattle.machine.specs.declared.Touch.{Touch}
-pub use Rattle.machine.specs.declared.Touch.the-variants.{Nothing as nothing, Store as aStore, Persist as aPersist}
+pub use Rattle.machine.specs.declared.Touch.the-variants.{Nothing as nothing, Store as aStore, Persist as aPersist, Flush as aFlush, Fence as aFence}
 
 -- ---- "Line 0 is Head, line i+1 is node i"; #101: "Lines are the T thread lines, then the nodes": the number of a line, by the shape
 
@@ -65,10 +66,26 @@ abbrev pub persistedAt : Machine → Line → Content
 persistedAt m (ofHead k) = headContent (keptHead m k)
 persistedAt m (ofNode i) = kept m i
 
--- a line is written back whole: by a write-back, or by a step that persists it
+-- #104: the threads over line l: those whose flush of it is no later than what is persisted there
+abbrev pub overAt : Machine → Line → ℕ
+overAt m (ofHead k) = overHead m k
+overAt m (ofNode i) = overNode m i
+
+abbrev pub putOver : Machine → Line → ℕ → Machine
+putOver m (ofHead k) w = putOverHead m k w
+putOver m (ofNode i) w = putOverNode m i w
+
+-- line l's persisted copy becomes c, and w are the threads over it
+abbrev pub keeping : Machine → Line → Content → ℕ → Machine
+keeping m (ofHead k) c w = putKeptHead m k (c .index) w
+keeping m (ofNode i) c w = putKept m i c w
+
+abbrev pub everyone : Machine → ℕ
+everyone m = wordOf (λ u. true) (m .t)
+
+-- a line is written back whole; no flush is later than what is persisted then
 abbrev pub persist : Machine → Line → Machine
-persist m (ofHead k) = putKeptHead m k (headAt m k)
-persist m (ofNode i) = putKept m i (contentOf (node m i))
+persist m l = keeping m l (cachedAt m l) (everyone m)
 
 -- the persisted copies, as an image
 abbrev pub persisted : Machine → Image

@@ -5,8 +5,8 @@ use lib.Dec.{eqb, ltb, leb}
 use Rattle.lists.specs.Find.{pick, both, any}
 use Rattle.image.specs.Form.{known, topOf, headLines}
 use Rattle.image.specs.Refusals.{nodesFit, threadsFit}
-use Rattle.machine.specs.Record.{none, node, kept, headAt, keptHead, thread}
-use Rattle.machine.specs.Stage.{A12, number, lastStep, own, t, theHead, theNext, uses, stage}
+use Rattle.machine.specs.Record.{none, node, kept, headAt, keptHead, thread, flushed, late, overHead, overNode}
+use Rattle.machine.specs.Stage.{A12, number, isStep, own, t, theHead, theNext, uses, stage}
 use Rattle.machine.specs.Line.{shapeOf}
 use Rattle.machine.specs.declared.Machine.{Machine}
 
@@ -54,7 +54,7 @@ unfoldable pub threadFits : Machine → ℕ → Bool
 threadFits m k =
     let v = thread m k in
     let s = stage m k in
-    both (leb (v .step) (lastStep m))
+    both (isStep m (v .step))
     (both (readFits m (uses s own) (v .node))
     (both (readFits m (uses s t) (v .tail))
     (both (readFits m (uses s theHead) (v .head))
@@ -88,6 +88,22 @@ formFits m =
     (both (not (any (λ k. not (headFits m k)) (headLines (shapeOf m))))
     (both (not (any (λ i. not (indexFits m i)) (m .n))) (not (any (λ k. not (isIndex m (thread m k .index))) (m .t)))))
 
+-- ---- #104: what the record gains
+
+-- a set of threads
+abbrev pub isSet : Machine → ℕ → Bool
+isSet m w = ltb w (2 ^ m .t)
+
+-- what thread k has flushed is a content: its flag is a flag, its index within the width; and those that flushed since are threads
+unfoldable pub flushFits : Machine → ℕ → Bool
+flushFits m k = both (isFlag (flushed m k .linked)) (both (isIndex m (flushed m k .index)) (isSet m (late m k)))
+
+-- those over a line are threads
+unfoldable pub flushesFit : Machine → Bool
+flushesFit m =
+    both (not (any (λ k. not (flushFits m k)) (m .t)))
+    (both (not (any (λ k. not (isSet m (overHead m k))) (headLines (shapeOf m)))) (not (any (λ i. not (isSet m (overNode m i))) (m .n))))
+
 -- the whole record
 unfoldable pub inRange : Machine → Bool
-inRange m = both (rangesFit m) (formFits m)
+inRange m = both (rangesFit m) (both (formFits m) (flushesFit m))

@@ -92,33 +92,70 @@ abbrev pub readHead : Thread → ℕ → ℕ → Thread
 readHead v h x = record { step = v .step; node = v .node; tail = v .tail; head = h; index = x; next = v .next; item = v .item; held = v .held }
 
 abbrev pub putTail : Machine → ℕ → Machine
-putTail m x = record { form = m .form; n = m .n; t = m .t; head = m .head; heads = m .heads; tail = x; free = m .free; nodes = m .nodes; «kept_heads» = m .«kept_heads»; kept = m .kept; threads = m .threads; last = m .last }
+putTail m x = record { form = m .form; n = m .n; t = m .t; head = m .head; heads = m .heads; tail = x; free = m .free; nodes = m .nodes; «kept_heads» = m .«kept_heads»; kept = m .kept; threads = m .threads; last = m .last; flushed = m .flushed; late = m .late; «over_heads» = m .«over_heads»; over = m .over }
 
 abbrev pub putFree : Machine → ℕ → Machine
-putFree m x = record { form = m .form; n = m .n; t = m .t; head = m .head; heads = m .heads; tail = m .tail; free = x; nodes = m .nodes; «kept_heads» = m .«kept_heads»; kept = m .kept; threads = m .threads; last = m .last }
+putFree m x = record { form = m .form; n = m .n; t = m .t; head = m .head; heads = m .heads; tail = m .tail; free = x; nodes = m .nodes; «kept_heads» = m .«kept_heads»; kept = m .kept; threads = m .threads; last = m .last; flushed = m .flushed; late = m .late; «over_heads» = m .«over_heads»; over = m .over }
 
-abbrev pub putKeptHead : Machine → ℕ → ℕ → Machine
-putKeptHead m k x = record { form = m .form; n = m .n; t = m .t; head = m .head; heads = m .heads; tail = m .tail; free = m .free; nodes = m .nodes; «kept_heads» = set (m .«kept_heads») k x; kept = m .kept; threads = m .threads; last = m .last }
+-- the persisted copy of a head line, and the threads over it (below)
+abbrev pub putKeptHead : Machine → ℕ → ℕ → ℕ → Machine
+putKeptHead m k x w = record { form = m .form; n = m .n; t = m .t; head = m .head; heads = m .heads; tail = m .tail; free = m .free; nodes = m .nodes; «kept_heads» = set (m .«kept_heads») k x; kept = m .kept; threads = m .threads; last = m .last; flushed = m .flushed; late = m .late; «over_heads» = set (m .«over_heads») k w; over = m .over }
 
 -- #101: Head as a node number alone
 abbrev pub putHeadNode : Machine → ℕ → Machine
-putHeadNode m x = record { form = m .form; n = m .n; t = m .t; head = x; heads = m .heads; tail = m .tail; free = m .free; nodes = m .nodes; «kept_heads» = m .«kept_heads»; kept = m .kept; threads = m .threads; last = m .last }
+putHeadNode m x = record { form = m .form; n = m .n; t = m .t; head = x; heads = m .heads; tail = m .tail; free = m .free; nodes = m .nodes; «kept_heads» = m .«kept_heads»; kept = m .kept; threads = m .threads; last = m .last; flushed = m .flushed; late = m .late; «over_heads» = m .«over_heads»; over = m .over }
 
 -- the index in head line k
 abbrev pub putHeadAt : Machine → ℕ → ℕ → Machine
-putHeadAt m k x = record { form = m .form; n = m .n; t = m .t; head = m .head; heads = set (m .heads) k x; tail = m .tail; free = m .free; nodes = m .nodes; «kept_heads» = m .«kept_heads»; kept = m .kept; threads = m .threads; last = m .last }
+putHeadAt m k x = record { form = m .form; n = m .n; t = m .t; head = m .head; heads = set (m .heads) k x; tail = m .tail; free = m .free; nodes = m .nodes; «kept_heads» = m .«kept_heads»; kept = m .kept; threads = m .threads; last = m .last; flushed = m .flushed; late = m .late; «over_heads» = m .«over_heads»; over = m .over }
 
 abbrev pub putHead : Machine → ℕ → ℕ → Machine
-putHead m h x = record { form = m .form; n = m .n; t = m .t; head = h; heads = set (m .heads) 0 x; tail = m .tail; free = m .free; nodes = m .nodes; «kept_heads» = m .«kept_heads»; kept = m .kept; threads = m .threads; last = m .last }
+putHead m h x = record { form = m .form; n = m .n; t = m .t; head = h; heads = set (m .heads) 0 x; tail = m .tail; free = m .free; nodes = m .nodes; «kept_heads» = m .«kept_heads»; kept = m .kept; threads = m .threads; last = m .last; flushed = m .flushed; late = m .late; «over_heads» = m .«over_heads»; over = m .over }
 
 abbrev pub putNode : Machine → ℕ → Node → Machine
-putNode m i v = record { form = m .form; n = m .n; t = m .t; head = m .head; heads = m .heads; tail = m .tail; free = m .free; nodes = set (m .nodes) i v; «kept_heads» = m .«kept_heads»; kept = m .kept; threads = m .threads; last = m .last }
+putNode m i v = record { form = m .form; n = m .n; t = m .t; head = m .head; heads = m .heads; tail = m .tail; free = m .free; nodes = set (m .nodes) i v; «kept_heads» = m .«kept_heads»; kept = m .kept; threads = m .threads; last = m .last; flushed = m .flushed; late = m .late; «over_heads» = m .«over_heads»; over = m .over }
 
-abbrev pub putKept : Machine → ℕ → Content → Machine
-putKept m i v = record { form = m .form; n = m .n; t = m .t; head = m .head; heads = m .heads; tail = m .tail; free = m .free; nodes = m .nodes; «kept_heads» = m .«kept_heads»; kept = set (m .kept) i v; threads = m .threads; last = m .last }
+-- and of a node
+abbrev pub putKept : Machine → ℕ → Content → ℕ → Machine
+putKept m i v w = record { form = m .form; n = m .n; t = m .t; head = m .head; heads = m .heads; tail = m .tail; free = m .free; nodes = m .nodes; «kept_heads» = m .«kept_heads»; kept = set (m .kept) i v; threads = m .threads; last = m .last; flushed = m .flushed; late = m .late; «over_heads» = m .«over_heads»; over = set (m .over) i w }
 
 abbrev pub putThread : Machine → ℕ → Thread → Machine
-putThread m i v = record { form = m .form; n = m .n; t = m .t; head = m .head; heads = m .heads; tail = m .tail; free = m .free; nodes = m .nodes; «kept_heads» = m .«kept_heads»; kept = m .kept; threads = set (m .threads) i v; last = m .last }
+putThread m i v = record { form = m .form; n = m .n; t = m .t; head = m .head; heads = m .heads; tail = m .tail; free = m .free; nodes = m .nodes; «kept_heads» = m .«kept_heads»; kept = m .kept; threads = set (m .threads) i v; last = m .last; flushed = m .flushed; late = m .late; «over_heads» = m .«over_heads»; over = m .over }
 
 abbrev pub putLast : Machine → ℕ → Machine
-putLast m x = record { form = m .form; n = m .n; t = m .t; head = m .head; heads = m .heads; tail = m .tail; free = m .free; nodes = m .nodes; «kept_heads» = m .«kept_heads»; kept = m .kept; threads = m .threads; last = x }
+putLast m x = record { form = m .form; n = m .n; t = m .t; head = m .head; heads = m .heads; tail = m .tail; free = m .free; nodes = m .nodes; «kept_heads» = m .«kept_heads»; kept = m .kept; threads = m .threads; last = x; flushed = m .flushed; late = m .late; «over_heads» = m .«over_heads»; over = m .over }
+
+-- ---- #104: flushes. A set of threads is a word: thread u is in it where bit u is set
+
+-- what thread k found in its line when it last flushed
+abbrev pub flushed : Machine → ℕ → Content
+flushed m k = getD (m .flushed) k noContent
+
+-- the threads that have flushed since thread k last did
+abbrev pub late : Machine → ℕ → ℕ
+late m k = getD (m .late) k 0
+
+-- the threads over a head line, over a node: those whose flush of it is no later than what is persisted there
+abbrev pub overHead : Machine → ℕ → ℕ
+overHead m k = getD (m .«over_heads») k 0
+
+abbrev pub overNode : Machine → ℕ → ℕ
+overNode m i = getD (m .over) i 0
+
+-- no thread has flushed
+unfoldable pub noFlushed : List Content
+noFlushed = replicate 8 noContent
+
+-- c sets without a thread
+unfoldable pub noSets : ℕ → List ℕ
+noSets c = replicate c 0
+
+abbrev pub putOverHead : Machine → ℕ → ℕ → Machine
+putOverHead m k w = record { form = m .form; n = m .n; t = m .t; head = m .head; heads = m .heads; tail = m .tail; free = m .free; nodes = m .nodes; «kept_heads» = m .«kept_heads»; kept = m .kept; threads = m .threads; last = m .last; flushed = m .flushed; late = m .late; «over_heads» = set (m .«over_heads») k w; over = m .over }
+
+abbrev pub putOverNode : Machine → ℕ → ℕ → Machine
+putOverNode m i w = record { form = m .form; n = m .n; t = m .t; head = m .head; heads = m .heads; tail = m .tail; free = m .free; nodes = m .nodes; «kept_heads» = m .«kept_heads»; kept = m .kept; threads = m .threads; last = m .last; flushed = m .flushed; late = m .late; «over_heads» = m .«over_heads»; over = set (m .over) i w }
+
+-- what thread k has flushed, and who has flushed since each thread last did
+abbrev pub putFlushed : Machine → ℕ → Content → List ℕ → Machine
+putFlushed m k c l = record { form = m .form; n = m .n; t = m .t; head = m .head; heads = m .heads; tail = m .tail; free = m .free; nodes = m .nodes; «kept_heads» = m .«kept_heads»; kept = m .kept; threads = m .threads; last = m .last; flushed = set (m .flushed) k c; late = l; «over_heads» = m .«over_heads»; over = m .over }

@@ -8,7 +8,7 @@ use Rattle.answer.specs.declared.Answer.{Answer}
 use Rattle.answer.specs.declared.Answer.the-variants.{Taken}
 use Rattle.machine.specs.Record.{none, node, thread, withWaits, atStep, idleThread, putNode, putFree, putLast, putThread}
 use Rattle.machine.specs.Stage.{busy}
-use Rattle.machine.specs.Line.{Line, nothing, aStore, aPersist}
+use Rattle.machine.specs.Line.{Line, nothing, aStore, aPersist, aFlush, aFence}
 use Rattle.machine.specs.declared.Machine.{Machine}
 use Rattle.machine.specs.declared.Acted.{Acted}
 use Rattle.machine.specs.declared.Out.{Out}
@@ -27,9 +27,16 @@ quiet a m = record { answer = a; machine = m; touch = nothing }
 abbrev pub storing : Line → Acted → Acted
 storing l o = record { answer = o .answer; machine = o .machine; touch = aStore l }
 
--- the same, and it persists line l
+-- the same, and it persists line l at once
 abbrev pub persisting : Line → Acted → Acted
 persisting l o = record { answer = o .answer; machine = o .machine; touch = aPersist l }
+
+-- the same, and it is thread k's flush of line l; its fence
+abbrev pub flushing : ℕ → Line → Acted → Acted
+flushing k l o = record { answer = o .answer; machine = o .machine; touch = aFlush k l }
+
+abbrev pub fencing : ℕ → Line → Acted → Acted
+fencing k l o = record { answer = o .answer; machine = o .machine; touch = aFence k l }
 
 -- thread k, now v, goes on to step s
 abbrev pub moving : Machine → ℕ → Thread → ℕ → Acted

@@ -3,7 +3,7 @@ use Prim.Native.Nat.{ℕ}
 use mathlib.Core.Bool.{Bool, true, false, not}
 use mathlib.Core.List.{List, [], _∷_}
 use lib.ListN.{getD}
-use lib.Dec.{eqb}
+use lib.Dec.{eqb, leb}
 use Rattle.lists.specs.Find.{pick}
 use Rattle.image.specs.Form.{perDesk}
 use Rattle.machine.specs.Record.{thread}
@@ -11,12 +11,14 @@ use Rattle.machine.specs.declared.Machine.{Machine}
 
 -- the step that a thread is about to perform
 pub data Stage : Type 0 where
-  noStep A1 A2 A3 A4 A5 A6 A7 A8 A9 A10 A11 A12 D1 D2 D3 D4 D5 D6 D7 S3 S6 : Stage
+  noStep A1 A2 A3 A4 A5 A6 A7 A8 A9 A10 A11 A12 D1 D2 D3 D4 D5 D6 D7 S3 S6 F10 F3 F6 : Stage
 
--- 0 is no operation, 1 to 12 are A1 to A12, 13 to 19 are D1 to D7; 20 and 21 are the stores before D3 and D6 that #101 has
+-- 0 is no operation, 1 to 12 are A1 to A12, 13 to 19 are D1 to D7; 20 and 21 are the stores before D3 and D6 that #101 has; 22 to 24 are the fences behind A10, D3
+-- and D6 that #104 has
 abbrev pub stages : List Stage
 stages =
-    noStep ∷ A1 ∷ A2 ∷ A3 ∷ A4 ∷ A5 ∷ A6 ∷ A7 ∷ A8 ∷ A9 ∷ A10 ∷ A11 ∷ A12 ∷ D1 ∷ D2 ∷ D3 ∷ D4 ∷ D5 ∷ D6 ∷ D7 ∷ S3 ∷ S6 ∷ []
+    noStep ∷ A1 ∷ A2 ∷ A3 ∷ A4 ∷ A5 ∷ A6 ∷ A7 ∷ A8 ∷ A9 ∷ A10 ∷ A11 ∷ A12 ∷ D1 ∷ D2 ∷ D3 ∷ D4 ∷ D5 ∷ D6 ∷ D7 ∷ S3 ∷ S6 ∷ F10 ∷ F3
+    ∷ F6 ∷ []
 
 abbrev pub stageOf : ℕ → Stage
 stageOf s = getD stages s noStep
@@ -63,15 +65,18 @@ row D6 = facts 18 false false false false false true
 row D7 = facts 19 false false true false false true
 row S3 = facts 20 false false true false false false
 row S6 = facts 21 false false false true false true
+row F10 = facts 22 true false false false false false
+row F3 = facts 23 false false false false false false
+row F6 = facts 24 false false false false false true
 
 -- ---- its columns
 
 abbrev pub number : Stage → ℕ
 number s = row s .number
 
--- the largest that a machine has: the two stores are #101's alone
-abbrev pub lastStep : Machine → ℕ
-lastStep m = pick (perDesk (m .form)) (number S6) (number D7)
+-- whether a machine has a step of that number: the two stores are #101's alone
+abbrev pub isStep : Machine → ℕ → Bool
+isStep m s = pick (leb s (number D7)) true (pick (leb s (number S6)) (perDesk (m .form)) (leb s (number F6)))
 
 abbrev pub enqueueOwns : Stage → Bool
 enqueueOwns s = row s .enqueueOwns

@@ -24,7 +24,8 @@ pub struct Node {
     pub waits: u8,
 }
 
-// A thread: its next step (0: no operation, 1 to 12: A1 to A12, 13 to 19: D1 to D7, 20 and 21: S3 and S6 of "UQP") and what it has read.
+// A thread: its next step (0: no operation, 1 to 12: A1 to A12, 13 to 19: D1 to D7, 20 and 21: S3 and S6 of "UQP",
+// 22 to 24: F10, F3 and F6, the fences behind A10, D3 and D6) and what it has read.
 // A node number of 255 is none.
 pub struct Thread {
     pub index: u64,
@@ -38,8 +39,9 @@ pub struct Thread {
 }
 
 // The form of its image; N and T; Head, a node number with an index, which is that of head line 0 (in "UQP" a node number alone, and each thread has a head line);
-// Tail; the free set as a word; cached and persisted copies, those of the head lines apart; the threads; the node last handed out. Head lines behind those that
-// there are, nodes at n and beyond and threads at t and beyond are not part of it.
+// Tail; the free set as a word; cached and persisted copies, those of the head lines apart; the threads; the node last handed out. Of flushes: what each thread has
+// flushed, and sets of threads: those that have flushed since a thread last did, and, over a head line and over a node, those whose flush of it is no later than what
+// is persisted there. Head lines behind those that there are, nodes at n and beyond and threads at t and beyond are not part of it.
 pub struct Machine {
     pub free: u64,
     pub heads: [u64; 8],
@@ -47,6 +49,10 @@ pub struct Machine {
     pub nodes: [Node; 64],
     pub kept: [Content; 64],
     pub threads: [Thread; 8],
+    pub flushed: [Content; 8],
+    pub late: [u8; 8],
+    pub over_heads: [u8; 8],
+    pub over: [u8; 64],
     pub form: u8,
     pub n: u8,
     pub t: u8,
@@ -65,7 +71,8 @@ impl Machine {
 
     pub const LINES: usize = Machine::HEADS + Machine::NODES;
 
-    // The steps: 0 is no operation, A1 to A12 of an enqueue, D1 to D7 of a dequeue, S3 and S6 the stores before D3 and D6.
+    // The steps: 0 is no operation, A1 to A12 of an enqueue, D1 to D7 of a dequeue, S3 and S6 the stores before D3 and D6, F10, F3 and F6 the fences
+    // behind A10, D3 and D6.
     pub const A1: u8 = 1;
 
     pub const A2: u8 = 2;
@@ -107,6 +114,12 @@ impl Machine {
     pub const S3: u8 = 20;
 
     pub const S6: u8 = 21;
+
+    pub const F10: u8 = 22;
+
+    pub const F3: u8 = 23;
+
+    pub const F6: u8 = 24;
 
     // At most so many contents of a line, endings, and events of a schedule.
     pub const CONTENTS: usize = 16;
@@ -152,11 +165,13 @@ pub enum Line {
     OfNode(u8),
 }
 
-// What an event does to the lines' contents: nothing, a store to one line, or the persist of one line.
+// What an event does to the lines' contents: nothing, a store to one line, the persist of one line at once; or a thread's flush of one line, or its fence.
 pub enum Touch {
     Nothing,
     Store(Line),
     Persist(Line),
+    Flush(u8, Line),
+    Fence(u8, Line),
 }
 
 // What a step or an event answers, with the machine after it and the line that it touched.

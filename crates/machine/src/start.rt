@@ -5,6 +5,9 @@ use super::Out;
 use super::blank::blank_machine;
 use super::blank::blank_nodes;
 use super::blank::idle_threads;
+use super::blank::no_flushed;
+use super::blank::no_node_sets;
+use super::blank::no_sets;
 use super::queue::Queue;
 use super::queue::last_of;
 use super::queue::link_of;
@@ -165,6 +168,10 @@ pub fn start(g: Image, t: u8) -> Machine
     let kept_heads = heads_of(g);
     let kept = kept_of(g);
     let threads = idle_threads();
+    let flushed = no_flushed();
+    let late = no_sets();
+    let over_heads = no_sets();
+    let over = no_node_sets();
     Machine {
         form: g.form,
         n: g.n,
@@ -178,6 +185,10 @@ pub fn start(g: Image, t: u8) -> Machine
         kept,
         threads,
         last: d,
+        flushed,
+        late,
+        over_heads,
+        over,
     }
 }
 

@@ -4,4 +4,10 @@ pub mod Joins
 pub mod Moments
 pub mod Frame
 pub mod Steps
+pub mod Flushes
+pub mod Waiting
+pub mod Marked
+pub mod Known
+pub mod Since
+pub mod Points
 pub mod Distinct

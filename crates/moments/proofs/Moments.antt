@@ -1,9 +1,12 @@
 -- How a line's list of contents goes on, moment by moment.
-use Prim.Native.Nat.{ℕ, _+_, _≤_, _<_}
+use Prim.Native.Nat.{ℕ, _+_, _≤_, _<_, max}
 use mathlib.Core.Path.{_≡_, refl, sym, ap, _∙_}
+use mathlib.Core.Bool.{Bool, true, false}
 use mathlib.Core.List.{List, [], _∷_, _++_, map, map-append}
 use native.Mathlib.Omega.{arith}
 use lib.ListN.{length, getD, drop, length-append}
+use lib.Dec.{eqb}
+use Rattle.lists.specs.Find.{pick}
 use lib.Seq.{drop-append-le, drop-append-seam}
 use Rattle.lists.proofs.TabLaws as tabs
 use Rattle.image.specs.declared.Content.{Content}
@@ -11,41 +14,68 @@ use Rattle.machine.specs.Line.{shapeOf, lineCount, lineAt, cachedAt, persistedA
 use Rattle.machine.specs.declared.Line.{Line}
 use Rattle.machine.specs.declared.Machine.{Machine}
 use Rattle.machine.proofs.LineLaws.{put-same, put-other, put-ind}
-use Rattle.schedule.specs.Run.{Bench, begins, goesOn, fromAfter}
+use Rattle.schedule.specs.Run.{Bench, begins, goesOn, markAfter, fromAfter}
 use Rattle.page.specs.Contents.{joins, gathered, contentsOf, tableOf}
 use Rattle.machine.specs.declared.Touch.{Touch}
-use Rattle.machine.specs.declared.Touch.the-variants.{Nothing as nothing, Store as aStore, Persist as aPersist}
+use Rattle.machine.specs.declared.Touch.the-variants.{Nothing as nothing, Store as aStore, Persist as aPersist, Flush as aFlush, Fence as aFence}
 use Rattle.moments.specs.Moments.{Timed}
-use Rattle.moments.specs.Frame.{Persists}
+use Rattle.moments.specs.Frame.{Persists, FencesTo}
 use Rattle.moments.proofs.Joins as joined
 
 -- ---- the moments from which contents count
 
 -- the moment of a line that is not persisted stays
-from-other : (w : Touch) (k : ℕ) (f : Line → ℕ) (l : Line) → (Persists w l → ⊥) → fromAfter w k f l ≡ f l
-from-other nothing k f l ne = refl
-from-other (aStore x) k f l ne = refl
-from-other (aPersist x) k f l ne = put-other f x k l ne
+pub from-other : (w : Touch) (k : ℕ) (g : ℕ → ℕ) (f : Line → ℕ) (l : Line) → (Persists w l → ⊥) → (FencesTo w l → ⊥) → fromAfter w k g f l ≡ f l
+from-other nothing k g f l ne nf = refl
+from-other (aStore x) k g f l ne nf = refl
+from-other (aPersist x) k g f l ne nf = put-other f x k l ne
+from-other (aFlush t x) k g f l ne nf = refl
+from-other (aFence t x) k g f l ne nf = put-other f x (max (f x) (g t)) l nf
 
-from-le : (w : Touch) (k : ℕ) (f : Line → ℕ) (l : Line) → f l ≤ k → fromAfter w k f l ≤ k
-from-le nothing k f l h = h
-from-le (aStore x) k f l h = h
-from-le (aPersist x) k f l h = put-ind f x k (λ j y. y ≤ k) l (omega arith) (λ ne. h)
+from-le : (w : Touch) (k : ℕ) (g : ℕ → ℕ) (f : Line → ℕ) (l : Line) → ((t : ℕ) → g t ≤ k) → ((j : Line) → f j ≤ k) → fromAfter w k g f l ≤ k
+from-le nothing k g f l b h = h l
+from-le (aStore x) k g f l b h = h l
+from-le (aPersist x) k g f l b h = put-ind f x k (λ j y. y ≤ k) l (omega arith) (λ ne. h l)
+from-le (aFlush t x) k g f l b h = h l
+from-le (aFence t x) k g f l b h = put-ind f x (max (f x) (g t)) (λ j y. y ≤ k) l (omega (arith, h x, b t)) (λ ne. h l)
+
+mark-le : (w : Touch) (k : ℕ) (g : ℕ → ℕ) (u : ℕ) → ((t : ℕ) → g t ≤ k) → markAfter w k g u ≤ k
+mark-le nothing k g u b = b u
+mark-le (aStore x) k g u b = b u
+mark-le (aPersist x) k g u b = b u
+mark-le (aFlush t x) k g u b = by (eqb u t)
+  where
+    by : (z : Bool) → pick z k (g u) ≤ k
+    by true = omega arith
+    by false = b u
+mark-le (aFence t x) k g u b = b u
 
 -- ---- every bench of a run is timed
+
+-- the present moment is a moment more
+past-length : (b : Bench) (t : Timed b) → length (b .past) ≡ length (t .before) + 1
+past-length b t = ap length (t .now) ∙ length-append (t .before) (b .machine ∷ [])
+
+from-past : (b : Bench) → Timed b → (l : Line) → b .from l ≤ length (b .past)
+from-past b t l = omega (arith, t .early l, past-length b t)
+
+mark-past : (b : Bench) → Timed b → (u : ℕ) → b .mark u ≤ length (b .past)
+mark-past b t u = omega (arith, t .marks u, past-length b t)
 
 pub timed-begins : (m : Machine) → Timed (begins m)
 timed-begins m = record {
   before = [];
   now = refl;
   early = λ l. omega arith;
+  marks = λ t. omega arith;
 }
 
 pub timed-goes : (b : Bench) (m : Machine) (w : Touch) → Timed b → Timed (goesOn b m w)
 timed-goes b m w t = record {
   before = b .past;
   now = refl;
-  early = λ l. from-le w (length (b .past)) (b .from) l (omega (arith, t .early l, ap length (t .now), length-append (t .before) (b .machine ∷ [])));
+  early = λ l. from-le w (length (b .past)) (b .mark) (b .from) l (λ u. mark-past b t u) (λ j. from-past b t j);
+  marks = λ u. mark-le w (length (b .past)) (b .mark) u (λ v. mark-past b t v);
 }
 
 -- ---- the contents
@@ -69,17 +99,17 @@ contents-persisted b m l e =
     rw (put-same (b .from) l (length (b .past)), drop-append-seam (b .past) (m ∷ []), e)
     (joined.joins-first (cachedAt m l) [] (cachedAt m l) (joined.same-self (cachedAt m l)))
 
-module _ (b : Bench) (t : Timed b) (m : Machine) (w : Touch) (l : Line) (ne : Persists w l → ⊥) (kept : persistedAt m l ≡ persistedAt (b .machine) l) where
+module _ (b : Bench) (t : Timed b) (m : Machine) (w : Touch) (l : Line) (ne : Persists w l → ⊥) (nf : FencesTo w l → ⊥) (kept : persistedAt m l ≡ persistedAt (b .machine) l) where
   -- any other line's list is joined by the present content
   pub contents-joined : contentsOf (goesOn b m w) l ≡ joins (contentsOf b l) (cachedAt m l)
   unfolding contentsOf
   contents-joined =
-      rw (from-other w (length (b .past)) (b .from) l ne, kept)
+      rw (from-other w (length (b .past)) (b .mark) (b .from) l ne nf, kept)
       (ap (gathered (persistedAt (b .machine) l ∷ [])) (seen-more l (b .from l) (b .past) m in-time)
       ∙ joined.gathered-more (persistedAt (b .machine) l ∷ []) (seen l (drop (b .from l) (b .past))) (cachedAt m l))
     where
       in-time : b .from l ≤ length (b .past)
-      in-time = omega (arith, t .early l, ap length (t .now), length-append (t .before) (b .machine ∷ []))
+      in-time = from-past b t l
 
 -- the list has the present content
 pub contents-present : (b : Bench) → Timed b → (l : Line) → joins (contentsOf b l) (cachedAt (b .machine) l) ≡ contentsOf b l
@@ -89,9 +119,9 @@ contents-present b t l =
     (joined.gathered-last (persistedAt (b .machine) l ∷ []) (seen l (drop (b .from l) (t .before))) (cachedAt (b .machine) l))
 
 -- so a line that an event leaves alone keeps its list
-pub contents-kept : (b : Bench) → Timed b → (m : Machine) (w : Touch) (l : Line) → (Persists w l → ⊥) → persistedAt m l ≡ persistedAt (b .machine) l
+pub contents-kept : (b : Bench) → Timed b → (m : Machine) (w : Touch) (l : Line) → (Persists w l → ⊥) → (FencesTo w l → ⊥) → persistedAt m l ≡ persistedAt (b .machine) l
     → cachedAt m l ≡ cachedAt (b .machine) l → contentsOf (goesOn b m w) l ≡ contentsOf b l
-contents-kept b t m w l ne p e = contents-joined b t m w l ne p ∙ ap (joins (contentsOf b l)) e ∙ contents-present b t l
+contents-kept b t m w l ne nf p e = contents-joined b t m w l ne nf p ∙ ap (joins (contentsOf b l)) e ∙ contents-present b t l
 
 -- ---- the table of lists
 

@@ -14,8 +14,9 @@ use Rattle.answer.specs.declared.Answer.the-variants.{Taken, Number, NotZero, I
 use Rattle.image.specs.Form.{topOf, perDesk, headLines}
 use Rattle.image.proofs.HeadLaws.{lines-desks, lines-some}
 use Rattle.machine.specs.Record.{none, node, thread, headAt, withItem, withNext, withLinked, withIndex, putNode, putTail, putHeadNode, putHeadAt}
-use Rattle.machine.specs.Stage.{Stage, noStep, A1, A2, A3, A4, A5, A6, A7, A8, A9, A10, A11, A12, D1, D2, D3, D4, D5, D6, D7, S3, S6, stage, busy}
-use Rattle.machine.specs.Line.{shapeOf, lineAt, numberOf, ownHead, persist}
+use Rattle.machine.specs.Stage.{Stage, noStep, A1, A2, A3, A4, A5, A6, A7, A8, A9, A10, A11, A12, D1, D2, D3, D4, D5, D6, D7, S3, S6, F10, F3, F6, stage, busy}
+use Rattle.machine.specs.Line.{shapeOf, lineAt, numberOf, ownHead}
+use Rattle.machine.specs.Flush.{fence}
 use Rattle.machine.specs.declared.Line.{Line}
 use Rattle.machine.specs.declared.Line.the-variants.{OfHead as ofHead, OfNode as ofNode}
 use Rattle.machine.specs.Retire.{quiet, left, freed, released, retired, retiredHeld}
@@ -25,9 +26,9 @@ use Rattle.machine.specs.declared.Event.{Event}
 use Rattle.machine.specs.declared.Acted.{Acted}
 use Rattle.machine.proofs.LineLaws.{line-head, line-node, number-line}
 use Rattle.machine.specs.declared.Touch.{Touch}
-use Rattle.machine.specs.declared.Touch.the-variants.{Nothing as nothing, Store as aStore, Persist as aPersist}
+use Rattle.machine.specs.declared.Touch.the-variants.{Nothing as nothing, Store as aStore, Fence as aFence}
 use Rattle.schedule.specs.Run.{Bench, goesOn, turned, forward}
-use Rattle.moments.specs.Frame.{Persists, Even, Frame}
+use Rattle.moments.specs.Frame.{WritesBack, keepsOf, Frame}
 use Rattle.moments.proofs.Frame as frame
 
 -- ---- the steps
@@ -39,16 +40,15 @@ still m m′ s = frame.frame-same m m′ s
 answers : (m a : Machine) (k x : ℕ) → frame.Same m a → frame.Same m (left a k x)
 answers m a k x s =
     let r = frame.same-then m a (released a k (a .n)) s (frame.same-released a k (a .n)) in
-    record { shape = r .shape; index = r .index; nodes = r .nodes; head = r .head; kept = r .kept }
+    record { shape = r .shape; index = r .index; nodes = r .nodes; kept = r .kept }
 
 -- a thread moves on, and the contents are those of a
-moves : (m a b : Machine) → frame.Same m a → shapeOf b ≡ shapeOf a → b .heads ≡ a .heads → b .nodes ≡ a .nodes → b .«kept_heads» ≡ a .«kept_heads» → b .kept ≡ a .kept → frame.Same m b
-moves m a b s p q r t u = record {
+moves : (m a b : Machine) → frame.Same m a → shapeOf b ≡ shapeOf a → b .heads ≡ a .heads → b .nodes ≡ a .nodes → keepsOf b ≡ keepsOf a → frame.Same m b
+moves m a b s p q r t = record {
   shape = p ∙ s .shape;
   index = q ∙ s .index;
   nodes = rw r (s .nodes);
-  head = t ∙ s .head;
-  kept = u ∙ s .kept;
+  kept = t ∙ s .kept;
 }
 
 module _ (m : Machine) (k : ℕ) where
@@ -56,75 +56,76 @@ module _ (m : Machine) (k : ℕ) where
   picked true a b p q = p
   picked false a b p q = q
 
-  here : (a : Machine) → shapeOf a ≡ shapeOf m → a .heads ≡ m .heads → a .nodes ≡ m .nodes → a .«kept_heads» ≡ m .«kept_heads» → a .kept ≡ m .kept → frame.Same m a
+  here : (a : Machine) → shapeOf a ≡ shapeOf m → a .heads ≡ m .heads → a .nodes ≡ m .nodes → keepsOf a ≡ keepsOf m → frame.Same m a
   here a = moves m m a (frame.same-self m)
 
   -- what a machine a with the frame w is after its thread moved
-  on : (a b : Machine) (w : Touch) → Frame m a w → shapeOf b ≡ shapeOf a → b .heads ≡ a .heads → b .nodes ≡ a .nodes → b .«kept_heads» ≡ a .«kept_heads» → b .kept ≡ a .kept → Frame m b w
-  on a b w f p q r t u = frame.frame-then m a b w f (moves a a b (frame.same-self a) p q r t u)
+  on : (a b : Machine) (w : Touch) → Frame m a w → shapeOf b ≡ shapeOf a → b .heads ≡ a .heads → b .nodes ≡ a .nodes → keepsOf b ≡ keepsOf a → Frame m b w
+  on a b w f p q r t = frame.frame-then m a b w f (moves a a b (frame.same-self a) p q r t)
 
-  pub frame-step : Even m → (s : Stage) → Frame m (stepped m k s .machine) (stepped m k s .touch)
-  frame-step h noStep = still m m (frame.same-self m)
-  frame-step h A1 =
+  pub frame-step : (s : Stage) → Frame m (stepped m k s .machine) (stepped m k s .touch)
+  frame-step noStep = still m m (frame.same-self m)
+  frame-step A1 =
       picked (eqb (m .free) 0) _ _
       (still m _ (answers m m k (thread m k .held) (frame.same-self m)))
-      (still m _ (here _ refl refl refl refl refl))
-  frame-step h A2 = on _ _ _ (frame.frame-node m (thread m k .node) (withItem (node m (thread m k .node)) (thread m k .item))) refl refl refl refl refl
-  frame-step h A3 =
+      (still m _ (here _ refl refl refl refl))
+  frame-step A2 = on _ _ _ (frame.frame-node m (thread m k .node) (withItem (node m (thread m k .node)) (thread m k .item))) refl refl refl refl
+  frame-step A3 =
       let i = thread m k .node in
-      still m _ (moves m (putNode m i (withNext (node m i) none)) _ (frame.same-node m i (withNext (node m i) none) refl) refl refl refl refl refl)
-  frame-step h A4 = on _ _ _ (frame.frame-node m (thread m k .node) (withLinked (node m (thread m k .node)) 0)) refl refl refl refl refl
-  frame-step h A5 = still m _ (here _ refl refl refl refl refl)
-  frame-step h A6 = still m _ (here _ refl refl refl refl refl)
-  frame-step h A7 =
+      still m _ (moves m (putNode m i (withNext (node m i) none)) _ (frame.same-node m i (withNext (node m i) none) refl) refl refl refl refl)
+  frame-step A4 = on _ _ _ (frame.frame-node m (thread m k .node) (withLinked (node m (thread m k .node)) 0)) refl refl refl refl
+  frame-step A5 = still m _ (here _ refl refl refl refl)
+  frame-step A6 = still m _ (here _ refl refl refl refl)
+  frame-step A7 =
       let i = thread m k .node in
       let t = thread m k .tail in
       picked (leb (topOf (m .form)) (node m t .index)) _ _
-      (still m _ (answers m (freed m i) k _ (here _ refl refl refl refl refl)))
-      (on _ _ _ (frame.frame-node m i (withIndex (node m i) (node m t .index + 1))) refl refl refl refl refl)
-  frame-step h A8 =
+      (still m _ (answers m (freed m i) k _ (here _ refl refl refl refl)))
+      (on _ _ _ (frame.frame-node m i (withIndex (node m i) (node m t .index + 1))) refl refl refl refl)
+  frame-step A8 =
       let i = thread m k .node in
       let t = thread m k .tail in
       picked (eqb (node m t .next) none) _ _
-      (still m _ (moves m (putNode m t (withNext (node m t) i)) _ (frame.same-node m t (withNext (node m t) i) refl) refl refl refl refl refl))
-      (still m _ (here _ refl refl refl refl refl))
-  frame-step h A9 = on _ _ _ (frame.frame-node m (thread m k .node) (withLinked (node m (thread m k .node)) 1)) refl refl refl refl refl
-  frame-step h A10 =
-      let i = thread m k .node in
-      on (persist m (ofNode i)) _ _ (frame.frame-persist m (ofNode i) h) refl refl refl refl refl
-  frame-step h A11 =
+      (still m _ (moves m (putNode m t (withNext (node m t) i)) _ (frame.same-node m t (withNext (node m t) i) refl) refl refl refl refl))
+      (still m _ (here _ refl refl refl refl))
+  frame-step A9 = on _ _ _ (frame.frame-node m (thread m k .node) (withLinked (node m (thread m k .node)) 1)) refl refl refl refl
+  frame-step A10 = on _ _ _ (frame.frame-flush m k (ofNode (thread m k .node))) refl refl refl refl
+  frame-step A11 =
       let b = pick (eqb (m .tail) (thread m k .tail)) (putTail m (thread m k .node)) m in
-      still m _ (answers m b k _ (frame.same-pick m (putTail m (thread m k .node)) m (eqb (m .tail) (thread m k .tail)) (here _ refl refl refl refl refl) (frame.same-self m)))
-  frame-step h A12 =
+      still m _ (answers m b k _ (frame.same-pick m (putTail m (thread m k .node)) m (eqb (m .tail) (thread m k .tail)) (here _ refl refl refl refl) (frame.same-self m)))
+  frame-step A12 =
       let t = thread m k .tail in
       let b = pick (eqb (m .tail) t) (putTail m (node m t .next)) m in
-      still m _ (moves m b _ (frame.same-pick m (putTail m (node m t .next)) m (eqb (m .tail) t) (here _ refl refl refl refl refl) (frame.same-self m)) refl refl refl refl refl)
-  frame-step h D1 = still m _ (here _ refl refl refl refl refl)
-  frame-step h D2 = still m _ (here _ refl refl refl refl refl)
-  frame-step h D3 =
-      let l = ofHead (ownHead m k) in
-      let p = persist m l in
-      frame.frame-then m p _ (aPersist l) (frame.frame-persist m l h) (answers p p k (thread m k .held) (frame.same-self p))
-  frame-step h D4 =
+      still m _ (moves m b _ (frame.same-pick m (putTail m (node m t .next)) m (eqb (m .tail) t) (here _ refl refl refl refl) (frame.same-self m)) refl refl refl refl)
+  frame-step D1 = still m _ (here _ refl refl refl refl)
+  frame-step D2 = still m _ (here _ refl refl refl refl)
+  frame-step D3 = on _ _ _ (frame.frame-flush m k (ofHead (ownHead m k))) refl refl refl refl
+  frame-step D4 =
       let x = thread m k .next in
       picked (both (eqb (m .head) (thread m k .head)) (pick (perDesk (m .form)) true (eqb (headAt m 0) (thread m k .index)))) _ _
       (picked (perDesk (m .form)) _ _
-      (still m _ (here _ refl refl refl refl refl))
-      (on (putHeadAt m 0 (node m x .index)) _ _ (frame.frame-head m 0 (node m x .index)) refl refl refl refl refl))
-      (still m _ (here _ refl refl refl refl refl))
-  frame-step h D5 = still m _ (here _ refl refl refl refl refl)
-  frame-step h D6 = on (persist m (ofHead (ownHead m k))) _ _ (frame.frame-persist m (ofHead (ownHead m k)) h) refl refl refl refl refl
-  frame-step h D7 =
+      (still m _ (here _ refl refl refl refl))
+      (on (putHeadAt m 0 (node m x .index)) _ _ (frame.frame-head m 0 (node m x .index)) refl refl refl refl))
+      (still m _ (here _ refl refl refl refl))
+  frame-step D5 = still m _ (here _ refl refl refl refl)
+  frame-step D6 = on _ _ _ (frame.frame-flush m k (ofHead (ownHead m k))) refl refl refl refl
+  frame-step D7 =
       still m _
       (answers m (retiredHeld m k) k (thread m k .head)
       (frame.same-pick m m (retired m k (thread m k .held)) (eqb (thread m k .held) none) (frame.same-self m) (frame.same-retired m k (thread m k .held))))
-  frame-step h S3 = on _ _ _ (frame.frame-head m k (node m (thread m k .head) .index)) refl refl refl refl refl
-  frame-step h S6 = on _ _ _ (frame.frame-head m k (node m (thread m k .next) .index)) refl refl refl refl refl
+  frame-step S3 = on _ _ _ (frame.frame-head m k (node m (thread m k .head) .index)) refl refl refl refl
+  frame-step S6 = on _ _ _ (frame.frame-head m k (node m (thread m k .next) .index)) refl refl refl refl
+  frame-step F10 = on _ _ _ (frame.frame-fence m k (ofNode (thread m k .node))) refl refl refl refl
+  frame-step F3 =
+      let l = ofHead (ownHead m k) in
+      let p = fence m k l in
+      frame.frame-then m p _ (aFence k l) (frame.frame-fence m k l) (answers p p k _ (frame.same-self p))
+  frame-step F6 = on _ _ _ (frame.frame-fence m k (ofHead (ownHead m k))) refl refl refl refl
 
--- ---- a line that is persisted is one that there is: the line of its number
+-- ---- a line that is persisted, flushed or fenced is one that there is: the line of its number
 
 abbrev pub There : Machine → Touch → Type 0
-There m w = (l : Line) → Persists w l → lineAt (shapeOf m) (numberOf (shapeOf m) l) ≡ l
+There m w = (l : Line) → WritesBack w l → lineAt (shapeOf m) (numberOf (shapeOf m) l) ≡ l
 
 module _ (m : Machine) (k : ℕ) where
   untouched : There m nothing
@@ -133,7 +134,7 @@ module _ (m : Machine) (k : ℕ) where
   stored : (x : Line) → There m (aStore x)
   stored x l p = absurd p
 
-  one : (x : Line) → lineAt (shapeOf m) (numberOf (shapeOf m) x) ≡ x → There m (aPersist x)
+  one : (x : Line) → lineAt (shapeOf m) (numberOf (shapeOf m) x) ≡ x → (l : Line) → l ≡ x → lineAt (shapeOf m) (numberOf (shapeOf m) l) ≡ l
   one x e l p = rw p e
 
   either : (t : Bool) (a b : Acted) → There m (a .touch) → There m (b .touch) → There m (pick t a b .touch)
@@ -173,16 +174,19 @@ module _ (m : Machine) (k : ℕ) where
   there-step h D7 = untouched
   there-step h S3 = stored (ofHead k)
   there-step h S6 = stored (ofHead k)
+  there-step h F10 = one (ofNode (thread m k .node)) (line-node (shapeOf m) (thread m k .node))
+  there-step h F3 = one (ofHead (ownHead m k)) (line-head (shapeOf m) (ownHead m k) (own-there h))
+  there-step h F6 = one (ofHead (ownHead m k)) (line-head (shapeOf m) (ownHead m k) (own-there h))
 
 -- ---- the events
 
-pub frame-done : (m : Machine) (e : Event) (d : Deed) → Even m → (d ≡ crashes → ⊥) → Frame m (done m e d .machine) (done m e d .touch)
-frame-done m e unknown h ne = still m m (frame.same-self m)
-frame-done m e enqueues h ne = still m _ (here m 0 _ refl refl refl refl refl)
-frame-done m e dequeues h ne = still m _ (here m 0 _ refl refl refl refl refl)
-frame-done m e steps h ne = frame-step m (e .number) h (stage m (e .number))
-frame-done m e writesBack h ne = frame.frame-persist m (lineAt (shapeOf m) (e .number)) h
-frame-done m e crashes h ne = absurd (ne refl)
+pub frame-done : (m : Machine) (e : Event) (d : Deed) → (d ≡ crashes → ⊥) → Frame m (done m e d .machine) (done m e d .touch)
+frame-done m e unknown ne = still m m (frame.same-self m)
+frame-done m e enqueues ne = still m _ (here m 0 _ refl refl refl refl)
+frame-done m e dequeues ne = still m _ (here m 0 _ refl refl refl refl)
+frame-done m e steps ne = frame-step m (e .number) (stage m (e .number))
+frame-done m e writesBack ne = frame.frame-persist m (lineAt (shapeOf m) (e .number))
+frame-done m e crashes ne = absurd (ne refl)
 
 -- a taken event did what its kind says
 taken : (a : Answer) (m : Machine) (e : Event) (d : Deed) → accepted (ifTaken a m e d .answer) ≡ true → ifTaken a m e d ≡ done m e d
@@ -198,9 +202,9 @@ unfolding eventAt
 event-done p m e h = taken (eventAnswer p m e (deedOf (e .kind))) m e (deedOf (e .kind)) h
 
 -- what any taken event but a crash leaves alone
-pub frame-event : (p : ℕ) (m : Machine) (e : Event) → Even m → accepted (eventAt p m e .answer) ≡ true
+pub frame-event : (p : ℕ) (m : Machine) (e : Event) → accepted (eventAt p m e .answer) ≡ true
     → (deedOf (e .kind) ≡ crashes → ⊥) → Frame m (eventAt p m e .machine) (eventAt p m e .touch)
-frame-event p m e h a ne = rw (event-done p m e a) (frame-done m e (deedOf (e .kind)) h ne)
+frame-event p m e a ne = rw (event-done p m e a) (frame-done m e (deedOf (e .kind)) ne)
 
 -- a taken step is that of a thread that there is
 answer-taken : (a : Answer) (m : Machine) (e : Event) (d : Deed) → accepted (ifTaken a m e d .answer) ≡ true → accepted a ≡ true
@@ -210,7 +214,11 @@ answer-taken a m e d h = by (accepted a) refl h
     by true q p = refl
     by false q p = sym q ∙ p
 
-number-fits : (p : ℕ) (m : Machine) (e : Event) → accepted (eventAnswer p m e steps) ≡ true → e .number < m .t
+pub event-answer : (p : ℕ) (m : Machine) (e : Event) → accepted (eventAt p m e .answer) ≡ true → accepted (eventAnswer p m e (deedOf (e .kind))) ≡ true
+unfolding eventAt
+event-answer p m e a = let d = deedOf (e .kind) in answer-taken (eventAnswer p m e d) m e d a
+
+pub number-fits : (p : ℕ) (m : Machine) (e : Event) → accepted (eventAnswer p m e steps) ≡ true → e .number < m .t
 number-fits p m e h = by (leb (m .t) (e .number)) refl h
   where
     by : (b : Bool) → leb (m .t) (e .number) ≡ b

@@ -1,4 +1,5 @@
 pub mod Seats
 pub mod Moments
+pub mod Marked
 pub mod Frame
 pub mod Distinct

@@ -13,3 +13,5 @@ pub record Timed (b : Bench) : Type 0 where
   pub now : b .past ≡ before ++ (b .machine ∷ [])
   -- every line counts from some moment that has been
   pub early : (l : Line) → b .from l ≤ length before
+  -- and every thread's last flush was at one
+  pub marks : (t : ℕ) → b .mark t ≤ length before

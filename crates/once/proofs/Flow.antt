@@ -14,16 +14,19 @@ use Rattle.lists.proofs.BoolLaws.{false-true}
 use Rattle.answer.specs.declared.Answer.{Answer}
 use Rattle.answer.specs.declared.Answer.the-variants.{Taken, Done, Full, WornOut, Item, Empty}
 use Rattle.image.specs.Form.{topOf, perDesk}
-use Rattle.machine.specs.Record.{none, node, headAt, thread, zeroThread, atStep, idleThread, ownNode, readTail, readHead, readNext, readItem, withItem, withNext, withLinked, withIndex, putNode, putTail, putHead, putHeadNode, putHeadAt, putThread}
-use Rattle.machine.specs.Stage.{Stage, noStep, A1, A2, A3, A4, A5, A6, A7, A8, A9, A10, A11, A12, D1, D2, D3, D4, D5, D6, D7, S3, S6, stageOf, number, stage}
-use Rattle.machine.specs.Line.{ownHead, persist}
+use Rattle.machine.specs.Record.{none, node, headAt, thread, zeroThread, atStep, idleThread, ownNode, readTail, readHead, readNext, readItem, withItem, withNext, withLinked, withIndex, putNode, putTail, putHead, putHeadNode, putHeadAt, putThread, flushed}
+use Rattle.machine.specs.Stage.{Stage, noStep, A1, A2, A3, A4, A5, A6, A7, A8, A9, A10, A11, A12, D1, D2, D3, D4, D5, D6, D7, S3, S6, F10, F3, F6, stageOf, number, stage}
+use Rattle.machine.specs.Line.{ownHead, overAt, keeping}
+use Rattle.machine.specs.Flush.{flush, overAfter, fence}
+use Rattle.lists.specs.Word.{has}
+use Rattle.machine.specs.declared.Line.{Line}
 use Rattle.machine.specs.declared.Line.the-variants.{OfHead as ofHead, OfNode as ofNode}
 use Rattle.machine.specs.Retire.{quiet, storing, persisting, moving, going, answering, nextFree, handOut, freed, releasedAt, released, retired, retiredHeld}
 use Rattle.machine.specs.Event.{stepped}
 use Rattle.machine.specs.declared.Machine.{Machine}
 use Rattle.machine.specs.declared.Acted.{Acted}
 use Rattle.machine.specs.declared.Touch.{Touch}
-use Rattle.machine.specs.declared.Touch.the-variants.{Nothing as nothing, Store as aStore, Persist as aPersist}
+use Rattle.machine.specs.declared.Touch.the-variants.{Nothing as nothing, Store as aStore, Flush as aFlush, Fence as aFence}
 use Rattle.machine.specs.declared.Thread.{Thread}
 use Rattle.once.specs.Once.{counts, replies, due}
 
@@ -52,6 +55,9 @@ sofar D6 = 0
 sofar D7 = 1
 sofar S3 = 0
 sofar S6 = 0
+sofar F10 = 0
+sofar F3 = 0
+sofar F6 = 0
 
 -- x is the count of a thread that stands at s; of a thread without an operation nothing is said
 abbrev pub Agrees : Stage → ℕ → Type 0
@@ -99,6 +105,22 @@ pick-goes : (b : Bool) (o p : Acted) (x k : ℕ) → Goes o x k → Goes p x k �
 pick-goes true o p x k g h = g
 pick-goes false o p x k g h = h
 
+pick-threads : (m : Machine) (b : Bool) (x y : Machine) → x .threads ≡ m .threads → y .threads ≡ m .threads → pick b x y .threads ≡ m .threads
+pick-threads m true x y g h = g
+pick-threads m false x y g h = h
+
+-- a fence leaves the threads
+fence-head : (m : Machine) (k j : ℕ) → fence m k (ofHead j) .threads ≡ m .threads
+fence-head m k j = pick-threads m (has (overAt m (ofHead j)) k) m (keeping m (ofHead j) (flushed m k) (overAfter m k (ofHead j))) refl refl
+
+fence-node : (m : Machine) (k i : ℕ) → fence m k (ofNode i) .threads ≡ m .threads
+fence-node m k i = pick-threads m (has (overAt m (ofNode i)) k) m (keeping m (ofNode i) (flushed m k) (overAfter m k (ofNode i))) refl refl
+
+-- and the thread goes on to step s behind it, which counts
+fenced : (m a : Machine) (l : Line) (k x n : ℕ) (s : Stage) → a .threads ≡ m .threads → k < length (m .threads) → stageOf n ≡ s → x + 1 ≡ sofar s
+    → Goes (acted Taken (putThread a k (atStep (thread a k) n)) (aFence k l)) x k
+fenced m a l k x n s t h e q = moves a k (atStep (thread a k) n) (aFence k l) x s (omega (arith, h, ap length t)) e q
+
 pub step-own : (m : Machine) (k x : ℕ) (s : Stage) → stage m k ≡ s → k < length (m .threads) → x ≡ sofar s → Goes (stepped m k s) x k
 step-own m k x noStep e h q = (λ z. false-true z, inl e)
 step-own m k x A1 e h q =
@@ -136,7 +158,7 @@ step-own m k x A9 e h q =
     moves (putNode m i (withLinked (node m i) 1)) k (atStep (thread m k) 10) (aStore (ofNode i)) x A10 h refl (omega (arith, q))
 step-own m k x A10 e h q =
     let l = ofNode (thread m k .node) in
-    moves (persist m l) k (atStep (thread m k) 11) (aPersist l) x A11 h refl (omega (arith, q))
+    moves (flush m k l) k (atStep (thread m k) 22) (aFlush k l) x F10 h refl (omega (arith, q))
 step-own m k x A11 e h q =
     let m′ = pick (eqb (m .tail) (thread m k .tail)) (putTail m (thread m k .node)) m in
     leaves Done (released m′ k (m′ .n)) k (thread m′ k .held) nothing x (omega (arith, q))
@@ -154,7 +176,7 @@ step-own m k x D2 e h q = by (eqb (node m (thread m k .head) .next) none) (perDe
     by false d = moves m k (atStep (readNext (thread m k) (node m (thread m k .head) .next)) 16) nothing x D4 h refl (omega (arith, q))
 step-own m k x D3 e h q =
     let l = ofHead (ownHead m k) in
-    leaves Empty (released (persist m l) k (m .n)) k (thread m k .held) (aPersist l) x (omega (arith, q))
+    moves (flush m k l) k (atStep (thread m k) 23) (aFlush k l) x F3 h refl (omega (arith, q))
 step-own m k x D4 e h q =
     let y = thread m k .next in
     let d = perDesk (m .form) in
@@ -170,10 +192,19 @@ step-own m k x D5 e h q = by (perDesk (m .form))
     by : (d : Bool) → Goes (moving m k (readItem (thread m k) (node m (thread m k .next) .item)) (pick d (number S6) (number D6))) x k
     by true = moves m k (atStep (readItem (thread m k) (node m (thread m k .next) .item)) 21) nothing x S6 h refl (omega (arith, q))
     by false = moves m k (atStep (readItem (thread m k) (node m (thread m k .next) .item)) 18) nothing x D6 h refl (omega (arith, q))
-step-own m k x D6 e h q = let l = ofHead (ownHead m k) in moves (persist m l) k (atStep (thread m k) 19) (aPersist l) x D7 h refl (omega (arith, q))
+step-own m k x D6 e h q = let l = ofHead (ownHead m k) in moves (flush m k l) k (atStep (thread m k) 24) (aFlush k l) x F6 h refl (omega (arith, q))
 step-own m k x D7 e h q = leaves (Item (thread m k .item)) (released (retiredHeld m k) k (retiredHeld m k .n)) k (thread m k .head) nothing x (omega (arith, q))
 step-own m k x S3 e h q = moves (putHeadAt m k (node m (thread m k .head) .index)) k (atStep (thread m k) 15) (aStore (ofHead k)) x D3 h refl (omega (arith, q))
 step-own m k x S6 e h q = moves (putHeadAt m k (node m (thread m k .next) .index)) k (atStep (thread m k) 18) (aStore (ofHead k)) x D6 h refl (omega (arith, q))
+step-own m k x F10 e h q =
+    let l = ofNode (thread m k .node) in
+    fenced m (fence m k l) l k x 11 A11 (fence-node m k (thread m k .node)) h refl (omega (arith, q))
+step-own m k x F3 e h q =
+    let l = ofHead (ownHead m k) in
+    leaves Empty (released (fence m k l) k (fence m k l .n)) k (thread (fence m k l) k .held) (aFence k l) x (omega (arith, q))
+step-own m k x F6 e h q =
+    let l = ofHead (ownHead m k) in
+    fenced m (fence m k l) l k x 19 D7 (fence-head m k (ownHead m k)) h refl (omega (arith, q))
 
 -- ---- a step and the other threads
 
@@ -197,10 +228,6 @@ left-spares m m′ k c x e = inr (idleThread x, ap (λ (ts : List Thread). set t
 pick-spares : (m : Machine) (k : ℕ) (b : Bool) (o p : Acted) → Spares m k (o .machine) → Spares m k (p .machine) → Spares m k (pick b o p .machine)
 pick-spares m k true o p g h = g
 pick-spares m k false o p g h = h
-
-pick-threads : (m : Machine) (b : Bool) (x y : Machine) → x .threads ≡ m .threads → y .threads ≡ m .threads → pick b x y .threads ≡ m .threads
-pick-threads m true x y g h = g
-pick-threads m false x y g h = h
 
 retired-threads : (m : Machine) (k x : ℕ) → retired m k x .threads ≡ m .threads
 unfolding retired
@@ -238,7 +265,7 @@ step-spares m k A12 = by (eqb (m .tail) (thread m k .tail))
     by false = inr (_, refl)
 step-spares m k D1 = inr (_, refl)
 step-spares m k D2 = inr (_, refl)
-step-spares m k D3 = left-spares m (persist m (ofHead (ownHead m k))) k (m .n) (thread m k .held) refl
+step-spares m k D3 = inr (_, refl)
 step-spares m k D4 =
     let y = thread m k .next in
     let d = perDesk (m .form) in
@@ -253,3 +280,14 @@ step-spares m k D7 =
     (pick-threads m (eqb (thread m k .held) none) m (retired m k (thread m k .held)) refl (retired-threads m k (thread m k .held)))
 step-spares m k S3 = inr (_, refl)
 step-spares m k S6 = inr (_, refl)
+step-spares m k F10 =
+    let a = fence m k (ofNode (thread m k .node)) in
+    let v = atStep (thread a k) 11 in
+    inr (v, ap (λ (ts : List Thread). set ts k v) (fence-node m k (thread m k .node)))
+step-spares m k F3 =
+    let a = fence m k (ofHead (ownHead m k)) in
+    left-spares m a k (a .n) (thread a k .held) (fence-head m k (ownHead m k))
+step-spares m k F6 =
+    let a = fence m k (ofHead (ownHead m k)) in
+    let v = atStep (thread a k) 19 in
+    inr (v, ap (λ (ts : List Thread). set ts k v) (fence-head m k (ownHead m k)))

@@ -32,11 +32,11 @@ crash = record { kind = 5; number = 0; item = 0 }
 
 -- two nodes, one thread: an enqueue, a crash, a dequeue, an enqueue that finds no free node, a dequeue that finds no item
 abbrev pub four : List Event
-four = enqueue 7 ∷ stepping 11 ++ (crash ∷ dequeue ∷ stepping 6 ++ (enqueue 8 ∷ stepping 1 ++ (dequeue ∷ stepping 3)))
+four = enqueue 7 ∷ stepping 12 ++ (crash ∷ dequeue ∷ stepping 7 ++ (enqueue 8 ∷ stepping 1 ++ (dequeue ∷ stepping 4)))
 
 -- the same on the machine of #101, where each thread has a head line: a dequeue has a step more
 abbrev pub fourDesks : List Event
-fourDesks = enqueue 7 ∷ stepping 11 ++ (crash ∷ dequeue ∷ stepping 7 ++ (enqueue 8 ∷ stepping 1 ++ (dequeue ∷ stepping 4)))
+fourDesks = enqueue 7 ∷ stepping 12 ++ (crash ∷ dequeue ∷ stepping 8 ++ (enqueue 8 ∷ stepping 1 ++ (dequeue ∷ stepping 5)))
 
 abbrev pub desks : Machine
 desks = startOf (record { form = 4; n = 2; t = 1; heads = noHeads; nodes = noContents }) 1
@@ -48,7 +48,7 @@ worn = startOf (record { form = 1; n = 2; t = 0; heads = set noHeads 0 (topOf 1)
 abbrev pub by0 : (ℕ → Machine → Event → Touch) → Machine → List Event → List Answered
 by0 touches m l = answeredBy touches 0 m (λ k. 0) l
 
--- a machine that persists at A9 already, and again at A10; and one that persists nowhere
+-- a machine that persists at A9 already, and again behind A10; and one that persists nowhere
 abbrev pub twice : ℕ → Machine → Event → Touch
 twice p m e = pick (eqb (thread m (e .number) .step) (number A9)) (aPersist (ofNode (thread m (e .number) .node))) (touchOf p m e)
 

@@ -15,17 +15,19 @@ use Rattle.machine.specs.declared.Machine.{Machine}
 use Rattle.machine.specs.declared.Event.{Event}
 use Rattle.machine.specs.declared.Acted.{Acted}
 use Rattle.machine.specs.declared.Touch.{Touch}
-use Rattle.machine.specs.declared.Touch.the-variants.{Nothing as nothing, Store as aStore, Persist as aPersist}
+use Rattle.machine.specs.declared.Touch.the-variants.{Nothing as nothing, Store as aStore, Persist as aPersist, Flush as aFlush, Fence as aFence}
 use Rattle.schedule.specs.Layout.{scheduleIn, eventsIn}
 use Rattle.schedule.specs.declared.Schedule.{Schedule}
 
 -- ---- persisting steps
 
--- what a step adds to its thread's count, by what it touched: 1 where it persisted a line
+-- what a step adds to its thread's count, by what it touched: 1 where it persisted a line; #104: "#103 then counts fences"
 abbrev pub counts : Touch → ℕ
 counts nothing = 0
 counts (aStore l) = 0
 counts (aPersist l) = 1
+counts (aFlush t l) = 0
+counts (aFence t l) = 1
 
 -- what event e, at place p of a run, touches on machine m
 abbrev pub touchOf : ℕ → Machine → Event → Touch

@@ -60,6 +60,7 @@ module _ (g : Image) (t : ℕ) (G : recovery.Image) (r : ImageT g t G) (dm : dum
     times = λ l h i z. subst (λ i. starts G .past (lineShown l) (suc i) ≡ shownContent (cachedAt (getD (startOf g t ∷ []) i blankMachine) l)) (sym (first i z)) (shown-cached _ _ _ d l h);
     from = λ l h. inr (refl, refl);
     early = λ l. omega arith;
+    marks = λ u. inr (refl, refl);
   }
     where
       first : (i : ℕ) → i < 1 → i ≡ 0

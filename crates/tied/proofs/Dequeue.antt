@@ -11,24 +11,29 @@ use Rattle.image.specs.declared.Content.{Content}
 use Rattle.image.specs.Form.{topOf, perDesk, headLines}
 use Rattle.image.proofs.HeadLaws.{lines-some}
 use Rattle.tied.specs.Memory as memory
-use Rattle.machine.specs.Record.{node, thread, atStep, readHead, readNext, readItem, putHead, putHeadNode, headAt}
-use Rattle.machine.specs.Line.{shapeOf, ownHead}
-use Rattle.machine.specs.Stage.{Stage, stage, D1, D2, D3, D4, D5, D6, D7, S3, S6, number}
-use Rattle.machine.specs.Retire.{moving, going, storing}
+use Rattle.machine.specs.Record.{node, thread, atStep, readHead, readNext, readItem, putHead, putHeadNode, headAt, flushed}
+use Rattle.machine.specs.Line.{shapeOf, ownHead, putLine, overAt, keeping}
+use Rattle.machine.specs.Flush.{overAfter}
+use Rattle.lists.specs.Word.{has}
+use Rattle.answer.specs.declared.Answer.the-variants.{Empty}
+use Rattle.moments.proofs.Flushes.{held}
+use Rattle.machine.specs.Stage.{Stage, stage, D1, D2, D3, D4, D5, D6, D7, S3, S6, F3, F6, number}
+use Rattle.machine.specs.Retire.{moving, going, storing, answering}
 use Rattle.machine.specs.Event.{stepped}
 use Rattle.machine.specs.declared.Machine.{Machine}
 use Rattle.machine.proofs.StageLaws.{step-number}
 use Rattle.model.specs.Lines.{ofHead}
 use Rattle.model.specs.Conf.{lineIx, lineOf, headTouch, sameHead}
-use Rattle.model.specs.Core.{Core, d2, d4, d6, s6}
-use Rattle.model.specs.Steps.{step, stepD2, stepD3, stepD4, stepD6, emptyTo, itemTo}
+use Rattle.model.specs.Core.{Core, d2, d4, d6, d7, s6}
+use Rattle.model.specs.Changes.{setTh}
+use Rattle.model.specs.Steps.{step, stepD2, stepD3, stepD4, stepD6, emptyTo, itemTo, leave}
 use Rattle.model.specs.Always.{InRange}
 use Rattle.tied.specs.Shown.{linkIf, threadOf, engineIf}
 use Rattle.tied.proofs.Engines.{lines-split, line-of}
-use Rattle.tied.proofs.Relation.{lastIn, step-in, Regs, Tied}
-use Rattle.tied.proofs.Changes.{moveT, headT, headNodeT, markT, persistT, count-n}
+use Rattle.tied.proofs.Relation.{stepIn, step-in, fence-in, store-in, desk-step, Regs, Tied}
+use Rattle.tied.proofs.Changes.{moveT, headT, headNodeT, markT, flushT, fenceT, count-n}
 use Rattle.tied.proofs.Retiring.{retireT}
-use Rattle.tied.proofs.Stepping.{Touches, StepT, engine-is, mode-is, regs-of, seen, own-seen, goes-on, leavesT, used}
+use Rattle.tied.proofs.Stepping.{Touches, StepT, engine-is, mode-is, regs-of, seen, own-seen, goes-to, goes-on, leavesT, used}
 
 -- what D4 compares, by the engine
 same-test : (e a b : Bool) → sameHead (engineIf e) a b ≡ both a (pick e true b)
@@ -36,17 +41,6 @@ same-test true true b = refl
 same-test true false b = refl
 same-test false true b = refl
 same-test false false b = refl
-
--- a step number beyond D7's is one of #101's
-desk-step : (f s : ℕ) → s ≤ lastIn f → 19 < s → perDesk f ≡ true
-desk-step f s = by (perDesk f)
-  where
-    by : (b : Bool) → s ≤ pick b 21 19 → 19 < s → b ≡ true
-    by true h l = refl
-    by false h l = absurd (omega arith)
-
-store-in : (f s : ℕ) → s ≤ 21 → perDesk f ≡ true → s ≤ lastIn f
-store-in f s h e = rw e h
 
 module _ (p : memory.Line → Content) (m : Machine) (c : Core) (d : Tied p m c) (r : InRange c) (k : ℕ) (hk : k < m .t) where
   -- Head's line, and that which the thread persists
@@ -94,7 +88,7 @@ module _ (p : memory.Line → Content) (m : Machine) (c : Core) (d : Tied p m c)
       low false = d .narrow 0 some-line
 
   -- the next node read
-  next-regs : thread m k .head < m .n → (s : ℕ) → s ≤ lastIn (m .form) → Regs (m .form) (m .n) (atStep (readNext (thread m k) (node m (thread m k .head) .next)) s)
+  next-regs : thread m k .head < m .n → (s : ℕ) → stepIn (m .form) s ≡ true → Regs (m .form) (m .n) (atStep (readNext (thread m k) (node m (thread m k .head) .next)) s)
   next-regs h s l = let g = regs-of p m c d k hk in
       record { step = l; node = g .node; tail = g .tail; head = g .head; next = d .nodes .at (thread m k .head) h .reach; held = g .held; index = g .index }
 
@@ -151,10 +145,19 @@ module _ (p : memory.Line → Content) (m : Machine) (c : Core) (d : Tied p m c)
 
   pub sD3 : stage m k ≡ D3 → StepT p m (stepped m k D3) (step c k (threadOf D3 (thread m k) (seen p m c d k hk)))
   sD3 e = subst (λ o. StepT p m (stepped m k D3) (stepD3 c k (thread m k .head) (seen p m c d k hk) o)) (sym (mode-is p m c d k hk)) record {
-    tied = leavesT _ _ _ (persistT p m c d (memory.ofHead (ownHead m k)) own-line) k hk;
+    tied = moveT _ _ _ (flushT p m c d k hk (memory.ofHead (ownHead m k)) own-line) k hk (atStep (thread m k) 23) _ (goes-to p m c d k hk 23 _ (fence-in (m .form) 23 (omega arith) (omega arith)) refl);
     says = refl;
-    touch = own-is;
+    touch = refl;
   }
+
+  -- "D3 answers at the fence"
+  pub sF3 : stage m k ≡ F3 → StepT p m (stepped m k F3) (step c k (threadOf F3 (thread m k) (seen p m c d k hk)))
+  sF3 e = record { tied = let l = memory.ofHead (ownHead m k) in by (has (overAt m l) k); says = refl; touch = (refl, own-is) }
+    where
+      by : (b : Bool) → let l = memory.ofHead (ownHead m k) in
+          Tied (pick b p (putLine p l (held l (flushed m k)))) (answering Empty (pick b m (keeping m l (flushed m k) (overAfter m k l))) k .machine) (leave c k)
+      by true = leavesT p m c d k hk
+      by false = leavesT _ _ _ (fenceT p m c d k hk (memory.ofHead (ownHead m k)) own-line) k hk
 
   eD4 : thread m k .next < m .n → (b e : Bool) → perDesk (m .form) ≡ e
       → StepT p m (pick b (pick e (going (putHeadNode m (thread m k .next)) k 17)
@@ -193,7 +196,7 @@ module _ (p : memory.Line → Content) (m : Machine) (c : Core) (d : Tied p m c)
       (eD4 (h .1) (both (eqb (m .head) (thread m k .head)) (pick (perDesk (m .form)) true (eqb (headAt m 0) (thread m k .index)))) (perDesk (m .form)) refl)
 
   -- the item read
-  item-regs : (s : ℕ) → s ≤ lastIn (m .form) → Regs (m .form) (m .n) (atStep (readItem (thread m k) (node m (thread m k .next) .item)) s)
+  item-regs : (s : ℕ) → stepIn (m .form) s ≡ true → Regs (m .form) (m .n) (atStep (readItem (thread m k) (node m (thread m k .next) .item)) s)
   item-regs s l = let g = regs-of p m c d k hk in record { step = l; node = g .node; tail = g .tail; head = g .head; next = g .next; held = g .held; index = g .index }
 
   eD5 : thread m k .next < m .n → (e : Bool) → perDesk (m .form) ≡ e
@@ -230,21 +233,31 @@ module _ (p : memory.Line → Content) (m : Machine) (c : Core) (d : Tied p m c)
 
   pub sD6 : stage m k ≡ D6 → StepT p m (stepped m k D6) (step c k (threadOf D6 (thread m k) (seen p m c d k hk)))
   sD6 e = subst (λ o. StepT p m (stepped m k D6) (stepD6 c k (thread m k .head) (thread m k .item) o)) (sym (mode-is p m c d k hk)) record {
-    tied = moveT _ _ _ (persistT p m c d (memory.ofHead (ownHead m k)) own-line) k hk (atStep (thread m k) 19) _ (goes-on p m c d k hk 19 _ (omega arith) refl);
+    tied = moveT _ _ _ (flushT p m c d k hk (memory.ofHead (ownHead m k)) own-line) k hk (atStep (thread m k) 24) _ (goes-to p m c d k hk 24 _ (fence-in (m .form) 24 (omega arith) (omega arith)) refl);
     says = refl;
-    touch = own-is;
+    touch = refl;
   }
+
+  pub sF6 : stage m k ≡ F6 → StepT p m (stepped m k F6) (step c k (threadOf F6 (thread m k) (seen p m c d k hk)))
+  sF6 e = record { tied = let l = memory.ofHead (ownHead m k) in by (has (overAt m l) k); says = refl; touch = (refl, own-is) }
+    where
+      by : (b : Bool) → let l = memory.ofHead (ownHead m k) in
+          Tied (pick b p (putLine p l (held l (flushed m k)))) (going (pick b m (keeping m l (flushed m k) (overAfter m k l))) k 19 .machine) (setTh c k (d7 (thread m k .head) (thread m k .item)))
+      by true = moveT p m c d k hk (atStep (thread m k) 19) _ (goes-on p m c d k hk 19 _ (omega arith) refl)
+      by false = moveT _ _ _ (fenceT p m c d k hk (memory.ofHead (ownHead m k)) own-line) k hk (atStep (thread m k) 19) _ (goes-on p m c d k hk 19 _ (omega arith) refl)
 
   pub sD7 : stage m k ≡ D7 → StepT p m (stepped m k D7) (step c k (threadOf D7 (thread m k) (seen p m c d k hk)))
   sD7 e = let h = used p m c d k hk r D7 e in record { tied = retireT p m c d k hk (thread m k .head) h; says = refl; touch = tt }
 
   -- a thread at S3 or S6 is one of #101's
-  at-store : (s : Stage) → 19 < number s → stage m k ≡ s → perDesk (m .form) ≡ true
-  at-store s h e = desk-step (m .form) (thread m k .step) (regs-of p m c d k hk .step) (omega (arith, step-number (thread m k .step) s e (omega arith)))
+  at-store : (s : Stage) → 19 < number s → number s ≤ 21 → stage m k ≡ s → perDesk (m .form) ≡ true
+  at-store s h g e =
+      let n = step-number (thread m k .step) s e (omega arith) in
+      desk-step (m .form) (thread m k .step) (regs-of p m c d k hk .step) (omega (arith, n)) (omega (arith, n))
 
   pub sS3 : stage m k ≡ S3 → StepT p m (stepped m k S3) (step c k (threadOf S3 (thread m k) (seen p m c d k hk)))
   sS3 e = let x = d .nodes .at (thread m k .head) (used p m c d k hk r S3 e) in record {
-    tied = moveT p _ _ (markT p m c d (at-store S3 (omega arith) e) k hk (node m (thread m k .head) .index) (c .node (thread m k .head) .index) (ap (λ z. z .index) (x .content)) (x .narrow))
+    tied = moveT p _ _ (markT p m c d (at-store S3 (omega arith) (omega arith) e) k hk (node m (thread m k .head) .index) (c .node (thread m k .head) .index) (ap (λ z. z .index) (x .content)) (x .narrow))
         k hk (atStep (thread m k) 15) _ (goes-on p m c d k hk 15 _ (omega arith) refl);
     says = refl;
     touch = refl;
@@ -252,7 +265,7 @@ module _ (p : memory.Line → Content) (m : Machine) (c : Core) (d : Tied p m c)
 
   pub sS6 : stage m k ≡ S6 → StepT p m (stepped m k S6) (step c k (threadOf S6 (thread m k) (seen p m c d k hk)))
   sS6 e = let x = d .nodes .at (thread m k .next) (used p m c d k hk r S6 e .1) in record {
-    tied = moveT p _ _ (markT p m c d (at-store S6 (omega arith) e) k hk (node m (thread m k .next) .index) (c .node (thread m k .next) .index) (ap (λ z. z .index) (x .content)) (x .narrow))
+    tied = moveT p _ _ (markT p m c d (at-store S6 (omega arith) (omega arith) e) k hk (node m (thread m k .next) .index) (c .node (thread m k .next) .index) (ap (λ z. z .index) (x .content)) (x .narrow))
         k hk (atStep (thread m k) 18) _ (goes-on p m c d k hk 18 _ (omega arith) refl);
     says = refl;
     touch = refl;

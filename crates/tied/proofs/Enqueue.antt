@@ -18,9 +18,10 @@ use Rattle.image.specs.declared.Content.{Content}
 use Rattle.tied.specs.Memory as memory
 use Rattle.image.specs.Form.{topOf}
 use Rattle.machine.specs.Record as rec
-use Rattle.machine.specs.Record.{node, thread, atStep, ownNode, readTail, putNode, putTail, putFree}
-use Rattle.machine.specs.Line.{persist}
-use Rattle.machine.specs.Stage.{stage, A1, A2, A3, A4, A5, A6, A7, A8, A9, A10, A11, A12}
+use Rattle.machine.specs.Record.{node, thread, atStep, ownNode, readTail, putNode, putTail, putFree, flushed}
+use Rattle.machine.specs.Line.{putLine, overAt, keeping}
+use Rattle.machine.specs.Flush.{overAfter}
+use Rattle.machine.specs.Stage.{stage, A1, A2, A3, A4, A5, A6, A7, A8, A9, A10, A11, A12, F10}
 use Rattle.machine.specs.Retire as retire
 use Rattle.machine.specs.Retire.{moving, going, answering, storing, nextFree, handOut}
 use Rattle.machine.specs.Event.{stepped}
@@ -28,16 +29,16 @@ use Rattle.machine.specs.declared.Machine.{Machine}
 use Rattle.model.specs.Basics.{upd}
 use Rattle.model.specs.Core as core
 use Rattle.model.specs.Core.{Core, a1, a2, a3, a4, a5, a6, a7, a8, a9, a10, a11, a12}
-use Rattle.model.specs.Changes.{setNext, setFree, setTail, store}
+use Rattle.model.specs.Changes.{setTh, setNext, setFree, setTail, store}
 use Rattle.model.specs.Choice.{rotation, roundTable}
 use Rattle.model.specs.Steps.{step, stepA1, stepA6, stepA7, stepA8, stepA10, stepA11, stepA12}
 use Rattle.model.specs.Always.{ThIn, InRange}
 use Rattle.model.proofs.Basics.{le-true, not-le, true→eq, eq-no, yes-of}
 use Rattle.tied.specs.Shown.{linkIf, linkOf, threadOf, shownThread}
-use Rattle.tied.proofs.Relation.{Link, step-in, Regs, ThreadAt, FreeT, Tied}
-use Rattle.tied.proofs.Changes.{some-link, withT, withoutT, moveT, storeT, linkT, tailT, freeT, persistT, count-n}
+use Rattle.tied.proofs.Relation.{Link, step-in, fence-in, Regs, ThreadAt, FreeT, Tied}
+use Rattle.tied.proofs.Changes.{some-link, withT, withoutT, moveT, storeT, linkT, tailT, freeT, flushT, fenceT, count-n}
 use Rattle.tied.proofs.Searches.{low-in, round-same, round-link}
-use Rattle.tied.proofs.Stepping.{StepT, link-in, link-is, lastT, regs-of, seen, own-seen, goes-on, leavesT, used, mode-is}
+use Rattle.tied.proofs.Stepping.{StepT, link-in, link-is, lastT, regs-of, seen, own-seen, goes-to, goes-on, leavesT, used, mode-is}
 
 module _ (p : memory.Line → Content) (m : Machine) (c : Core) (d : Tied p m c) (r : InRange c) (k : ℕ) (hk : k < m .t) where
   last-in : m .last < m .n
@@ -69,7 +70,7 @@ module _ (p : memory.Line → Content) (m : Machine) (c : Core) (d : Tied p m c)
           own = own-seen p m c d k hk;
           stage = refl;
           holds = d .threads .at k hk .holds;
-          regs = let g = regs-of p m c d k hk in record { step = step-in (m .form) _ (omega arith); node = inl (next-in e); tail = g .tail; head = g .head; next = g .next; held = g .held; index = g .index };
+          regs = let g = regs-of p m c d k hk in record { step = step-in (m .form) 2 (omega arith); node = inl (next-in e); tail = g .tail; head = g .head; next = g .next; held = g .held; index = g .index };
         });
     says = refl;
     touch = tt;
@@ -111,7 +112,7 @@ module _ (p : memory.Line → Content) (m : Machine) (c : Core) (d : Tied p m c)
           own = own-seen p m c d k hk;
           stage = ap (a6 (thread m k .item) (thread m k .node)) (d .tail);
           holds = d .threads .at k hk .holds;
-          regs = let g = regs-of p m c d k hk in record { step = step-in (m .form) _ (omega arith); node = g .node; tail = inl (omega (arith, r .tail, d .tail, count-n p m c d)); head = g .head; next = g .next; held = g .held; index = g .index };
+          regs = let g = regs-of p m c d k hk in record { step = step-in (m .form) 6 (omega arith); node = g .node; tail = inl (omega (arith, r .tail, d .tail, count-n p m c d)); head = g .head; next = g .next; held = g .held; index = g .index };
         });
     says = refl;
     touch = tt;
@@ -186,10 +187,19 @@ module _ (p : memory.Line → Content) (m : Machine) (c : Core) (d : Tied p m c)
   sA10 e = let h = used p m c d k hk r A10 e in
       subst (λ o. StepT p m (stepped m k A10) (stepA10 c k (thread m k .item) (thread m k .node) (thread m k .tail) o))
       (sym (mode-is p m c d k hk)) record {
-        tied = moveT _ _ _ (persistT p m c d (memory.ofNode (thread m k .node)) (h .0)) k hk (atStep (thread m k) 11) _ (goes-on p m c d k hk 11 _ (omega arith) refl);
+        tied = moveT _ _ _ (flushT p m c d k hk (memory.ofNode (thread m k .node)) (h .0)) k hk (atStep (thread m k) 22) _ (goes-to p m c d k hk 22 _ (fence-in (m .form) 22 (omega arith) (omega arith)) refl);
         says = refl;
         touch = refl;
       }
+
+  -- its fence, by whether it finds something later
+  pub sF10 : stage m k ≡ F10 → StepT p m (stepped m k F10) (step c k (threadOf F10 (thread m k) (seen p m c d k hk)))
+  sF10 e = record { tied = let l = memory.ofNode (thread m k .node) in by (has (overAt m l) k); says = refl; touch = (refl, refl) }
+    where
+      by : (b : Bool) → let l = memory.ofNode (thread m k .node) in
+          Tied (pick b p (putLine p l (flushed m k))) (going (pick b m (keeping m l (flushed m k) (overAfter m k l))) k 11 .machine) (setTh c k (a11 (thread m k .item) (thread m k .node) (thread m k .tail)))
+      by true = moveT p m c d k hk (atStep (thread m k) 11) _ (goes-on p m c d k hk 11 _ (omega arith) refl)
+      by false = moveT _ _ _ (fenceT p m c d k hk (memory.ofNode (thread m k .node)) (used p m c d k hk r F10 e .0)) k hk (atStep (thread m k) 11) _ (goes-on p m c d k hk 11 _ (omega arith) refl)
 
   eA11 : (b : Bool) → StepT p m (answering Done (pick b (putTail m (thread m k .node)) m) k) (stepA11 c k (thread m k .node) b)
   eA11 true = record { tied = leavesT p _ _ (tailT p m c d (thread m k .node) (thread m k .node) refl) k hk; says = refl; touch = tt }

@@ -83,6 +83,7 @@ releasedAtT p m c d k hk i hi = record {
   heads = d .heads;
   narrow = d .narrow;
   eight = d .eight;
+  flushes = d .flushes;
   tail = d .tail;
   threads = d .threads;
   kept = d .kept;
@@ -165,6 +166,7 @@ module _ (p : memory.Line → Content) (m : Machine) (c : Core) (d : Tied p m c)
     heads = s .heads;
     narrow = s .narrow;
     eight = s .eight;
+    flushes = s .flushes;
     tail = s .tail;
     last = s .last;
     nodes = s .nodes;
@@ -176,7 +178,7 @@ module _ (p : memory.Line → Content) (m : Machine) (c : Core) (d : Tied p m c)
           own = λ e. refl;
           stage = upd-same (c .thr) k idle;
           holds = e;
-          regs = record { step = step-in _ 0 (omega arith); node = inr refl; tail = inr refl; head = inr refl; next = inr refl; held = subst (λ n. Link n x) (sym en) lx; index = omega arith };
+          regs = record { step = step-in (released m k (m .n) .form) 0 (omega arith); node = inr refl; tail = inr refl; head = inr refl; next = inr refl; held = subst (λ n. Link n x) (sym en) lx; index = omega arith };
         }) (λ j ne. upd-other (c .thr) k idle ne) same;
   }
     where

@@ -12,7 +12,7 @@ use Rattle.lists.proofs.BoolLaws.{no-way}
 use Rattle.image.specs.declared.Content.{Content}
 use Rattle.tied.specs.Memory as memory
 use Rattle.machine.specs.Record.{node, thread}
-use Rattle.machine.specs.Stage.{Stage, noStep, A1, A2, A3, A4, A5, A6, A7, A8, A9, A10, A11, A12, D1, D2, D3, D4, D5, D6, D7, S3, S6, stage, enqueueOwns, dequeueOwns}
+use Rattle.machine.specs.Stage.{Stage, noStep, A1, A2, A3, A4, A5, A6, A7, A8, A9, A10, A11, A12, D1, D2, D3, D4, D5, D6, D7, S3, S6, F10, F3, F6, stage, enqueueOwns, dequeueOwns}
 use Rattle.machine.specs.Place as place
 use Rattle.machine.specs.Place.{reached, placed}
 use Rattle.machine.specs.declared.Machine.{Machine}
@@ -100,6 +100,9 @@ enq-test i v x D6 = refl
 enq-test i v x D7 = refl
 enq-test i v x S3 = refl
 enq-test i v x S6 = refl
+enq-test i v x F10 = refl
+enq-test i v x F3 = refl
+enq-test i v x F6 = refl
 
 deq-test : (i : ℕ) (v : Thread) (x : ℕ) (s : Stage) → isIt i (ownsD (threadOf s v x)) ≡ both (dequeueOwns s) (eqb (v .head) i)
 deq-test i v x noStep = refl
@@ -124,6 +127,9 @@ deq-test i v x D6 = refl
 deq-test i v x D7 = refl
 deq-test i v x S3 = refl
 deq-test i v x S6 = refl
+deq-test i v x F10 = refl
+deq-test i v x F3 = refl
+deq-test i v x F6 = refl
 
 nil-test : (t w : ℕ) → w < 2 ^ t → isNil (members t w) ≡ eqb w 0
 nil-test t w l = by (members t w) refl

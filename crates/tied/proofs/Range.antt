@@ -14,8 +14,8 @@ use Rattle.tied.specs.Memory as memory
 use Rattle.image.specs.Form.{topOf, headLines}
 use Rattle.machine.specs.Line.{shapeOf}
 use Rattle.machine.specs.Record.{node, kept, thread}
-use Rattle.machine.specs.Stage.{Stage, noStep, A1, A2, A3, A4, A5, A6, A7, A8, A9, A10, A11, A12, D1, D2, D3, D4, D5, D6, D7, S3, S6, own, t, theHead, theNext, uses, lastStep, stage, stageOf}
-use Rattle.machine.specs.Range.{isNode, isLink, readFits, nextFits, nodeFits, threadFits, rangesFit, headFits, indexFits, formFits, inRange}
+use Rattle.machine.specs.Stage.{Stage, noStep, A1, A2, A3, A4, A5, A6, A7, A8, A9, A10, A11, A12, D1, D2, D3, D4, D5, D6, D7, S3, S6, F10, F3, F6, own, t, theHead, theNext, uses, stage, stageOf}
+use Rattle.machine.specs.Range.{isNode, isLink, readFits, nextFits, nodeFits, threadFits, rangesFit, headFits, indexFits, formFits, flushFits, flushesFit, inRange}
 use Rattle.machine.specs.declared.Machine.{Machine}
 use Rattle.machine.specs.declared.Thread.{Thread}
 use Rattle.model.specs.Core.{Core}
@@ -62,6 +62,9 @@ module _ (m : Machine) (v : Thread) (next : ℕ → Option ℕ) (g : Regs (m .fo
   reads D7 u = (is-link m _ (g .node), is-link m _ (g .tail), is-node m _ (u), is-link m _ (g .next))
   reads S3 u = (is-link m _ (g .node), is-link m _ (g .tail), is-node m _ (u), is-link m _ (g .next))
   reads S6 u = (is-link m _ (g .node), is-link m _ (g .tail), is-link m _ (g .head), is-node m _ (u .1))
+  reads F10 u = (is-node m _ (u .0), is-link m _ (g .tail), is-link m _ (g .head), is-link m _ (g .next))
+  reads F3 u = (is-link m _ (g .node), is-link m _ (g .tail), is-link m _ (g .head), is-link m _ (g .next))
+  reads F6 u = (is-link m _ (g .node), is-link m _ (g .tail), is-link m _ (g .head), is-link m _ (g .next))
 
 module _ (p : memory.Line → Content) (m : Machine) (c : Core) (d : Tied p m c) (r : InRange c) where
   node-fits : (i : ℕ) → i < m .n → nodeFits m i ≡ true
@@ -89,7 +92,7 @@ module _ (p : memory.Line → Content) (m : Machine) (c : Core) (d : Tied p m c)
     thread-fits =
         let g = d .threads .at k hk .regs in
         let q = reads m (thread m k) (c .next) g (seen p m c d k hk) (stage m k) (used p m c d k hk r (stage m k) refl) in
-        both-of _ _ (le-true _ (lastStep m) (g .step))
+        both-of _ _ (g .step)
         (both-of _ _ (q .0) (both-of _ _ (q .1) (both-of _ _ (q .2) (both-of _ _ (q .3) (both-of _ _ (is-link m _ (g .held)) (next-fits _ refl))))))
 
   -- N, T, and every number of a node, a line, a thread or a step
@@ -119,6 +122,18 @@ module _ (p : memory.Line → Content) (m : Machine) (c : Core) (d : Tied p m c)
       (both-of _ _ (ap not (any-none _ (m .n) (λ i h. ap not (node-index i h))))
       (ap not (any-none _ (m .t) (λ k h. ap not (le-true _ _ (d .threads .at k h .regs .index)))))))
 
+  -- what the threads have flushed, and the sets of threads
+  flush-fits : (k : ℕ) → k < m .t → flushFits m k ≡ true
+  unfolding flushFits
+  flush-fits k h = both-of _ _ (le-true _ 1 (d .flushes .flag k h)) (both-of _ _ (le-true _ _ (d .flushes .narrow k h)) (lt-true _ _ (d .flushes .late k h)))
+
+  flushes-fit : flushesFit m ≡ true
+  unfolding flushesFit
+  flushes-fit =
+      both-of _ _ (ap not (any-none _ (m .t) (λ k h. ap not (flush-fits k h))))
+      (both-of _ _ (ap not (any-none _ (headLines (shapeOf m)) (λ k h. ap not (lt-true _ _ (d .flushes .heads k h)))))
+      (ap not (any-none _ (m .n) (λ i h. ap not (lt-true _ _ (d .flushes .nodes i h))))))
+
   pub tied-in-range : inRange m ≡ true
   unfolding inRange
-  tied-in-range = both-of _ _ ranges-fit form-fits
+  tied-in-range = both-of _ _ ranges-fit (both-of _ _ form-fits flushes-fit)

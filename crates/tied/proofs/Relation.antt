@@ -7,6 +7,8 @@ use mathlib.Core.Option.{Option}
 use Prim.Native.Nat.{ℕ, suc, _^_, _≤_, _<_}
 use native.Mathlib.Omega.{arith}
 use native.Mathlib.Decide.{ℕ-discrete}
+use borrow.Author.Tests.{le-leb, lt-leb}
+use lib.Dec.{leb}
 use lib.ListN.{length, getD, set, length-set}
 use lib.Seq.{getD-set-same, getD-set-other}
 use Rattle.lists.specs.Find.{pick}
@@ -15,7 +17,7 @@ use Rattle.image.specs.declared.Content.{Content}
 use Rattle.image.specs.Form.{known, topOf, perDesk, headLines}
 use Rattle.image.specs.Layout.{noContent}
 use Rattle.machine.specs.Record.{zeroNode, zeroThread, headAt, contentOf}
-use Rattle.machine.specs.Stage.{D7, S6, number}
+use Rattle.machine.specs.Stage.{D7, S6, F6, number}
 use Rattle.machine.specs.Line.{putLine, headContent, shapeOf}
 use Rattle.machine.specs.declared.Line.{Line}
 use Rattle.machine.specs.declared.Line.the-variants.{OfHead as ofHead, OfNode as ofNode}
@@ -68,20 +70,30 @@ pub record FreeT (n w : ℕ) (f : ℕ → Bool) : Type 0 where
 
 -- ---- a thread of a machine in form f
 
--- the largest step number that it has
-abbrev pub lastIn : ℕ → ℕ
-lastIn f = pick (perDesk f) (number S6) (number D7)
+-- it has a step of that number
+abbrev pub stepIn : ℕ → ℕ → Bool
+stepIn f s = pick (leb s (number D7)) true (pick (leb s (number S6)) (perDesk f) (leb s (number F6)))
 
--- D7 and all before it are in every form
-pub step-in : (f s : ℕ) → s ≤ 19 → s ≤ lastIn f
-step-in f s h = by (perDesk f)
+-- D7 and all before it are in every form, and so are the fences
+pub step-in : (f s : ℕ) → s ≤ 19 → stepIn f s ≡ true
+step-in f s h = rw (le-leb s 19 h) refl
+
+pub fence-in : (f s : ℕ) → 21 < s → s ≤ 24 → stepIn f s ≡ true
+fence-in f s l h = rw (lt-leb s 19 (omega arith), lt-leb s 21 l) (le-leb s 24 h)
+
+-- 20 and 21 are #101's
+pub store-in : (f s : ℕ) → s ≤ 21 → perDesk f ≡ true → stepIn f s ≡ true
+store-in f s h e = by (leb s 19)
   where
-    by : (b : Bool) → s ≤ pick b 21 19
-    by true = omega arith
-    by false = h
+    by : (b : Bool) → pick b true (pick (leb s 21) (perDesk f) (leb s 24)) ≡ true
+    by true = refl
+    by false = rw (le-leb s 21 h) e
+
+pub desk-step : (f s : ℕ) → stepIn f s ≡ true → 19 < s → s ≤ 21 → perDesk f ≡ true
+desk-step f s e l h = rw (lt-leb s 19 l, le-leb s 21 h) at e
 
 pub record Regs (f n : ℕ) (v : Thread) : Type 0 where
-  pub step : v .step ≤ lastIn f
+  pub step : stepIn f (v .step) ≡ true
   pub node : Link n (v .node)
   pub tail : Link n (v .tail)
   pub head : Link n (v .head)
@@ -139,6 +151,15 @@ putKepts z b n p h l r hn i hi v fl nr = record {
     by j hj (yes e) = lines.put-at p (ofNode i) v (ofNode j) (ap ofNode e) ∙ sym (getD-set-same l i v noContent (omega (arith, r .size))) ∙ ap (λ j. getD (set l i v) j noContent) (sym e)
     by j hj (no ne) = lines.put-other p (ofNode i) v (ofNode j) (λ q. ne (let w : j ≡ i = cc in w)) ∙ r .at j hj ∙ sym (getD-set-other l i j v noContent ne)
 
+-- ---- what the threads have flushed, and the sets of threads: a is who has flushed since each did, h and o who is over each line
+
+pub record FlushesT (z b n t : ℕ) (f : List Content) (a h o : List ℕ) : Type 0 where
+  pub flag : (k : ℕ) → k < t → getD f k noContent .linked ≤ 1
+  pub narrow : (k : ℕ) → k < t → getD f k noContent .index ≤ z
+  pub late : (k : ℕ) → k < t → getD a k 0 < 2 ^ t
+  pub heads : (k : ℕ) → k < b → getD h k 0 < 2 ^ t
+  pub nodes : (i : ℕ) → i < n → getD o i 0 < 2 ^ t
+
 -- ---- the whole
 
 pub record Sizes (f n t : ℕ) : Type 0 where
@@ -161,3 +182,4 @@ pub record Tied (p : Line → Content) (m : Machine) (c : Core) : Type 0 where
   pub free : FreeT (m .n) (m .free) (c .free)
   pub threads : ThreadsT (m .form) (m .n) (m .t) (m .threads) (c .thr) (c .held)
   pub kept : KeptT (topOf (m .form)) (headLines (shapeOf m)) (m .n) p (m .«kept_heads») (m .kept)
+  pub flushes : FlushesT (topOf (m .form)) (headLines (shapeOf m)) (m .n) (m .t) (m .flushed) (m .late) (m .«over_heads») (m .over)

@@ -7,7 +7,8 @@ use mathlib.Core.Option.{Option, none, some}
 use Prim.Native.Nat.{ℕ, zero, _^_, _≤_, _<_}
 use native.Mathlib.Omega.{arith}
 use native.Mathlib.Decide.{ℕ-discrete}
-use lib.Dec.{eqb, eqb-refl, ltb}
+use lib.Dec.{eqb, eqb-refl, ltb, leb}
+use borrow.Author.Tests.{leb-true}
 use lib.ListN.{length, getD}
 use Rattle.lists.specs.Find.{pick, both, any}
 use Rattle.lists.specs.Word.{has, with, wordOf}
@@ -30,7 +31,7 @@ use Rattle.model.specs.Steps.{remove, others, freed, leave, retireHeld}
 use Rattle.model.proofs.Basics.{upd-at, upd-same, upd-other, true→eq, eq-no, lt-true, yes-of}
 use Rattle.tied.specs.Shown.{linkIf, linkOf, listed, members, threadOf, shownThread}
 use Rattle.tied.proofs.Words.{word-fits, has-word, listed-same, members-zero, members-none, remove-listed, others-listed}
-use Rattle.tied.proofs.Relation.{Link, lastIn, NodeAt, putNodes, FreeT, Tied}
+use Rattle.tied.proofs.Relation.{Link, stepIn, NodeAt, putNodes, FreeT, Tied}
 use Rattle.tied.proofs.Changes.{some-link, withT, sameT, count-n, count-t}
 use Rattle.tied.proofs.Leaving.{freeAt, heldAs, leftT}
 
@@ -52,14 +53,15 @@ busy-at s v i h =
     same (busy (threadOf (stageOf s) v i)) (not (eqb s 0))
     (any-clear (λ s. pick (busy (threadOf (stageOf s) v i)) (not (not (eqb s 0))) (not (eqb s 0))) (length stages) s (busy-table v i) h)
 
-steps-few : (f s : ℕ) → s ≤ lastIn f → s < length stages
-steps-few f s = by (perDesk f)
+steps-few : (f s : ℕ) → stepIn f s ≡ true → s < length stages
+steps-few f s = by (leb s 19) refl (leb s 21) refl (perDesk f)
   where
-    by : (b : Bool) → s ≤ pick b 21 19 → s < 22
-    by true h = omega arith
-    by false h = omega arith
+    by : (x : Bool) → leb s 19 ≡ x → (y : Bool) → leb s 21 ≡ y → (b : Bool) → pick x true (pick y b (leb s 24)) ≡ true → s < 25
+    by true e y g b h = omega (arith, leb-true s 19 e)
+    by false e true g b h = omega (arith, leb-true s 21 g)
+    by false e false g b h = omega (arith, leb-true s 24 h)
 
-pub busy-shown : (f : ℕ) (v : Thread) (i : ℕ) → v .step ≤ lastIn f → busy (shownThread v i) ≡ not (eqb (v .step) 0)
+pub busy-shown : (f : ℕ) (v : Thread) (i : ℕ) → stepIn f (v .step) ≡ true → busy (shownThread v i) ≡ not (eqb (v .step) 0)
 busy-shown f v i h = busy-at (v .step) v i (steps-few f (v .step) h)
 
 pub busy-tied : (p : memory.Line → Content) (m : Machine) (c : Core) → Tied p m c → (k : ℕ) → k < m .t → busy (c .thr k) ≡ stage.busy m k
@@ -129,6 +131,7 @@ module _ (p : memory.Line → Content) (m : Machine) (c : Core) (d : Tied p m c)
     heads = d .heads;
     narrow = d .narrow;
     eight = d .eight;
+    flushes = d .flushes;
     tail = d .tail;
     threads = d .threads;
     kept = d .kept;

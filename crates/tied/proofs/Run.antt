@@ -24,6 +24,7 @@ use Rattle.machine.specs.declared.Event.{Event}
 use Rattle.machine.specs.declared.Acted.{Acted}
 use Rattle.schedule.specs.Run as schedule
 use Rattle.schedule.specs.Run.{Ran, run, andBefore, turned, begins}
+use Rattle.moments.proofs.Known.{known-start}
 use Rattle.model.specs.Core.{Ans, nothing, full, worn, empty, item}
 use Rattle.model.specs.Core as core
 use Rattle.model.specs.Machine.{answer, answers}
@@ -172,6 +173,7 @@ module _ (g : Image) (t : ℕ) (a : accepted (startAnswer g t) ≡ true) (w : Na
         tied = startedT g t (imageShown g t) i (s .dummy);
         lists = beginsT g t (imageShown g t) i (s .dummy);
         past = pastBegins (startOf g t);
+        known = known-start g t (s .sizes .threads-hi) (s .sizes .nodes-hi);
       }
 
   pub startT : (q : ℕ) (l : List Event) → RunT (shapeAt g t) q (opening (imageShown g t)) l (run q (begins (startOf g t)) l)

@@ -6,7 +6,7 @@ use mathlib.Core.Logic.{_≢_, _⊎_, inl, inr}
 use mathlib.Core.Option.{Option, none, some}
 use Prim.Native.Nat.{ℕ, zero, suc, _+_, _-_, _^_, _≤_, _<_}
 use native.Mathlib.Omega.{arith}
-use lib.Pow.{pow-pos}
+use lib.Pow.{pow-pos, pow-mono}
 use native.Mathlib.Decide.{ℕ-discrete}
 use lib.Dec.{eqb, eqb-refl, ltb}
 use lib.ListN.{getD, replicate, getD-replicate}
@@ -26,6 +26,7 @@ use Rattle.machine.specs.declared.Line.{Line}
 use Rattle.machine.specs.declared.Line.the-variants.{OfHead as ofHead, OfNode as ofNode}
 use Rattle.machine.specs.Start as machine
 use Rattle.machine.specs.Start.{startNode, spare, startWith, startOf, queueOf, behind}
+use Rattle.machine.proofs.FlushLaws.{none-set, none-flushed}
 use Rattle.model.specs.Basics.{sel, bothb, upd}
 use Rattle.model.specs.Choice.{lowest}
 use Rattle.model.specs.Conf.{lineIx}
@@ -129,6 +130,13 @@ module _ (g : Image) (t : ℕ) (G : recovery.Image) (r : ImageT g t G) where
         heads = shows (perDesk (g .form)) refl;
         narrow = λ k h. let z = below k h in subst (λ x. x ≤ topOf (g .form)) (sym (stored k z)) (r .narrow-head k z);
         eight = heads-length (imageShape g) (headIn g) (eight-lines g t G r);
+        flushes = record {
+          flag = λ k h. subst (λ (x : Content). x .linked ≤ 1) (sym (none-flushed k)) (omega arith);
+          narrow = λ k h. subst (λ (x : Content). x .index ≤ topOf (g .form)) (sym (none-flushed k)) (omega arith);
+          late = λ k h. subst (λ x. x < 2 ^ t) (sym (none-set 8 k)) some-set;
+          heads = λ k h. subst (λ x. x < 2 ^ t) (sym (none-set 8 k)) some-set;
+          nodes = λ i h. subst (λ x. x < 2 ^ t) (sym (none-set 64 i)) some-set;
+        };
         tail = last-is d (queueOf g);
         last = refl;
         nodes = record {
@@ -158,6 +166,9 @@ module _ (g : Image) (t : ℕ) (G : recovery.Image) (r : ImageT g t G) where
         };
       }
     where
+      some-set : 0 < 2 ^ t
+      some-set = pow-mono {i = 0} {j = t} (omega arith)
+
       below : (k : ℕ) → k < headLines (record { form = g .form; n = g .n; t = t }) → k < headLines (imageShape g)
       below k h = subst (λ x. k < x) (lines-at g t G r) h
 

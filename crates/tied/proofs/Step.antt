@@ -6,7 +6,7 @@ use native.Mathlib.Omega.{arith}
 use Rattle.image.specs.declared.Content.{Content}
 use Rattle.tied.specs.Memory as memory
 use Rattle.machine.specs.Record.{thread}
-use Rattle.machine.specs.Stage.{Stage, noStep, A1, A2, A3, A4, A5, A6, A7, A8, A9, A10, A11, A12, D1, D2, D3, D4, D5, D6, D7, S3, S6, stage}
+use Rattle.machine.specs.Stage.{Stage, noStep, A1, A2, A3, A4, A5, A6, A7, A8, A9, A10, A11, A12, D1, D2, D3, D4, D5, D6, D7, S3, S6, F10, F3, F6, stage}
 use Rattle.machine.specs.Event.{stepped, begun}
 use Rattle.machine.specs.declared.Machine.{Machine}
 use Rattle.model.specs.Core.{Core, a1, d1}
@@ -17,8 +17,8 @@ use Rattle.tied.specs.Shown.{threadOf}
 use Rattle.tied.proofs.Relation.{step-in, Tied}
 use Rattle.tied.proofs.Changes.{moveT}
 use Rattle.tied.proofs.Stepping.{StepT, seen}
-use Rattle.tied.proofs.Enqueue.{sA1, sA2, sA3, sA4, sA5, sA6, sA7, sA8, sA9, sA10, sA11, sA12}
-use Rattle.tied.proofs.Dequeue.{sD1, sD2, sD3, sD4, sD5, sD6, sD7, sS3, sS6}
+use Rattle.tied.proofs.Enqueue.{sA1, sA2, sA3, sA4, sA5, sA6, sA7, sA8, sA9, sA10, sA11, sA12, sF10}
+use Rattle.tied.proofs.Dequeue.{sD1, sD2, sD3, sD4, sD5, sD6, sD7, sS3, sS6, sF3, sF6}
 
 module _ (p : memory.Line → Content) (m : Machine) (c : Core) (d : Tied p m c) (r : InRange c) (k : ℕ) (hk : k < m .t) where
   stepBy : (s : Stage) → stage m k ≡ s → StepT p m (stepped m k s) (step c k (threadOf s (thread m k) (seen p m c d k hk)))
@@ -44,6 +44,9 @@ module _ (p : memory.Line → Content) (m : Machine) (c : Core) (d : Tied p m c)
   stepBy D7 e = sD7 p m c d r k hk e
   stepBy S3 e = sS3 p m c d r k hk e
   stepBy S6 e = sS6 p m c d r k hk e
+  stepBy F10 e = sF10 p m c d r k hk e
+  stepBy F3 e = sF3 p m c d r k hk e
+  stepBy F6 e = sF6 p m c d r k hk e
 
   -- a thread moves by one step
   pub stepT : StepT p m (stepped m k (stage m k)) (does c (move k))
@@ -56,7 +59,7 @@ module _ (p : memory.Line → Content) (m : Machine) (c : Core) (d : Tied p m c)
     own = λ e. refl;
     stage = refl;
     holds = d .threads .at k hk .holds;
-    regs = record { step = step-in (m .form) _ (omega arith); node = inr refl; tail = inr refl; head = inr refl; next = inr refl; held = d .threads .at k hk .regs .held; index = omega arith };
+    regs = record { step = step-in (m .form) 1 (omega arith); node = inr refl; tail = inr refl; head = inr refl; next = inr refl; held = d .threads .at k hk .regs .held; index = omega arith };
   })
 
   pub dequeuesT : Tied p (begun m k 13 0) (setTh c k d1)
@@ -65,5 +68,5 @@ module _ (p : memory.Line → Content) (m : Machine) (c : Core) (d : Tied p m c)
     own = λ e. refl;
     stage = refl;
     holds = d .threads .at k hk .holds;
-    regs = record { step = step-in (m .form) _ (omega arith); node = inr refl; tail = inr refl; head = inr refl; next = inr refl; held = d .threads .at k hk .regs .held; index = omega arith };
+    regs = record { step = step-in (m .form) 13 (omega arith); node = inr refl; tail = inr refl; head = inr refl; next = inr refl; held = d .threads .at k hk .regs .held; index = omega arith };
   })

@@ -11,22 +11,25 @@ use Rattle.answer.specs.declared.Answer.{Answer}
 use Rattle.image.specs.declared.Content.{Content}
 use Rattle.tied.specs.Memory as memory
 use Rattle.image.specs.Form.{perDesk}
-use Rattle.machine.specs.Record.{thread, atStep, putLast}
-use Rattle.machine.specs.Line.{putLine, cachedAt}
+use Rattle.machine.specs.Record.{thread, atStep, putLast, flushed}
+use Rattle.machine.specs.Line.{putLine, cachedAt, overAt}
+use Rattle.lists.specs.Find.{pick}
+use Rattle.lists.specs.Word.{has}
+use Rattle.moments.proofs.Flushes.{held}
 use Rattle.machine.specs.Stage.{Stage, stage}
 use Rattle.machine.specs.Retire.{left}
 use Rattle.machine.specs.declared.Machine.{Machine}
 use Rattle.machine.specs.declared.Thread.{Thread}
 use Rattle.machine.specs.declared.Acted as machine
 use Rattle.model.specs.Lines.{Touch, nowhere, stores, flushes, issues, fences}
-use Rattle.model.specs.Conf.{atOnce}
+use Rattle.model.specs.Conf.{fenced}
 use Rattle.model.specs.Core.{Core, Th}
 use Rattle.model.specs.Changes.{setLast}
 use Rattle.model.specs.Steps.{Out, leave}
 use Rattle.model.specs.Always.{ThIn, InRange}
 use Rattle.model.proofs.Basics.{true→eq}
 use Rattle.tied.specs.Shown.{linkIf, linkOf, threadOf, shownThread, lineShown, engineIf, answerOf}
-use Rattle.tied.proofs.Relation.{Link, step-in, Regs, ThreadAt, Tied}
+use Rattle.tied.proofs.Relation.{Link, stepIn, step-in, Regs, ThreadAt, Tied}
 use Rattle.tied.proofs.Changes.{count-n}
 use Rattle.tied.proofs.Leaving.{leftT}
 
@@ -35,6 +38,8 @@ abbrev pub keeps : memory.Touch → Machine → (memory.Line → Content) → me
 keeps memory.nothing m p = p
 keeps (memory.aStore l) m p = p
 keeps (memory.aPersist l) m p = putLine p l (cachedAt m l)
+keeps (memory.aFlush k l) m p = p
+keeps (memory.aFence k l) m p = pick (has (overAt m l) k) p (putLine p l (held l (flushed m k)))
 
 -- the record touches what the core touches
 abbrev pub Touches : memory.Touch → Touch → Type 0
@@ -53,6 +58,16 @@ Touches (memory.aPersist k) (stores l) = ⊥
 Touches (memory.aPersist k) (flushes l) = l ≡ lineShown k
 Touches (memory.aPersist k) (issues t) = ⊥
 Touches (memory.aPersist k) (fences t l) = ⊥
+Touches (memory.aFlush u k) nowhere = ⊥
+Touches (memory.aFlush u k) (stores l) = ⊥
+Touches (memory.aFlush u k) (flushes l) = ⊥
+Touches (memory.aFlush u k) (issues t) = t ≡ u
+Touches (memory.aFlush u k) (fences t l) = ⊥
+Touches (memory.aFence u k) nowhere = ⊥
+Touches (memory.aFence u k) (stores l) = ⊥
+Touches (memory.aFence u k) (flushes l) = ⊥
+Touches (memory.aFence u k) (issues t) = ⊥
+Touches (memory.aFence u k) (fences t l) = (t ≡ u) × (l ≡ lineShown k)
 
 pub record StepT (p : memory.Line → Content) (m : Machine) (o : machine.Acted) (O : Out) : Type 0 where
   pub tied : Tied (keeps (o .touch) m p) (o .machine) (O .core)
@@ -81,6 +96,7 @@ lastT p m c d n = record {
   heads = d .heads;
   narrow = d .narrow;
   eight = d .eight;
+  flushes = d .flushes;
   tail = d .tail;
   nodes = d .nodes;
   free = d .free;
@@ -92,7 +108,7 @@ module _ (p : memory.Line → Content) (m : Machine) (c : Core) (d : Tied p m c)
   pub engine-is : c .conf .engine ≡ engineIf (perDesk (m .form))
   engine-is = ap (λ z. z .engine) (d .conf)
 
-  pub mode-is : c .conf .mode ≡ atOnce
+  pub mode-is : c .conf .mode ≡ fenced
   mode-is = ap (λ z. z .mode) (d .conf)
 
   pub regs-of : Regs (m .form) (m .n) (thread m k)
@@ -106,14 +122,17 @@ module _ (p : memory.Line → Content) (m : Machine) (c : Core) (d : Tied p m c)
   own-seen = d .threads .at k hk .own
 
   -- the thread goes on to step s with what it has read
-  pub goes-on : (s : ℕ) (S : Th) → s ≤ 19 → S ≡ shownThread (atStep (thread m k) s) seen → ThreadAt (m .form) (m .n) (atStep (thread m k) s) S (c .held k)
-  goes-on s S h e = record {
+  pub goes-to : (s : ℕ) (S : Th) → stepIn (m .form) s ≡ true → S ≡ shownThread (atStep (thread m k) s) seen → ThreadAt (m .form) (m .n) (atStep (thread m k) s) S (c .held k)
+  goes-to s S h e = record {
     seen = seen;
     own = own-seen;
     stage = e;
     holds = d .threads .at k hk .holds;
-    regs = record { step = step-in (m .form) s h; node = regs-of .node; tail = regs-of .tail; head = regs-of .head; next = regs-of .next; held = regs-of .held; index = regs-of .index };
+    regs = record { step = h; node = regs-of .node; tail = regs-of .tail; head = regs-of .head; next = regs-of .next; held = regs-of .held; index = regs-of .index };
   }
+
+  pub goes-on : (s : ℕ) (S : Th) → s ≤ 19 → S ≡ shownThread (atStep (thread m k) s) seen → ThreadAt (m .form) (m .n) (atStep (thread m k) s) S (c .held k)
+  goes-on s S h e = goes-to s S (step-in (m .form) s h) e
 
   -- the thread answers and holds what it held
   pub leavesT : Tied p (left m k (thread m k .held)) (leave c k)

@@ -23,6 +23,9 @@ use Rattle.machine.proofs.LineLaws.{LineIn}
 use Rattle.machine.specs.declared.Event.{Event}
 use Rattle.schedule.specs.Run as run
 use Rattle.schedule.specs.Run.{turned}
+use Rattle.moments.proofs.Steps.{frame-done}
+use Rattle.moments.proofs.Waiting.{fencing-done}
+use Rattle.moments.proofs.Known.{apart, known-done}
 use Rattle.model.specs.Lines.{act, back, nowhere, flushes}
 use Rattle.model.specs.Conf as model
 use Rattle.model.specs.Conf.{Within}
@@ -125,8 +128,9 @@ module _ (b : run.Bench) (B : Bench) (r : BenchT b B) where
         record {
           kept = turnKept B (ev (act (enq (e .number) (e .item)))) (r .kept) (takes enqueues a);
           tied = own-kept _ _ _ d;
-          lists = goesOnT b (B .mach) _ _ memory.nothing nowhere (r .lists) (r .kept .timed) (r .tied) d refl (λ l ne. refl) tt;
-          past = nextPast b (B .mach) _ _ memory.nothing nowhere (r .lists) (r .kept .timed) (r .tied) d refl (λ l ne. refl) tt (r .past);
+          lists = goesOnT b (B .mach) _ _ memory.nothing nowhere (r .lists) (r .kept .timed) (r .tied) d refl (λ l ne. refl) tt (r .known) (fencing-done q m e enqueues a) (frame-done m e enqueues (apart enqueues refl));
+          past = nextPast b (B .mach) _ _ memory.nothing nowhere (r .lists) (r .kept .timed) (r .tied) d refl (λ l ne. refl) tt (r .known) (fencing-done q m e enqueues a) (frame-done m e enqueues (apart enqueues refl)) (r .past);
+          known = known-done q b e (r .known) enqueues a;
         }
     turns dequeues a =
         let x = pass (threadTooLarge m e) (Number q) _ refl a in
@@ -135,8 +139,9 @@ module _ (b : run.Bench) (B : Bench) (r : BenchT b B) where
         record {
           kept = turnKept B (ev (act (deq (e .number)))) (r .kept) (takes dequeues a);
           tied = own-kept _ _ _ d;
-          lists = goesOnT b (B .mach) _ _ memory.nothing nowhere (r .lists) (r .kept .timed) (r .tied) d refl (λ l ne. refl) tt;
-          past = nextPast b (B .mach) _ _ memory.nothing nowhere (r .lists) (r .kept .timed) (r .tied) d refl (λ l ne. refl) tt (r .past);
+          lists = goesOnT b (B .mach) _ _ memory.nothing nowhere (r .lists) (r .kept .timed) (r .tied) d refl (λ l ne. refl) tt (r .known) (fencing-done q m e dequeues a) (frame-done m e dequeues (apart dequeues refl));
+          past = nextPast b (B .mach) _ _ memory.nothing nowhere (r .lists) (r .kept .timed) (r .tied) d refl (λ l ne. refl) tt (r .known) (fencing-done q m e dequeues a) (frame-done m e dequeues (apart dequeues refl)) (r .past);
+          known = known-done q b e (r .known) dequeues a;
         }
     turns steps a =
         let x = pass (threadTooLarge m e) (Number q) _ refl a in
@@ -145,8 +150,9 @@ module _ (b : run.Bench) (B : Bench) (r : BenchT b B) where
         record {
           kept = turnKept B (ev (act (move (e .number)))) (r .kept) (takes steps a);
           tied = own-kept _ _ _ (s .tied);
-          lists = goesOnT b (B .mach) _ _ (done m e steps .touch) _ (r .lists) (r .kept .timed) (r .tied) (s .tied) (conf-same c (move (e .number))) (frame c (move (e .number))) (s .touch);
-          past = nextPast b (B .mach) _ _ (done m e steps .touch) _ (r .lists) (r .kept .timed) (r .tied) (s .tied) (conf-same c (move (e .number))) (frame c (move (e .number))) (s .touch) (r .past);
+          lists = goesOnT b (B .mach) _ _ (done m e steps .touch) _ (r .lists) (r .kept .timed) (r .tied) (s .tied) (conf-same c (move (e .number))) (frame c (move (e .number))) (s .touch) (r .known) (fencing-done q m e steps a) (frame-done m e steps (apart steps refl));
+          past = nextPast b (B .mach) _ _ (done m e steps .touch) _ (r .lists) (r .kept .timed) (r .tied) (s .tied) (conf-same c (move (e .number))) (frame c (move (e .number))) (s .touch) (r .known) (fencing-done q m e steps a) (frame-done m e steps (apart steps refl)) (r .past);
+          known = known-done q b e (r .known) steps a;
         }
     turns writesBack a =
         let x = pass (lineTooLarge m e) (Number q) _ refl a in
@@ -154,8 +160,9 @@ module _ (b : run.Bench) (B : Bench) (r : BenchT b B) where
         record {
           kept = turnKept B (ev (back (lineShown (line-of e)))) (r .kept) (takes writesBack a);
           tied = own-kept _ _ _ d;
-          lists = goesOnT b (B .mach) c _ (memory.aPersist (line-of e)) (flushes (lineShown (line-of e))) (r .lists) (r .kept .timed) (r .tied) d refl (λ l ne. refl) refl;
-          past = nextPast b (B .mach) c _ (memory.aPersist (line-of e)) (flushes (lineShown (line-of e))) (r .lists) (r .kept .timed) (r .tied) d refl (λ l ne. refl) refl (r .past);
+          lists = goesOnT b (B .mach) c _ (memory.aPersist (line-of e)) (flushes (lineShown (line-of e))) (r .lists) (r .kept .timed) (r .tied) d refl (λ l ne. refl) refl (r .known) (fencing-done q m e writesBack a) (frame-done m e writesBack (apart writesBack refl));
+          past = nextPast b (B .mach) c _ (memory.aPersist (line-of e)) (flushes (lineShown (line-of e))) (r .lists) (r .kept .timed) (r .tied) d refl (λ l ne. refl) refl (r .known) (fencing-done q m e writesBack a) (frame-done m e writesBack (apart writesBack refl)) (r .past);
+          known = known-done q b e (r .known) writesBack a;
         }
     turns crashes a =
         let dm = fit-dummy (persisted m) (m .t) (machine.persisted (B .mach)) persistedT persisted-fit in
@@ -164,6 +171,7 @@ module _ (b : run.Bench) (B : Bench) (r : BenchT b B) where
           tied = startedT (persisted m) (m .t) (machine.persisted (B .mach)) persistedT dm;
           lists = beginsT (persisted m) (m .t) (machine.persisted (B .mach)) persistedT dm;
           past = pastBegins (startOf (persisted m) (m .t));
+          known = known-done q b e (r .known) crashes a;
         }
 
     -- form, N and T stay

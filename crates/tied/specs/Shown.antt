@@ -13,16 +13,16 @@ use Rattle.image.specs.Layout.{contentAt, imageShape, headIn}
 use Rattle.image.specs.declared.Shape.{Shape}
 use Rattle.image.specs.Form.{topOf, headLines, perDesk}
 use Rattle.tied.specs.Memory as memory
-use Rattle.machine.specs.Stage.{Stage, noStep, A1, A2, A3, A4, A5, A6, A7, A8, A9, A10, A11, A12, D1, D2, D3, D4, D5, D6, D7, S3, S6, stageOf}
+use Rattle.machine.specs.Stage.{Stage, noStep, A1, A2, A3, A4, A5, A6, A7, A8, A9, A10, A11, A12, D1, D2, D3, D4, D5, D6, D7, S3, S6, F10, F3, F6, stageOf}
 use Rattle.machine.specs.declared.Thread.{Thread}
 use Rattle.machine.specs.declared.Event.{Event}
 use Rattle.machine.specs.Event.{Deed, unknown, enqueues, dequeues, steps, writesBack, crashes, deedOf}
 use Rattle.model.specs.Basics.{sel}
 use Rattle.model.specs.Lines.{Line, ofHead, ofNode, act, back}
-use Rattle.model.specs.Conf.{Conf, Engine, shared, split, atOnce}
+use Rattle.model.specs.Conf.{Conf, Engine, shared, split, fenced}
 use Rattle.model.specs.Choice.{rotation}
 use Rattle.model.specs.Core as core
-use Rattle.model.specs.Core.{Th, idle, a1, a2, a3, a4, a5, a6, a7, a8, a9, a10, a11, a12, d1, d2, d3, d4, d5, d6, d7, s3, s6, Ans}
+use Rattle.model.specs.Core.{Th, idle, a1, a2, a3, a4, a5, a6, a7, a8, a9, a10, a11, a12, d1, d2, d3, d4, d5, d6, d7, s3, s6, a10f, d3f, d6f, Ans}
 use Rattle.model.specs.Recovery as recovery
 use Rattle.model.specs.Machine as machine
 use Rattle.model.specs.Steps.{enq, deq, move}
@@ -76,6 +76,9 @@ threadOf D6 v i = d6 (v .head) (v .item)
 threadOf D7 v i = d7 (v .head) (v .item)
 threadOf S3 v i = s3 (v .head) i
 threadOf S6 v i = s6 (v .head) (v .next) (v .item)
+threadOf F10 v i = a10f (v .item) (v .node) (v .tail)
+threadOf F3 v i = d3f (v .head) i
+threadOf F6 v i = d6f (v .head) (v .item)
 
 abbrev pub shownThread : Thread → ℕ → Th
 shownThread v i = threadOf (stageOf (v .step)) v i
@@ -85,9 +88,9 @@ abbrev pub engineIf : Bool → Engine
 engineIf true = split
 engineIf false = shared
 
--- N nodes, T threads, indices of the form's width, the form's engine, the free nodes handed out in rotation, a line persisted in one step
+-- N nodes, T threads, indices of the form's width, the form's engine, the free nodes handed out in rotation, a line persisted by a flush and a fence
 abbrev pub confOf : ℕ → ℕ → ℕ → Conf
-confOf f n t = record { nodes = n; threads = t; top = topOf f; engine = engineIf (perDesk f); chooser = rotation; mode = atOnce }
+confOf f n t = record { nodes = n; threads = t; top = topOf f; engine = engineIf (perDesk f); chooser = rotation; mode = fenced }
 
 -- a line
 abbrev pub lineShown : memory.Line → Line

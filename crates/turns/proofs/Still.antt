@@ -13,9 +13,10 @@ use Rattle.answer.specs.Answers.{accepted}
 use Rattle.answer.specs.declared.Answer.{Answer}
 use Rattle.answer.specs.declared.Answer.the-variants.{Done, Full, WornOut, Item, Empty}
 use Rattle.image.specs.Form.{topOf, perDesk}
-use Rattle.machine.specs.Record.{none, node, thread, headAt, ownNode, withNext, withIndex, putNode, putTail, putHead, putHeadNode}
-use Rattle.machine.specs.Stage.{Stage, noStep, A1, A2, A3, A4, A5, A6, A7, A8, A9, A10, A11, A12, D1, D2, D3, D4, D5, D6, D7, S3, S6, stageOf, stage}
-use Rattle.machine.specs.Line.{shapeOf, lineAt, ownHead, persist}
+use Rattle.machine.specs.Record.{none, node, thread, headAt, ownNode, withNext, withIndex, putNode, putTail, putHead, putHeadNode, flushed}
+use Rattle.machine.specs.Stage.{Stage, noStep, A1, A2, A3, A4, A5, A6, A7, A8, A9, A10, A11, A12, D1, D2, D3, D4, D5, D6, D7, S3, S6, F10, F3, F6, stageOf, stage}
+use Rattle.machine.specs.Line.{shapeOf, lineAt, ownHead, overAt, keeping, persist}
+use Rattle.machine.specs.Flush.{overAfter, fence}
 use Rattle.machine.specs.declared.Line.{Line}
 use Rattle.machine.specs.declared.Line.the-variants.{OfHead as ofHead, OfNode as ofNode}
 use Rattle.machine.specs.Retire.{quiet, moving, going, answering, storing, nextFree, handOut, freed, lastWait, releasedAt, released, left, others, retired, retiredHeld}
@@ -89,6 +90,14 @@ still-retired m k = by (eqb (thread m k .held) none)
 quietly : (m m′ : Machine) → m′ .last ≡ m .last → m′ .n ≡ m .n → m′ .free ≡ m .free → Still m m′
 quietly m m′ a b c = record { last = a; count = b; free = λ i h. ap (λ w. has w i) c ∙ h }
 
+-- a fence, whether or not it finds something later
+still-fence : (m : Machine) (k : ℕ) (l : Line) → Still m (fence m k l)
+still-fence m k l = pick-still m (has (overAt m l) k) m (keeping m l (flushed m k) (overAfter m k l)) (same m) (by l)
+  where
+    by : (l : Line) → Still m (keeping m l (flushed m k) (overAfter m k l))
+    by (ofHead j) = quietly m _ refl refl refl
+    by (ofNode i) = quietly m _ refl refl refl
+
 still-step : (m : Machine) (k : ℕ) (s : Stage) → s ≢ A1 → Still m (stepped m k s .machine)
 still-step m k noStep d = same m
 still-step m k A1 d = absurd (d refl)
@@ -119,7 +128,7 @@ still-step m k A12 d =
     record { last = p .last; count = p .count; free = p .free }
 still-step m k D1 d = quietly m _ refl refl refl
 still-step m k D2 d = quietly m _ refl refl refl
-still-step m k D3 d = still-left m (persist m (ofHead (ownHead m k))) k (thread m k .held) (quietly m _ refl refl refl)
+still-step m k D3 d = quietly m _ refl refl refl
 still-step m k D4 d =
     let x = thread m k .next in
     let b = perDesk (m .form) in
@@ -132,6 +141,9 @@ still-step m k D6 d = quietly m _ refl refl refl
 still-step m k D7 d = still-left m (retiredHeld m k) k (thread m k .head) (still-retired m k)
 still-step m k S3 d = quietly m _ refl refl refl
 still-step m k S6 d = quietly m _ refl refl refl
+still-step m k F10 d = let p = still-fence m k (ofNode (thread m k .node)) in record { last = p .last; count = p .count; free = p .free }
+still-step m k F3 d = let a = fence m k (ofHead (ownHead m k)) in still-left m a k (thread a k .held) (still-fence m k (ofHead (ownHead m k)))
+still-step m k F6 d = let p = still-fence m k (ofHead (ownHead m k)) in record { last = p .last; count = p .count; free = p .free }
 
 still-persist : (m : Machine) (l : Line) → Still m (persist m l)
 still-persist m (ofHead k) = quietly m _ refl refl refl

@@ -37,16 +37,33 @@ kept-of-requires c κs = search needs
 idle-threads-requires : tie.Need-idle-threads-requires
 idle-threads-requires c κs = search needs
 
+no-flushed-requires : tie.Need-no-flushed-requires
+no-flushed-requires c κs = search needs
+
+no-sets-requires : tie.Need-no-sets-requires
+no-sets-requires c κs = search needs
+
+no-sets-requires-2 : tie.Need-no-sets-requires-2
+no-sets-requires-2 c κs = search needs
+
+no-node-sets-requires : tie.Need-no-node-sets-requires
+no-node-sets-requires c κs = search needs
+
 returns : tie.Need-returns
 unfolding startWith startNodes startKept startFree
 returns c =
-    let b = c .before .before .before .before in
+    let f = c .before .before .before .before in
+    let b = f .before .before .before .before in
     let g = b .before .before .before .before .before .args .g in
     rw (
-      c .idle-threads .ensures,
-      c .before .kept-of .ensures,
-      c .before .before .heads-of2 .ensures,
-      c .before .before .before .heads-of .ensures,
+      c .no-node-sets .ensures,
+      c .before .no-sets2 .ensures,
+      c .before .before .no-sets .ensures,
+      c .before .before .before .no-flushed .ensures,
+      f .idle-threads .ensures,
+      f .before .kept-of .ensures,
+      f .before .before .heads-of2 .ensures,
+      f .before .before .before .heads-of .ensures,
       b .nodes-of .ensures,
       b .before .free-of .ensures,
       b .before .before .last-of .ensures,
@@ -69,4 +86,8 @@ start-spec =
     heads-of-requires-2
     kept-of-requires
     idle-threads-requires
+    no-flushed-requires
+    no-sets-requires
+    no-sets-requires-2
+    no-node-sets-requires
     returns)
