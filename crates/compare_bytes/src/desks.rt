@@ -7,13 +7,7 @@ use converting::export_desks;
 use converting::import_desks;
 use stream::half;
 
-fn put_imported(
-    out: &mut [u8; 65536],
-    at: usize,
-    s: &[u8],
-    lent: &mut [u8],
-    room: usize,
-) -> usize
+fn put_imported(out: &mut [u8; 65536], at: usize, s: &[u8], lent: &mut [u8], room: usize) -> usize
     requires { ⌜ room ≤ length (now lent) ⌝ }
 {
     let a = import_desks(s, &mut lent[..room]);
