@@ -347,8 +347,35 @@ static void conversions(void) {
     expect("bytes after a refusal", same(back, image, IMAGE), 1);
 }
 
+/* An image written out for three desks and read in again (request 101); the largest of the three indices is the head. */
+static void desks(void) {
+    enum { DESKS = 7 + 4 * 3 + 9 * NODES };
+    uint8_t image[IMAGE], three[UQ_MAX_IMAGE], back[IMAGE];
+    put_image(image, 5, 1, 6, 7);
+    for (int i = 0; i < UQ_MAX_IMAGE; i++) three[i] = 99;
+    expect("nine bytes written out", uq_export(image, 9, 3, three, sizeof three), refusal(UQ_LENGTH, 0));
+    expect("no desk", uq_export(image, IMAGE, 0, three, sizeof three), refusal(UQ_THREADS, 0));
+    expect("nine desks, 4 before 17", uq_export(image, IMAGE, 9, three, 0), refusal(UQ_THREADS, 0));
+    expect("written out, no room", uq_export(image, IMAGE, 3, three, DESKS - 1), refusal(UQ_ROOM, 0));
+    expect("a byte after a refusal", three[0], 99);
+    expect("written out", uq_export(image, IMAGE, 3, three, sizeof three), UQ_TAKEN);
+    expect("its mark", three[2], 'P');
+    expect("its T", three[6], 3);
+    expect("the byte behind it", three[DESKS], 99);
+    expect("it is an image", uq_check_image(three, DESKS), UQ_TAKEN);
+    expect("six bytes read in", uq_import(three, 6, back, IMAGE), refusal(UQ_LENGTH, 0));
+    expect("the other mark", uq_import(image, IMAGE, back, IMAGE), refusal(UQ_MARK, 0));
+    expect("read in, no room", uq_import(three, DESKS, back, IMAGE - 1), refusal(UQ_ROOM, 0));
+    expect("read in", uq_import(three, DESKS, back, IMAGE), UQ_TAKEN);
+    expect("out and in", same(back, image, IMAGE), 1);
+    three[7 + 4] = 9;
+    expect("the second desk's index the largest", uq_import(three, DESKS, back, IMAGE), UQ_TAKEN);
+    expect("is the head", back[6], 9);
+}
+
 int main(void) {
     conversions();
+    desks();
     history();
     endings();
     contents();

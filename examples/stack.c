@@ -32,6 +32,15 @@ static void narrow(void) {
     result = uq_narrow(text, 14 + 13 * (size_t)schedule[13], buffer, sizeof buffer);
 }
 
+static void export_desks(void) {
+    result = uq_export(schedule + 8, 10 + 9 * (size_t)schedule[13], 8, text, sizeof text);
+}
+
+/* What was written out, read in. */
+static void import_desks(void) {
+    result = uq_import(text, 7 + 4 * 8 + 9 * (size_t)schedule[13], buffer, sizeof buffer);
+}
+
 static void check_schedule(void) {
     result = uq_check_schedule(schedule, length);
 }
@@ -189,6 +198,8 @@ int main(void) {
     measure("uq_check_image", check_image);
     measure("uq_widen", widen);
     measure("uq_narrow", narrow);
+    measure("uq_export", export_desks);
+    measure("uq_import", import_desks);
     measure("uq_check_schedule", check_schedule);
     measure("uq_count_endings", count_endings);
     printf("(%lu endings)\n", count);

@@ -3,7 +3,7 @@
 
 u64 numbers_seen[NUMBERS], history_numbers_seen[NUMBERS], verdicts_seen[VERDICTS];
 
-enum { ROOM = 2048 };
+enum { ROOM = 2560 }; /* more than a record */
 
 static int differ(const char *call, u64 ours, u64 theirs)
 {
@@ -79,18 +79,18 @@ int agree_on_ending(const u8 *bytes, u64 length)
         && same_bytes("uq_ending, the buffer", ours, theirs, ROOM);
 }
 
-/* A line's contents: of line 0 the index, of a node linked, index, item; indices of 8 bytes. */
-static u64 put_contents(u64 line, const History *history, u8 *bytes)
+/* A line's contents: of a head line the index, of a node linked, index, item; indices of 8 bytes. */
+static u64 put_contents(int node, const History *history, u8 *bytes)
 {
     u64 at = 0;
     for (u32 i = 0; i < history->count; i++) {
         const Content *c = &history->list[i];
-        if (line > 0)
+        if (node)
             bytes[at++] = (u8)c->linked;
         put4(bytes + at, (u32)c->index);
         put4(bytes + at + 4, (u32)(c->index >> 32));
         at += 8;
-        if (line > 0) {
+        if (node) {
             put4(bytes + at, c->item);
             at += 4;
         }
@@ -105,13 +105,14 @@ int agree_on_line(const u8 *bytes, u64 length)
     Schedule schedule;
     u64 count = 0, size = 0, value = 0;
     Verdict v = endings_of(bytes, length, &schedule, &the_bench, &count);
-    u32 lines = v.number == TAKEN ? schedule.image.n + 1 : MAX_LINES;
+    u32 heads = v.number == TAKEN ? head_lines(schedule.image.form, schedule.t) : 0;
+    u32 lines = v.number == TAKEN ? heads + schedule.image.n : MAX_LINES;
     u32 line = chance(85) ? below(lines) : chance(50) ? lines + below(3) : (u32)random_bits();
     if (v.number == TAKEN && line >= lines)
         v = verdict(NUMBER_TOO_LARGE, 0);
     if (v.number == TAKEN) {
         value = the_bench.lines[line].count;
-        size = put_contents(line, &the_bench.lines[line], whole);
+        size = put_contents(line >= heads, &the_bench.lines[line], whole);
     }
     u64 room = chance(60) ? size + below(40) : chance(50) || size == 0 ? size : below((u32)size);
     if (v.number == TAKEN && room < size)
@@ -187,6 +188,39 @@ int agree_on_conversions(const u8 *bytes, u64 length, u64 number)
         && same_bytes("uq_narrow, the buffer", ours, theirs, ROOM);
 }
 
+/* An image with one head index per desk read in, and an image written out for some number of desks (request 101): made for it, spoilt now and then, or the
+   schedule's own. */
+int agree_on_desks(const u8 *bytes, u64 length, u64 number)
+{
+    static u8 ours[ROOM], theirs[ROOM], image[LONGEST + 16];
+    u64 skip = length < SCHEDULE_HEAD ? length : SCHEDULE_HEAD, rest = length - skip, room;
+    u32 threads = below(chance(80) ? 9 : 256);
+    if (image_in(bytes, length) < rest)
+        rest = image_in(bytes, length);
+    for (u64 i = 0; i < rest; i++)
+        image[i] = bytes[skip + i];
+    if (chance(60)) {
+        rest = chance(50) ? generate_import(number, image) - 2 : generate_export(number, image) - 3; /* without what is behind the image */
+        if (chance(20))
+            spoil(image, &rest, LONGEST);
+    }
+    room = chance(70) ? MAX_IMAGE + below(9) : below(MAX_IMAGE);
+    fill_both(ours, theirs, ROOM);
+    return same_number("uq_import", uq_import(image, rest, ours, room), packed(import(image, rest, theirs, room), 0))
+        && same_bytes("uq_import, the buffer", ours, theirs, ROOM)
+        && same_number("uq_export", uq_export(image, rest, (uint8_t)threads, ours, room), packed(export(image, rest, threads, theirs, room), 0))
+        && same_bytes("uq_export, the buffer", ours, theirs, ROOM);
+}
+
+/* An image for so many threads: "UQP" holds its own T, which has to be the same. */
+static Verdict read_image_for(u32 threads, const u8 *bytes, u64 length, Image *image)
+{
+    Verdict v = read_image_head(bytes, length, image);
+    if (v.number == TAKEN && image->form == DESKS && image->t != threads)
+        v = verdict(WRONG_T, 0);
+    return v.number == TAKEN ? read_image(bytes, length, image) : v;
+}
+
 int agree_on_start(const u8 *bytes, u64 length)
 {
     static u8 ours[ROOM], theirs[ROOM];
@@ -197,7 +231,7 @@ int agree_on_start(const u8 *bytes, u64 length)
     u32 threads = below(chance(80) ? 9 : 256);
     if (image_in(bytes, length) < rest)
         rest = image_in(bytes, length);
-    Verdict v = threads < 1 || threads > MAX_THREADS ? verdict(WRONG_T, 0) : read_image(bytes + skip, rest, &image);
+    Verdict v = threads < 1 || threads > MAX_THREADS ? verdict(WRONG_T, 0) : read_image_for(threads, bytes + skip, rest, &image);
     if (v.number == TAKEN && room < record_bytes())
         v = verdict(BUFFER_TOO_SHORT, 0);
     fill_both(ours, theirs, ROOM);

@@ -6,10 +6,6 @@
 
 enum { LONGEST = 70000 };
 
-/* Request 107's two calls, as include/uq.h has them. */
-uint64_t uq_widen(const uint8_t *image, size_t length, uint8_t *buffer, size_t room);
-uint64_t uq_narrow(const uint8_t *image, size_t length, uint8_t *buffer, size_t room);
-
 /* inputs.c: input `number` of a run; gives its length, at most LONGEST. The random numbers go on from there. */
 u64 some_input(u64 seed, u64 number, u8 *bytes);
 u64 some_history(u64 seed, u64 number, u8 *bytes);
@@ -24,6 +20,7 @@ int agree_on_record(u64 seed, u64 number);
 int agree_on_start(const u8 *bytes, u64 length);
 int agree_on_history(u64 seed, u64 number);
 int agree_on_conversions(const u8 *bytes, u64 length, u64 number);
+int agree_on_desks(const u8 *bytes, u64 length, u64 number);
 
 /* mended.c: 1 where the mender did on some damaged image what request 105 says, and 0 and says what is wrong where it did not. */
 int agree_on_mended(void);

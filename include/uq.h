@@ -42,7 +42,7 @@ enum {
     UQ_MAX_THREADS = 8,
     UQ_MAX_EVENTS = 4096,
     UQ_MAX_ENDINGS = 65536,
-    UQ_MAX_IMAGE = 846,      /* 14 + 13N; in version 1 10 + 9N, at most 586 */
+    UQ_MAX_IMAGE = 846,      /* 14 + 13N; in version 1 10 + 9N, at most 586; of "UQP" 7 + 4T + 9N, at most 615 */
     UQ_MAX_SCHEDULE = 25430, /* 8, the image, and 6 for each event */
     UQ_MAX_LIST = 128,       /* of uq_mend: 2 for each node */
     UQ_MAX_CONTENTS = 208,   /* 16 contents of 13 */
@@ -134,13 +134,14 @@ uint64_t uq_check_schedule(const uint8_t *schedule, size_t length);
 uint64_t uq_count_endings(const uint8_t *schedule, size_t length);
 
 /* Ending k of the schedule. Value 0 where it is taken.
-   Its image, in the version of the schedule's, is written into the first 10 + 9N or 14 + 13N bytes of `buffer`; the bytes after them stay.
+   Its image, in the form of the schedule's and as long, is written into the front of `buffer`; the bytes after it stay.
    A refusal has number 1 to 17 or 19 and its place, and writes nothing. */
 uint64_t uq_ending(const uint8_t *schedule, size_t length, uint64_t k, uint8_t *buffer, size_t room);
 
-/* What a crash may leave in one line: line 0 is Head's, line i + 1 that of node i. The value is how many contents it has, 1 to 16.
-   They are written one after the other, the oldest first, into the front of `buffer`, with indices of 64 bits in every version: of line 0 the
-   head index (8 bytes), of a node's line linked (1), index (8), item (4); the bytes after them stay. UQ_MAX_CONTENTS bytes are room for every line.
+/* What a crash may leave in one line: line 0 is Head's, line i + 1 that of node i; of "UQP" line k is desk k's, line T + i that of node i. The value is how
+   many contents it has, 1 to 16.
+   They are written one after the other, the oldest first, into the front of `buffer`, with indices of 64 bits in every form: of Head's or a desk's
+   line the index (8 bytes), of a node's line linked (1), index (8), item (4); the bytes after them stay. UQ_MAX_CONTENTS bytes are room for every line.
    A refusal has number 1 to 15 or 19 and its place, 10 with place 0 where there is no such line, 17 where they do not all fit, and writes nothing. */
 uint64_t uq_line(const uint8_t *schedule, size_t length, uint32_t line, uint8_t *buffer, size_t room);
 
@@ -165,8 +166,8 @@ uint64_t uq_start(const uint8_t *image, size_t length, uint8_t threads, uint8_t 
 uint64_t uq_event(uint8_t *record, size_t length, uint8_t kind, uint8_t number, uint32_t item);
 
 /* What a crash would leave of a record: its persisted copies. Value 0 where it is taken.
-   They are written as an image, in the version of the image that the record started from, into the first 10 + 9N or 14 + 13N bytes of `buffer`;
-   the bytes after them stay.
+   They are written as an image, in the form of the image that the record started from and as long, into the front of `buffer`; the bytes after them
+   stay.
    A refusal has number 1, 18, 7, 8 or 17 and its place, and writes nothing. */
 uint64_t uq_save(const uint8_t *record, size_t length, uint8_t *buffer, size_t room);
 

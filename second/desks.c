@@ -2,7 +2,7 @@
 #include "second.h"
 
 /* "import in the order 1 (fewer than 7 bytes), 2, 3, 4, 1, 6, 7, 8, 17"; "Import sets the head to the largest". */
-static Verdict import(const u8 *bytes, u64 length, u8 *buffer, u64 room)
+Verdict import(const u8 *bytes, u64 length, u8 *buffer, u64 room)
 {
     Image image;
     only_form = DESKS;
@@ -22,7 +22,7 @@ static Verdict import(const u8 *bytes, u64 length, u8 *buffer, u64 room)
 }
 
 /* "export in 01's order for an image, then 4, then 17"; "export writes the head T times". Version 2 has no such image, so it is 2. */
-static Verdict export(const u8 *bytes, u64 length, u32 t, u8 *buffer, u64 room)
+Verdict export(const u8 *bytes, u64 length, u32 t, u8 *buffer, u64 room)
 {
     Image image;
     only_form = NARROW;

@@ -304,6 +304,8 @@ Finding same_when_wide(const u8 *bytes, u64 length);
 int mode_imported(int count, char **words);
 int mode_exported(int count, char **words);
 Finding out_and_in(const u8 *bytes, u64 length);
+Verdict import(const u8 *bytes, u64 length, u8 *buffer, u64 room);
+Verdict export(const u8 *bytes, u64 length, u32 t, u8 *buffer, u64 room);
 u64 generate_import(u64 number, u8 *bytes);
 u64 generate_export(u64 number, u8 *bytes);
 

@@ -21,7 +21,7 @@ pub extern "C" fn uq_event(bytes: &mut [u8], kind: u8, number: u8, item: u32) ->
     recordcalls::event(bytes, kind, number, item)
 }
 
-// The persisted image of a record into the buffer's first 10 + 9N bytes, in version 2 14 + 13N.
+// The persisted image of a record, in its form, into the front of the buffer.
 #[no_mangle]
 pub extern "C" fn uq_save(bytes: &[u8], buffer: &mut [u8]) -> u64
     ensures answers { λ r. ⌜ r ≡ savedBytes (now (bytes .entry)) (length (now (buffer .entry))) ⌝ }

@@ -28,7 +28,7 @@ pub extern "C" fn uq_count_endings(schedule: &[u8]) -> u64
     schedulecalls::count_endings(schedule)
 }
 
-// Ending k as an image into the buffer's first 10 + 9N bytes, in version 2 14 + 13N.
+// Ending k as an image, in the form of the schedule's, into the front of the buffer.
 #[no_mangle]
 pub extern "C" fn uq_ending(schedule: &[u8], k: u64, buffer: &mut [u8]) -> u64
     ensures answers { λ r. ⌜ r ≡ endingGiven (now (schedule .entry)) k (length (now (buffer .entry))) ⌝ }

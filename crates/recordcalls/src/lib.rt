@@ -53,7 +53,7 @@ pub fn event(bytes: &mut [u8], kind: u8, number: u8, item: u32) -> u64
     packed_of(b, reply_of(b))
 }
 
-// The persisted image of a record into the buffer's first 10 + 9N bytes, in version 2 14 + 13N.
+// The persisted image of a record, in its form, into the front of the buffer.
 pub fn save(bytes: &[u8], buffer: &mut [u8]) -> u64
     ensures answers { λ r. ⌜ r ≡ savedBytes (now (bytes .entry)) (length (now (buffer .entry))) ⌝ }
     ensures written { λ r. ⌜ now (buffer .exit) ≡ saveWritten (now (bytes .entry)) (now (buffer .entry)) ⌝ }

@@ -31,7 +31,7 @@ pub fn count_endings(schedule: &[u8]) -> u64
     packed_of(c, count)
 }
 
-// Ending k as an image into the buffer's first 10 + 9N bytes, in version 2 14 + 13N.
+// Ending k as an image, in the form of the schedule's, into the front of the buffer.
 pub fn ending(schedule: &[u8], k: u64, buffer: &mut [u8]) -> u64
     ensures answers { λ r. ⌜ r ≡ endingGiven (now (schedule .entry)) k (length (now (buffer .entry))) ⌝ }
     ensures bytes { λ r. ⌜ now (buffer .exit) ≡ endingWritten (now (schedule .entry)) k (now (buffer .entry)) ⌝ }
