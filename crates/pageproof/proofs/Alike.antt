@@ -114,7 +114,8 @@ keep-flush m c k (ofNode i) = record { copies = record { heads = c .heads; nodes
 keep-fence : (m : Machine) (c : Copies) (k : ℕ) (l : Line) → Alike (fence m k l) (fence (holding m c) k l)
 keep-fence m c k l = by (has (overAt m l) k) (has (overAt (holding m c) l) k)
   where
-    by : (x y : Bool) → Alike (pick x m (keeping m l (flushed m k) (overAfter m k l))) (pick y (holding m c) (keeping (holding m c) l (flushed m k) (overAfter (holding m c) k l)))
+    by : (x y : Bool)
+        → Alike (pick x m (keeping m l (flushed m k) (overAfter m k l))) (pick y (holding m c) (keeping (holding m c) l (flushed m k) (overAfter (holding m c) k l)))
     by true true = record { copies = c; is = refl }
     by true false = there-keeps m c l (flushed m k) (overAfter (holding m c) k l)
     by false true = here-keeps m c l (flushed m k) (overAfter m k l)
@@ -133,7 +134,8 @@ alike-answering x y a r k =
 
 module _ (m : Machine) (c : Copies) (k : ℕ) where
   -- nothing is persisted
-  quiet : (a : Answer) (x y : Machine) (w : Touch) → y ≡ holding x c → AlikeOut (record { answer = a; machine = x; touch = w }) (record { answer = a; machine = y; touch = w })
+  quiet : (a : Answer) (x y : Machine) (w : Touch) → y ≡ holding x c
+      → AlikeOut (record { answer = a; machine = x; touch = w }) (record { answer = a; machine = y; touch = w })
   quiet a x y w e = record { answer = refl; machine = record { copies = c; is = e }; touch = refl }
 
   alike-step : (s : Stage) → AlikeOut (stepped m k s) (stepped (holding m c) k s)

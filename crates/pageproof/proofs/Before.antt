@@ -1,5 +1,5 @@
 -- A bench of a run and a later one since the same start: what stays, and what rises.
-use Prim.Native.Nat.{ℕ, suc, _+_, _≤_, _<_, max}
+use Prim.Native.Nat.{ℕ, suc, _≤_, _<_, max}
 use mathlib.Core.Path.{_≡_, refl, sym, ap, subst, _∙_}
 use mathlib.Core.List.{List, [], _∷_}
 use native.Mathlib.Omega.{arith}
@@ -12,7 +12,7 @@ use Rattle.machine.specs.declared.Machine.{Machine}
 use Rattle.machine.specs.declared.Event.{Event}
 use Rattle.machine.specs.declared.Touch.{Touch}
 use Rattle.machine.specs.declared.Touch.the-variants.{Nothing as nothing, Store as aStore, Persist as aPersist, Flush as aFlush, Fence as aFence}
-use Rattle.machine.proofs.LineLaws.{LineIn, line-eq, put-same, put-other, put-ind}
+use Rattle.machine.proofs.LineLaws.{LineIn, line-eq, put-same, put-ind}
 use Rattle.schedule.specs.Run.{Bench, run, goesOn, fromAfter}
 use Rattle.lawful.specs.Added.{NoCrash}
 use Rattle.moments.specs.Frame.{Persists, FencesTo, touched, Frame}

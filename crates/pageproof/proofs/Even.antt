@@ -1,9 +1,9 @@
 -- In every machine of a run there are as many persisted copies as nodes: each node's line has one.
-use Prim.Native.Nat.{ℕ, zero, suc, _+_, _-_}
+use Prim.Native.Nat.{ℕ, _+_, _-_}
 use mathlib.Core.Path.{_≡_, refl, sym, ap, _∙_}
 use mathlib.Core.Bool.{Bool, true, false}
 use mathlib.Core.List.{List}
-use lib.ListN.{length, set, length-map, length-set, length-replicate}
+use lib.ListN.{length, length-map, length-set, length-replicate}
 use lib.Dec.{eqb, leb}
 use Rattle.lists.specs.Find.{pick, both}
 use Rattle.lists.specs.Word.{has}

@@ -73,7 +73,8 @@ left-among b r l h = by (decLt (b .from l) r)
 unfoldable pub writes : Bench → (Line → ℕ) → ℕ → Line → ℕ
 writes b r i = putLine r (lineAt (shapeOf (b .machine)) i) (length (b .past))
 
-pub lengthened-back : (b : Bench) → Known b → (r : Line → ℕ) (m′ : Machine) → Lengthened b r m′ → (i : ℕ) → i < lineCount (shapeOf (b .machine)) → Lengthened b (writes b r i) (next m′ (writeBack i))
+pub lengthened-back : (b : Bench) → Known b → (r : Line → ℕ) (m′ : Machine) → Lengthened b r m′ → (i : ℕ) → i < lineCount (shapeOf (b .machine))
+    → Lengthened b (writes b r i) (next m′ (writeBack i))
 unfolding writes
 lengthened-back b kn r m′ g i h =
     subst (λ (y : Shape). Lengthened b (writes b r i) (persist m′ (lineAt y i))) (sym (alike-size (b .machine) m′ (g .alike)))
@@ -99,7 +100,8 @@ adds-so : (d : Bench) (q : ℕ) (b′ : Bench) (e : Event) (l′ : List Event) �
     → Fewer d (run q b′ (e ∷ l′) .bench .machine)
 adds-so d q b′ e l′ t′ g = rw (run-bench q b′ e l′ t′) g
 
-pub fewer : (z : Shape) {l l′ : List Event} {x x′ : List Answer} → Adds (lineCount z) l x l′ x′ → (p q : ℕ) (b b′ : Bench) → NoCrash l → Known b → shapeOf (b .machine) ≡ z
+pub fewer : (z : Shape) {l l′ : List Event} {x x′ : List Answer} → Adds (lineCount z) l x l′ x′ → (p q : ℕ) (b b′ : Bench) → NoCrash l → Known b
+    → shapeOf (b .machine) ≡ z
     → (r : Line → ℕ) → Lengthened b r (b′ .machine) → Accepts p b l → Accepts q b′ l′ → Fewer (run p b l .bench) (run q b′ l′ .bench .machine)
 fewer z ends p q b b′ nc kn size r g h h′ = ends-so p q b b′ (record { last = r; is = g })
 fewer z (keeps {e = e} {l = l} {l′ = l′} a) p q b b′ nc kn size r g h h′ =
@@ -116,5 +118,6 @@ fewer z (adds i lt {l = l} {l′ = l′} a) p q b b′ nc kn size r g h h′ =
     h (run-rest q b′ (writeBack i) l′ h′))
 
 -- each line that there is has persisted one of the contents that the bench gives it
-pub lengthened-inside : (b : Bench) (r : Line → ℕ) (m′ : Machine) → Lengthened b r m′ → (l : Line) → LineIn (shapeOf (b .machine)) l → Among (persistedAt m′ l) (contentsOf b l)
+pub lengthened-inside : (b : Bench) (r : Line → ℕ) (m′ : Machine) → Lengthened b r m′ → (l : Line) → LineIn (shapeOf (b .machine)) l
+    → Among (persistedAt m′ l) (contentsOf b l)
 lengthened-inside b r m′ g l h = subst (λ (c : Content). Among c (contentsOf b l)) (sym (g .kept l h)) (left-among b (r l) l (g .early l))

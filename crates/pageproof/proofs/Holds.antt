@@ -2,7 +2,7 @@
 -- It is proved on the record's own run and not through the abstract machine: between two starts no event looks at a persisted copy, but for 19 of a write-back, and a
 -- fence looks at moments alone, so this half asks nothing of the queue, and events, answers and images need no translation.
 use Prim.Native.Nat.{ℕ, _≤_, _<_}
-use mathlib.Core.Path.{_≡_, refl, sym, ap, _∙_}
+use mathlib.Core.Path.{_≡_, refl, sym, _∙_}
 use mathlib.Core.Bool.{Bool, true, false, not}
 use mathlib.Core.List.{List, []}
 use native.Mathlib.Omega.{arith}

@@ -3,7 +3,7 @@
 use Prim.Native.Nat.{ℕ, _+_, _-_, _≤_, _<_, max}
 use mathlib.Core.Path.{_≡_, refl, sym, ap, ap₂, subst, _∙_}
 use mathlib.Core.Bool.{Bool, true, false, not}
-use mathlib.Core.List.{List, [], _∷_, _++_}
+use mathlib.Core.List.{List, [], _∷_}
 use mathlib.Core.Logic.{_⊎_, inl, inr}
 use native.Mathlib.Omega.{arith}
 use native.Mathlib.Decide.{decLt}
@@ -163,7 +163,8 @@ module _ (b : Bench) (kn : Known b) (r : Line → ℕ) (m′ : Machine) (g : Len
             ∙ either-late (b .mark k) (b .mark u) (latest b (r l) l)
             ∙ ap (leb (b .mark k)) (omega arith)
 
-    over-by : (x : Touch) → Fencing m x → (FlushesBy x k → ⊥) → has (overAt (touched m′ x) l) k ≡ leb (b .mark k) (max (fromAfter x now (b .mark) (b .from) l) (r l - 1))
+    over-by : (x : Touch) → Fencing m x → (FlushesBy x k → ⊥)
+        → has (overAt (touched m′ x) l) k ≡ leb (b .mark k) (max (fromAfter x now (b .mark) (b .from) l) (r l - 1))
     over-by nothing n ne = was
     over-by (aStore x) n ne = was
     over-by (aPersist x) n ne = by (line-eq l x)
@@ -171,9 +172,11 @@ module _ (b : Bench) (kn : Known b) (r : Line → ℕ) (m′ : Machine) (g : Len
         by : Dec (l ≡ x) → has (overAt (persist m′ x) l) k ≡ leb (b .mark k) (max (fromAfter (aPersist x) now (b .mark) (b .from) l) (r l - 1))
         by (yes e) = subst (λ x. has (overAt (persist m′ x) l) k ≡ leb (b .mark k) (max (fromAfter (aPersist x) now (b .mark) (b .from) l) (r l - 1))) e
             (ap (λ q. has q k) (flushes.keeping-over-own m′ (g .sized) (cachedAt m′ l) (everyone m′) l (there l hl)) ∙ everyone-in m′ k (omega (arith, hk, same-t))
-            ∙ sym (le-leb (b .mark k) (max now (r l - 1)) (omega (arith, mark-past b kn k))) ∙ ap (λ i. leb (b .mark k) (max i (r l - 1))) (sym (put-same (b .from) l now)))
+            ∙ sym (le-leb (b .mark k) (max now (r l - 1)) (omega (arith, mark-past b kn k)))
+            ∙ ap (λ i. leb (b .mark k) (max i (r l - 1))) (sym (put-same (b .from) l now)))
         by (no q) =
-            ap (λ p. has p k) (frame.keeping-over m′ x (cachedAt m′ x) (everyone m′) l q) ∙ was ∙ ap (λ i. leb (b .mark k) (max i (r l - 1))) (sym (put-other (b .from) x now l q))
+            ap (λ p. has p k) (frame.keeping-over m′ x (cachedAt m′ x) (everyone m′) l q) ∙ was
+            ∙ ap (λ i. leb (b .mark k) (max i (r l - 1))) (sym (put-other (b .from) x now l q))
     over-by (aFlush u x) n ne = by (line-eq l x)
       where
         by : Dec (l ≡ x) → has (overAt (flush m′ u x) l) k ≡ leb (b .mark k) (latest b (r l) l)

@@ -1,9 +1,9 @@
 -- The page of a run from a start: its endings are what added write-backs leave.
-use Prim.Native.Nat.{ℕ, suc, _+_, _<_}
+use Prim.Native.Nat.{ℕ, _+_, _<_}
 use mathlib.Core.Path.{_≡_, refl, sym, ap, ap₂, subst, _∙_}
 use mathlib.Core.List.{List, [], _++_}
 use native.Mathlib.Omega.{arith}
-use lib.ListN.{length, getD, drop}
+use lib.ListN.{length, getD}
 use Rattle.lists.specs.Tab.{front}
 use Rattle.lists.proofs.TabLaws as tabs
 use Rattle.answer.specs.Answers.{accepted}
@@ -13,7 +13,6 @@ use Rattle.image.specs.declared.Content.{Content}
 use Rattle.image.specs.declared.Image.{Image}
 use Rattle.image.specs.declared.Shape.{Shape}
 use Rattle.machine.specs.Line.{shapeOf, lineCount, lineAt, persistedAt}
-use Rattle.machine.specs.declared.Line.the-variants.{OfHead as ofHead}
 use Rattle.machine.specs.Record.{keptHead}
 use Rattle.machine.specs.declared.Machine.{Machine}
 use Rattle.machine.specs.declared.Event.{Event}

@@ -7,7 +7,7 @@ use mathlib.Core.Bool.{Bool, true, false}
 use mathlib.Core.List.{List, [], _∷_, map}
 use mathlib.Core.Logic.{_⊎_, inl, inr, _≢_}
 use native.Mathlib.Omega.{arith}
-use native.Mathlib.Decide.{decLt, ℕ-discrete}
+use native.Mathlib.Decide.{ℕ-discrete}
 use lib.Dec.{ltb}
 use lib.ListN.{length, getD, drop, length-append, length-drop}
 use lib.Seq.{getD-drop}
@@ -92,7 +92,8 @@ module _ (l : Line) (c : Content) where
       behind ne (inl (h, e)) = inr (0, omega arith, ne, e)
       behind ne (inr (i, h, o, e)) = inr (suc i, omega arith, o, e)
 
-      by : (cachedAt a l ≡ c) ⊎ (cachedAt a l ≢ c) → (c ≡ cachedAt a l) ⊎ Among c (map (λ m. cachedAt m l) ms) → (Among c (map (λ m. cachedAt m l) ms) → First ms) → First (a ∷ ms)
+      by : (cachedAt a l ≡ c) ⊎ (cachedAt a l ≢ c) → (c ≡ cachedAt a l) ⊎ Among c (map (λ m. cachedAt m l) ms)
+          → (Among c (map (λ m. cachedAt m l) ms) → First ms) → First (a ∷ ms)
       by (inl e) k f = inl (omega arith, e)
       by (inr ne) (inl e) f = absurd (ne (sym e))
       by (inr ne) (inr k) f = behind ne (f k)
@@ -185,7 +186,8 @@ module _ (d : Bench) (l : Line) (c : Content) (b : Bench) (kn : Known b) (u : Be
 -- ---- one event
 
 -- an event that leaves a line with another content has stored to it, and no copy has moved
-stored : (b : Bench) (kn : Known b) (m : Machine) (w : Touch) → Frame (b .machine) m w → (l : Line) → cachedAt m l ≢ cachedAt (b .machine) l → (r : ℕ) → r ≤ length (b .past)
+stored : (b : Bench) (kn : Known b) (m : Machine) (w : Touch) → Frame (b .machine) m w → (l : Line) → cachedAt m l ≢ cachedAt (b .machine) l → (r : ℕ)
+    → r ≤ length (b .past)
     → leftWith (goesOn b m w) r l ≡ leftWith b r l
 stored b kn m w f l ne r h = by w refl
   where
@@ -202,7 +204,8 @@ stored b kn m w f l ne r h = by w refl
     by (aFlush k x) e = no (aFlush k x) e (λ z. z)
     by (aFence k x) e = no (aFence k x) e (λ z. z)
 
-module _ (d : Bench) (l : Line) (c : Content) (p : ℕ) (b : Bench) (kn : Known b) (e : Event) (ne : Crash e → ⊥) (t : Takes p (b .machine) e) (u : Before b d) (u₁ : Before (onto b e) d) where
+module _ (d : Bench) (l : Line) (c : Content) (p : ℕ) (b : Bench) (kn : Known b) (e : Event) (ne : Crash e → ⊥) (t : Takes p (b .machine) e)
+    (u : Before b d) (u₁ : Before (onto b e) d) where
   abbrev m₁ : Machine
   m₁ = events.next (b .machine) e
 
@@ -233,7 +236,8 @@ module _ (d : Bench) (l : Line) (c : Content) (p : ℕ) (b : Bench) (kn : Known 
 -- ---- a recorded write-back of the line still to come, and the end
 
 -- a line that will count from a later moment has the recorded copy
-pub untouched : (d : Bench) (l : Line) (c : Content) (b : Bench) (r : ℕ) → r ≤ length (b .past) → length (b .past) ≤ d .from l → Stands d l c b r → leftWith b r l ≡ persistedAt (b .machine) l
+pub untouched : (d : Bench) (l : Line) (c : Content) (b : Bench) (r : ℕ) → r ≤ length (b .past) → length (b .past) ≤ d .from l → Stands d l c b r
+    → leftWith b r l ≡ persistedAt (b .machine) l
 untouched d l c b r h k (anyway q e) = left-old b r l (omega (arith, q))
 untouched d l c b r h k (later i q j w) = left-old b r l (omega (arith, q))
 untouched d l c b r h k (next i q w ne) = absurd (omega (arith, w .counts, q))

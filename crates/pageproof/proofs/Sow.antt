@@ -10,18 +10,16 @@ use lib.ListN.{length}
 use Rattle.lists.specs.Find.{pick}
 use Rattle.answer.specs.Answers.{accepted}
 use Rattle.answer.specs.declared.Answer.{Answer}
-use Rattle.image.specs.Layout.{sameContent}
 use Rattle.image.specs.declared.Content.{Content}
 use Rattle.image.specs.declared.Shape.{Shape}
-use Rattle.machine.specs.Line.{shapeOf, lineCount, lineAt, cachedAt, persistedAt}
+use Rattle.machine.specs.Line.{shapeOf, lineCount, lineAt, cachedAt, persistedAt, putLine}
 use Rattle.machine.specs.Event.{Deed, writesBack, deedOf, clean, done, eventAt}
 use Rattle.machine.specs.declared.Line.{Line}
-use Rattle.machine.specs.declared.Machine.{Machine}
 use Rattle.machine.specs.declared.Event.{Event}
 use Rattle.machine.specs.declared.Touch.{Touch}
 use Rattle.machine.specs.declared.Touch.the-variants.{Persist as aPersist}
-use Rattle.machine.proofs.LineLaws.{line-in, line-one, put-same, put-other}
-use Rattle.schedule.specs.Run.{Bench, Ran, run, andBefore, goesOn, fromAfter}
+use Rattle.machine.proofs.LineLaws.{LineIn, line-in, line-one, put-same, put-other}
+use Rattle.schedule.specs.Run.{Bench, Ran, run, andBefore, fromAfter}
 use Rattle.lawful.specs.Added.{writeBack, Adds, ends, keeps, adds, NoCrash}
 use Rattle.moments.proofs.Joins.{same-equal}
 use Rattle.moments.proofs.Known.{Known}
@@ -56,7 +54,8 @@ module _ (z : Shape) (d : Bench) (goal : ℕ → Content) where
   Goes b l x = (q : ℕ) (b′ : Bench) (r : Line → ℕ) → Lengthened b r (b′ .machine) → ((j : ℕ) → j < lineCount z → StandsAt b r j) → Sown l x q b′
 
   -- a write-back in front
-  sown-back : (l : List Event) (x : List Answer) (q : ℕ) (b′ : Bench) (i : ℕ) → i < lineCount z → Takes q (b′ .machine) (writeBack i) → Sown l x (suc q) (onto b′ (writeBack i)) → Sown l x q b′
+  sown-back : (l : List Event) (x : List Answer) (q : ℕ) (b′ : Bench) (i : ℕ) → i < lineCount z → Takes q (b′ .machine) (writeBack i)
+      → Sown l x (suc q) (onto b′ (writeBack i)) → Sown l x q b′
   sown-back l x q b′ i h t s = record {
     events = writeBack i ∷ s .events;
     taken = ap (λ (r : Ran). accepted (r .answer)) is ∙ s .taken;
@@ -68,7 +67,8 @@ module _ (z : Shape) (d : Bench) (goal : ℕ → Content) where
       is = run-cons q b′ (writeBack i) (s .events) t
 
   -- a recorded event in front
-  sown-event : (p : ℕ) (b : Bench) (e : Event) (l : List Event) → Takes p (b .machine) e → (Crash e → ⊥) → (q : ℕ) (b′ : Bench) → Alike (b .machine) (b′ .machine) → Takes q (b′ .machine) e
+  sown-event : (p : ℕ) (b : Bench) (e : Event) (l : List Event) → Takes p (b .machine) e → (Crash e → ⊥) → (q : ℕ) (b′ : Bench)
+      → Alike (b .machine) (b′ .machine) → Takes q (b′ .machine) e
       → Sown l (run (suc p) (onto b e) l .replies) (suc q) (onto b′ e) → Sown (e ∷ l) (run p b (e ∷ l) .replies) q b′
   sown-event p b e l t ne q b′ a t′ s = record {
     events = e ∷ s .events;
@@ -88,7 +88,7 @@ module _ (z : Shape) (d : Bench) (goal : ℕ → Content) where
     added = rw (run-silent p b, run-silent q b′) ends;
     left = λ j h.
         let l = lineAt z j in
-        ap (λ (y : Bench). persistedAt (y .machine) l) (run-nothing q b′) ∙ g .kept l (subst (λ s. Rattle.machine.proofs.LineLaws.LineIn s l) (sym size) (line-in z j h))
+        ap (λ (y : Bench). persistedAt (y .machine) l) (run-nothing q b′) ∙ g .kept l (subst (λ s. LineIn s l) (sym size) (line-in z j h))
         ∙ ap (λ (y : Bench). leftWith y (r l) l) is ∙ ended d l (goal j) (r l) (subst (λ (y : Bench). Stands d l (goal j) y (r l)) is (st j h));
   }
 
@@ -106,12 +106,12 @@ module _ (z : Shape) (d : Bench) (goal : ℕ → Content) where
 
       written : r′ (lineAt z i) ≡ length (b .past)
       unfolding writes
-      written = ap (λ (y : Shape). Rattle.machine.specs.Line.putLine r (lineAt y i) (length (b .past)) (lineAt z i)) size ∙ put-same r (lineAt z i) (length (b .past))
+      written = ap (λ (y : Shape). putLine r (lineAt y i) (length (b .past)) (lineAt z i)) size ∙ put-same r (lineAt z i) (length (b .past))
 
       others : (j : ℕ) → j ≢ i → r′ (lineAt z j) ≡ r (lineAt z j)
       unfolding writes
       others j ne =
-          ap (λ (y : Shape). Rattle.machine.specs.Line.putLine r (lineAt y i) (length (b .past)) (lineAt z j)) size
+          ap (λ (y : Shape). putLine r (lineAt y i) (length (b .past)) (lineAt z j)) size
           ∙ put-other r (lineAt z i) (length (b .past)) (lineAt z j) (λ e. ne (line-one z j i e))
 
       size′ : shapeOf (b′ .machine) ≡ z
@@ -126,7 +126,7 @@ module _ (z : Shape) (d : Bench) (goal : ℕ → Content) where
           by true e =
               let k = lineAt z i in
               let same = same-equal (cachedAt (b′ .machine) k) (persistedAt (b′ .machine) k) (ap (λ (y : Shape). clean (b′ .machine) (lineAt y i)) (sym size′) ∙ e) in
-              absurd (ne (sym (g .kept k (subst (λ s. Rattle.machine.proofs.LineLaws.LineIn s k) (sym size) (line-in z i h))) ∙ sym same ∙ alike-cached (b .machine) (b′ .machine) (g .alike) k))
+              absurd (ne (sym (g .kept k (subst (λ s. LineIn s k) (sym size) (line-in z i h))) ∙ sym same ∙ alike-cached (b .machine) (b′ .machine) (g .alike) k))
 
       taken : leftWith b (r (lineAt z i)) (lineAt z i) ≢ cachedAt (b .machine) (lineAt z i) → Takes q (b′ .machine) (writeBack i)
       taken ne = events.back-taken q (b′ .machine) i (subst (λ (y : Shape). i < lineCount y) (sym size′) h) (is-changed ne)
@@ -145,14 +145,16 @@ module _ (z : Shape) (d : Bench) (goal : ℕ → Content) where
           by j k n (no ne) = subst (Stands d (lineAt z j) (goal j) b) (sym (others j ne)) (high j (omega arith) n)
 
       -- or it is not
-      leaving : Stands d (lineAt z i) (goal i) b (r (lineAt z i)) → ((j : ℕ) → j < i → DueAt b r j) → ((j : ℕ) → suc i ≤ j → j < lineCount z → StandsAt b r j) → Sown l x q b′
+      leaving : Stands d (lineAt z i) (goal i) b (r (lineAt z i)) → ((j : ℕ) → j < i → DueAt b r j) → ((j : ℕ) → suc i ≤ j → j < lineCount z → StandsAt b r j)
+          → Sown l x q b′
       leaving st low high = rest q b′ r g low (λ j k n. by j k n (ℕ-discrete j i))
         where
           by : (j : ℕ) → i ≤ j → j < lineCount z → Dec (j ≡ i) → StandsAt b r j
           by j k n (yes e) = subst (λ j. StandsAt b r j) (sym e) st
           by j k n (no ne) = high j (omega arith) n
 
-      one : Settled d (lineAt z i) (goal i) b kn u (r (lineAt z i)) → ((j : ℕ) → j < i → DueAt b r j) → ((j : ℕ) → suc i ≤ j → j < lineCount z → StandsAt b r j) → Sown l x q b′
+      one : Settled d (lineAt z i) (goal i) b kn u (r (lineAt z i)) → ((j : ℕ) → j < i → DueAt b r j)
+          → ((j : ℕ) → suc i ≤ j → j < lineCount z → StandsAt b r j) → Sown l x q b′
       one s low high = by (s .back) refl
         where
           by : (y : Bool) → s .back ≡ y → Sown l x q b′
@@ -179,10 +181,11 @@ module _ (z : Shape) (d : Bench) (goal : ℕ → Content) where
         let is : touch (b .machine) e ≡ aPersist k = ap (λ (y : Deed). done (b .machine) e y .touch) w ∙ ap (λ (y : Shape). aPersist (lineAt y (e .number))) size in
         omega (arith, u₁ .from k, ap (λ (y : Bench). y .from k) (events.onto-goes p b e t ne) ∙ ap (λ (y : Touch). fromAfter y (length (b .past)) (b .mark) (b .from) k) is ∙ put-same (b .from) k (length (b .past)))
 
-    as-clean : deedOf (e .kind) ≡ writesBack → clean (b′ .machine) (lineAt (shapeOf (b .machine)) (e .number)) ≡ clean (b .machine) (lineAt (shapeOf (b .machine)) (e .number))
+    as-clean : deedOf (e .kind) ≡ writesBack
+        → clean (b′ .machine) (lineAt (shapeOf (b .machine)) (e .number)) ≡ clean (b .machine) (lineAt (shapeOf (b .machine)) (e .number))
     as-clean w = subst (λ (y : Shape). clean (b′ .machine) (lineAt y (e .number)) ≡ clean (b .machine) (lineAt y (e .number))) (sym size)
         (alike-clean (b .machine) (b′ .machine) (g .alike) k
-        (g .kept k (subst (λ s. Rattle.machine.proofs.LineLaws.LineIn s k) (sym size) (line-in z (e .number) there))
+        (g .kept k (subst (λ s. LineIn s k) (sym size) (line-in z (e .number) there))
         ∙ untouched d k (goal (e .number)) b (r k) (g .early k) (counts w) (st (e .number) there)))
       where
         k : Line
