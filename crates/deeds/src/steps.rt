@@ -166,7 +166,14 @@ fn d4(out: &mut [u8; 65536], at: usize, b: Thread, th: Thread, after: Machine) -
 // S3 and S6: the index of node i.
 fn index_stored(out: &mut [u8; 65536], at: usize, m: Machine, i: u8) -> usize {
     let x = index_of(m, i);
-    said_both(out, at, b"its head line set to index ", x, b", that of node ", i as u64)
+    said_both(
+        out,
+        at,
+        b"its head line set to index ",
+        x,
+        b", that of node ",
+        i as u64,
+    )
 }
 
 // D3 and D6.
