@@ -16,7 +16,13 @@ from drawing.page import page
 
 LARGE = 2000              # so many endings are put together as images; of more the printed page alone is compared
 
-INDEX = {1: "I", 2: "Q"}  # an index by the image's version
+# an index by the mark and version of an image
+INDEX = {b"UQI\1\0": "I", b"UQI\2\0": "Q", b"UQP\1\0": "I"}
+
+
+def own_heads(image):
+    """How many desks have a head line of their own, by an image's first bytes: T of "UQP", and none where Head has the one line."""
+    return image[6] if image[:3] == b"UQP" else 0
 
 
 def schedules(stream):
@@ -53,20 +59,22 @@ def kept_in(rows):
     return [lines[line] for line in sorted(lines)]
 
 
-def image_of(version, contents):
-    """One content a line, as an image of a version: Head's index, then linked, index and item of each node."""
-    index = INDEX[version]
-    out = b"UQI" + struct.pack("<HB" + index, version, len(contents) - 1, int(contents[0][1]))
-    return out + b"".join(struct.pack("<B" + index + "I", *(int(x) for x in content)) for content in contents[1:])
+def image_of(start, contents):
+    """One content a line, as an image of the start image's form: N, in "UQP" T, the head lines' indices, then linked, index and item of each node."""
+    index, desks = INDEX[start[:5]], own_heads(start)
+    heads = desks or 1
+    out = start[:5] + bytes([len(contents) - heads] + ([desks] if desks else []))
+    out += b"".join(struct.pack("<" + index, int(content[1])) for content in contents[:heads])
+    return out + b"".join(struct.pack("<B" + index + "I", *(int(x) for x in content)) for content in contents[heads:])
 
 
-def images_in(version, rows):
-    """The images that the rows say, in the version of the schedule's: each ending's letters name a content of each line that has a choice."""
+def images_in(start, rows):
+    """The images that the rows say, in the form of the schedule's: each ending's letters name a content of each line that has a choice."""
     lines = kept_in(rows)
     for row in rows:
         if row[0] == "ending":
             letters = iter("" if row[2] == "-" else row[2])
-            yield image_of(version, [line["abcdefghijklmnop".index(next(letters))] if len(line) > 1 else line[0] for line in lines])
+            yield image_of(start, [line["abcdefghijklmnop".index(next(letters))] if len(line) > 1 else line[0] for line in lines])
 
 
 def sum_of(images):
@@ -82,9 +90,10 @@ def contents_over(images):
     """For each line its contents over all endings, in the order in which they first appear: in each line the oldest comes first."""
     lines = []
     for image in images:
-        index = INDEX[image[3]]
-        heads = [("-", str(struct.unpack_from("<" + index, image, 6)[0]), "-")]
-        first, size = 6 + struct.calcsize("<" + index), struct.calcsize("<B" + index + "I")
+        index, desks = INDEX[image[:5]], own_heads(image)
+        indices, at = "<%d%s" % (desks or 1, index), 7 if desks else 6
+        heads = [("-", str(x), "-") for x in struct.unpack_from(indices, image, at)]
+        first, size = at + struct.calcsize(indices), struct.calcsize("<B" + index + "I")
         nodes = [tuple(str(x) for x in struct.unpack_from("<B" + index + "I", image, at)) for at in range(first, len(image), size)]
         lines = lines or [[] for _ in heads + nodes]
         for line, content in zip(lines, heads + nodes):
@@ -124,12 +133,20 @@ def wrong_in_drawing(html):
         yield "the drawing is not well-formed: %s" % error
 
 
-def wrong_beside(version, rows, second):
-    """What is not as the second program has it."""
+def names_of(start):
+    """The names of the lines, the head lines first."""
+    heads = ["head of desk %d" % k for k in range(own_heads(start))] or ["Head"]
+    return heads + ["node %d" % i for i in range(start[5])]
+
+
+def wrong_beside(start, rows, second):
+    """What is not as the second program has it; `start` is the start image."""
     count, images, total = second
+    if [row[2] for row in rows if row[0] == "line"] != names_of(start):
+        yield "its lines are not the head lines and the nodes"
     if images and kept_in(rows) != contents_over(images):
         yield "the contents of its lines are not those of the second program's endings"
-    if count <= LARGE and sum_of(images_in(version, rows)) != total:
+    if count <= LARGE and sum_of(images_in(start, rows)) != total:
         yield "its endings, put together from the contents of its lines, are not the second program's"
 
 
@@ -140,7 +157,7 @@ def wrong_with(schedule, explain, endings, second):
     if lines_of_page(rows) != (page_lines if second is None else page_lines[1:]):
         yield "its rows are not the printed page"
     if second is not None:
-        yield from wrong_beside(schedule[11], rows, second)
+        yield from wrong_beside(schedule[8:], rows, second)
     yield from wrong_in_drawing(page(text, "a generated schedule"))
     planted = text.replace("\nkept\t", "\nkept\t0\t0\t-\t77\t-\nkept\t", 1)
     if planted != text and "disagree" not in page(planted, "planted"):
@@ -149,19 +166,19 @@ def wrong_with(schedule, explain, endings, second):
 
 def main(explain, endings, stream, images):
     given = second_endings(open(images).read())
-    looked = taken = followed = bad = 0
+    looked = taken = desks = followed = bad = 0
     for number, schedule in enumerate(schedules(open(stream, "rb").read())):
         looked += 1
         second = given[number] if number < len(given) else None
         if second is not None:
-            taken, followed = taken + 1, followed + second[0]
+            taken, followed, desks = taken + 1, followed + second[0], desks + (schedule[8:11] == b"UQP")
         for wrong in wrong_with(schedule, explain, endings, second):
             print("schedule %d: %s" % (number, wrong))
             bad += 1
     if looked != len(given):
         print("%d schedules, and %d of the second program's" % (looked, len(given)))
         bad += 1
-    print("%d schedules, %d of them taken, %d endings" % (looked, taken, followed))
+    print("%d schedules, %d of them taken (%d with a head line for each desk), %d endings" % (looked, taken, desks, followed))
     return 1 if bad else 0
 
 

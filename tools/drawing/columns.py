@@ -4,7 +4,7 @@ from collections import namedtuple
 
 LETTERS = "abcdefghijklmnop"
 
-# what a line holds: "-" for what Head's line does not have, queue "" where there is one queue
+# what a line holds: "-" for what a head line does not have, queue "" where there is one queue
 Content = namedtuple("Content", "linked index item queue")
 # one queue of an ending: its head index, items and their indices
 Queue = namedtuple("Queue", "head items indices")
@@ -107,6 +107,11 @@ class Run:
 
     def name(self, line):
         return self.names.get(line, "line %d" % line)
+
+    @property
+    def own_heads(self):
+        """Whether each desk has a head line of its own."""
+        return any(name.startswith("head of desk") for name in self.names.values())
 
     @property
     def lines(self):

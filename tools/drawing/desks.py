@@ -83,7 +83,7 @@ def begin_box(d, k, ev, boxes, tip):
 def step_box(d, k, ev, boxes, tip):
     s, x, half = d.svg, d.x(ev.e), d.cw / 2
     stored, saved = bool(ev.contents), ev.persist is not None
-    what = "event %d, desk %d: %s, %s" % (ev.e, k, ev.step, words.STEPS.get(ev.step, ""))
+    what = "event %d, desk %d: %s, %s" % (ev.e, k, ev.step, words.step(d.run, ev.step))
     if ev.answer is not None:
         what += "; answers " + ev.answer
     if d.names:

@@ -69,7 +69,7 @@ class Layout:
 
     def blocks_of(self, line):
         run = self.run
-        at = run.at_start.get(line, [(0, Content("-" if run.name(line).startswith("Head") else "0", "0", "-", ""))])
+        at = run.at_start.get(line, [(0, Content("0" if run.name(line).startswith("node") else "-", "0", "-", ""))])
         stored = [(None, at[0][1])] + [(run.first - 1, c) for _, c in at[1:]]
         self.marks[line] = [(ev.e, ev.persist) for ev in run.events if ev.persist and ev.persist.line == line]
         self.flushes[line] = [(ev.e, ev.flush[1]) for ev in run.events if ev.flush and ev.flush[0] == line]

@@ -51,7 +51,8 @@ def steps(d, strip):
 
 def contents(d, strip):
     s = d.svg
-    strip.entry(44, "content: linked (■) or not (□), #index, item; Head has an index only",
+    head = "a head line" if d.run.own_heads else "Head"
+    strip.entry(44, "content: linked (■) or not (□), #index, item; %s has an index only" % head,
                 lambda x, m: (s.rect(x - 2, m - 8, 46, 16, "#ffffff", INK, 1, 2), s.content(x + 3, m + 3.4, Content("1", "2", "6", ""), 9.5)))
     strip.entry(16, "still in the cache", lambda x, m: s.rect(x, m - 7, 16, 14, CACHE_FILL, CACHE_EDGE, 1.2, 2))
     strip.entry(16, "persisted", lambda x, m: s.rect(x, m - 7, 16, 14, "#ffffff", INK, 1.2, 2))

@@ -9,9 +9,19 @@ STEPS = {
     "D1": "Head read", "D2": "next of that node read", "D3": "line 0 persisted, Empty",
     "D4": "Head moves on, if it is still the pair read", "D5": "item of the next node read",
     "D6": "line 0 persisted", "D7": "the node held before is retired, the old dummy is held",
+    "S3": "the index of the node found last stored in its head line", "S6": "the new dummy's index stored in its head line",
+}
+# where each desk has a head line of its own
+OWN_HEADS = {
+    "D3": "its head line persisted, Empty", "D4": "Head moves on, if it is still the node read", "D6": "its head line persisted",
 }
 KINDS = {"1": "begin an enqueue", "2": "begin a dequeue", "3": "a step", "4": "a write-back", "5": "a crash",
          "6": "begin an enqueue on queue 1", "7": "begin a dequeue on queue 1"}
+
+
+def step(run, name):
+    """What a step does; "" of one that is not known."""
+    return (OWN_HEADS.get(name) if run.own_heads else None) or STEPS.get(name, "")
 
 
 def thousands(n):
@@ -38,7 +48,7 @@ def refusal(run):
         1: "The length is wrong: the bytes end too early, or go on after the last event.",
         2: "The mark or the version is wrong: these bytes are no schedule with an image that is read here.",
         3: "The number of nodes is not 2 to 64.",
-        4: "The number of threads is not 1 to 8.",
+        4: "The number of threads is not 1 to 8, or the image holds another.",
         5: "There are more than 4,096 events.",
         6: "The linked byte of node %d is above 1." % place,
         7: "Node %d has a lower-numbered twin: two recovered nodes with one index." % place,

@@ -4,6 +4,8 @@ use machine::Machine;
 use machine::Thread;
 use telling::lines::cached_of;
 use telling::lines::thread_of;
+use telling::shapes::per_desk;
+use telling::shapes::shape_of;
 use telling::text::said;
 use telling::text::said_both;
 use telling::text::step_name;
@@ -126,7 +128,27 @@ fn enqueue_deed(
     }
 }
 
+// D1. Where each desk has a head line, Head is a node number alone.
+fn head_read(out: &mut [u8; 65536], at: usize, th: Thread, m: Machine) -> usize {
+    let first = said(out, at, b"Head read: node ", th.head as u64, b"");
+    if per_desk(shape_of(m)) {
+        return first;
+    }
+    said(out, first, b", index ", th.index, b"")
+}
+
+// D4 of "UQP".
+fn node_moves(out: &mut [u8; 65536], at: usize, b: Thread, th: Thread) -> usize {
+    if th.step == Machine::D5 {
+        return said(out, at, b"Head becomes node ", b.next as u64, b"");
+    }
+    put_all(out, at, b"Head is no longer the node read, back to D1")
+}
+
 fn d4(out: &mut [u8; 65536], at: usize, b: Thread, th: Thread, after: Machine) -> usize {
+    if per_desk(shape_of(after)) {
+        return node_moves(out, at, b, th);
+    }
     if th.step == Machine::D5 {
         let head = cached_of(after, 0);
         return said_both(
@@ -139,6 +161,27 @@ fn d4(out: &mut [u8; 65536], at: usize, b: Thread, th: Thread, after: Machine) -
         );
     }
     put_all(out, at, b"Head is no longer the pair read, back to D1")
+}
+
+// S3 and S6: the index of node i.
+fn index_stored(out: &mut [u8; 65536], at: usize, m: Machine, i: u8) -> usize {
+    let x = index_of(m, i);
+    said_both(
+        out,
+        at,
+        b"its head line set to index ",
+        x,
+        b", that of node ",
+        i as u64,
+    )
+}
+
+// D3 and D6.
+fn head_persisted(out: &mut [u8; 65536], at: usize, m: Machine) -> usize {
+    if per_desk(shape_of(m)) {
+        return put_all(out, at, b"its head line is persisted");
+    }
+    put_all(out, at, b"the line of Head is persisted")
 }
 
 fn d7(out: &mut [u8; 65536], at: usize, b: Thread) -> usize {
@@ -165,14 +208,7 @@ fn dequeue_deed(
 ) -> usize {
     let step = b.step;
     match step {
-        Machine::D1 => said_both(
-            out,
-            at,
-            b"Head read: node ",
-            th.head as u64,
-            b", index ",
-            th.index,
-        ),
+        Machine::D1 => head_read(out, at, th, m),
         Machine::D2 => next_read(out, at, m, b.head, th.step),
         Machine::D4 => d4(out, at, b, th, after),
         Machine::D5 => said_both(
@@ -184,7 +220,9 @@ fn dequeue_deed(
             th.item as u64,
         ),
         Machine::D7 => d7(out, at, b),
-        _ => put_all(out, at, b"the line of Head is persisted"),
+        Machine::S3 => index_stored(out, at, m, b.head),
+        Machine::S6 => index_stored(out, at, m, b.next),
+        _ => head_persisted(out, at, m),
     }
 }
 

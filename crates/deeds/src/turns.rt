@@ -3,20 +3,26 @@ use crate::steps::deed;
 use answer::Told;
 use compare::text::put;
 use compare::text::put_all;
+use image::Shape;
 use machine::Event;
 use machine::Machine;
+use machine::Thread;
 use telling::lines::begun;
 use telling::lines::cached_of;
 use telling::lines::joined;
 use telling::lines::same;
 use telling::lines::thread_of;
+use telling::shapes::head_line;
+use telling::shapes::line_total;
+use telling::shapes::node_line;
+use telling::shapes::shape_of;
 use telling::starts::content_row;
-use telling::starts::line_total;
 use telling::starts::started;
 use telling::text::content_words;
 use telling::text::end;
 use telling::text::field;
 use telling::text::line_name;
+use telling::text::line_words;
 use telling::text::said;
 use telling::text::step_name;
 
@@ -50,7 +56,7 @@ fn changed(
     out: &mut [u8; 65536],
     at: usize,
     columns: bool,
-    book: &mut [u64; 8385],
+    book: &mut [u64; 9288],
     i: u16,
     line: u8,
     m: Machine,
@@ -61,20 +67,21 @@ fn changed(
         return at;
     }
     let j = joined(book, line, c);
+    let z = shape_of(after);
     if columns {
-        return content_row(out, at, (i as usize) + 1, line, j, c);
+        return content_row(out, at, (i as usize) + 1, z, line, j, c);
     }
     let first = put_all(out, at, b"; ");
-    let second = line_name(out, first, line);
+    let second = line_name(out, first, z, line);
     let third = put_all(out, second, b" is now ");
-    content_words(out, third, line, c)
+    content_words(out, third, z, line, c)
 }
 
 fn changes(
     out: &mut [u8; 65536],
     at: usize,
     columns: bool,
-    book: &mut [u64; 8385],
+    book: &mut [u64; 9288],
     i: u16,
     m: Machine,
     after: Machine,
@@ -95,7 +102,7 @@ fn persisted(
     out: &mut [u8; 65536],
     at: usize,
     columns: bool,
-    book: &mut [u64; 8385],
+    book: &mut [u64; 9288],
     i: u16,
     line: u8,
     after: Machine,
@@ -115,17 +122,15 @@ fn persisted(
     end(out, last)
 }
 
-// The line that a step persists, 255 where it persists none.
-fn persists(step: u8, node: u8) -> u8 {
-    if node < 64 {
-        if step == Machine::A10 {
-            return node + 1;
-        }
+// The line that desk k persists by its step, 255 where it persists none.
+fn persists(z: Shape, k: u8, th: Thread) -> u8 {
+    let step = th.step;
+    match step {
+        Machine::A10 => node_line(z, th.node),
+        Machine::D3 => head_line(z, k),
+        Machine::D6 => head_line(z, k),
+        _ => 255,
     }
-    if step == Machine::D3 || step == Machine::D6 {
-        return 0;
-    }
-    255
 }
 
 fn reply_words(out: &mut [u8; 65536], at: usize, reply: u8) -> usize {
@@ -178,7 +183,7 @@ fn stepped(
     out: &mut [u8; 65536],
     at: usize,
     columns: bool,
-    book: &mut [u64; 8385],
+    book: &mut [u64; 9288],
     i: u16,
     k: u8,
     m: Machine,
@@ -191,9 +196,10 @@ fn stepped(
         let next = deed(out, place, k, m, after);
         place = next;
     }
-    let first = changes(out, place, columns, book, i, m, after, line_total(after));
+    let z = shape_of(m);
+    let first = changes(out, place, columns, book, i, m, after, line_total(z));
     let mut second = first;
-    let line = persists(th.step, th.node);
+    let line = persists(z, k, th);
     if line < 255 {
         let next = persisted(out, first, columns, book, i, line, after, th.step);
         second = next;
@@ -209,7 +215,7 @@ fn written_back(
     out: &mut [u8; 65536],
     at: usize,
     columns: bool,
-    book: &mut [u64; 8385],
+    book: &mut [u64; 9288],
     i: u16,
     line: u8,
     after: Machine,
@@ -218,8 +224,8 @@ fn written_back(
     if columns {
         return place;
     }
-    let first = said(out, place, b"", i as u64, b"  the line of ");
-    let second = line_name(out, first, line);
+    let first = said(out, place, b"", i as u64, b"  ");
+    let second = line_words(out, first, shape_of(after), line);
     put_all(out, second, b" is written back\n")
 }
 
@@ -228,7 +234,7 @@ pub fn happened(
     out: &mut [u8; 65536],
     at: usize,
     columns: bool,
-    book: &mut [u64; 8385],
+    book: &mut [u64; 9288],
     i: u16,
     e: Event,
     m: Machine,

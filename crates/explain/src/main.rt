@@ -9,11 +9,13 @@ use asked::Asked;
 use compare::text::finish;
 use compare::text::put;
 use compare::text::put_all;
+use image::Shape;
 use libc::STDERR_FILENO;
 use machine::Event;
 use machine::Machine;
 use schedule::Schedule;
-use telling::starts::line_total;
+use telling::shapes::line_total;
+use telling::shapes::shape_of;
 use telling::text::end;
 use telling::text::field;
 use telling::text::line_name;
@@ -34,14 +36,14 @@ fn no_event() -> Event {
     }
 }
 
-fn names(out: &mut [u8; 65536], at: usize, n: u8) -> usize {
+fn names(out: &mut [u8; 65536], at: usize, z: Shape, n: u8) -> usize {
     let mut place = at;
     let mut line: u8 = 0;
     while line < n {
         let first = put_all(out, place, b"line");
         let second = field(out, first, line as u64);
         let third = put(out, second, b'\t');
-        let fourth = line_name(out, third, line);
+        let fourth = line_name(out, third, z, line);
         place = end(out, fourth);
         line += 1;
     }
@@ -77,7 +79,7 @@ fn events_told(
     out: &mut [u8; 65536],
     at: usize,
     columns: bool,
-    book: &mut [u64; 8385],
+    book: &mut [u64; 9288],
     s: &[u8],
     start: Machine,
     count: usize,
@@ -92,7 +94,8 @@ fn events_told(
         let a = r.answer;
         let t = told_of(a);
         if t.number != 0 {
-            let last = telling::refusals::refused(out, place, columns, at_event(t, i), e);
+            let z = shape_of(m);
+            let last = telling::refusals::refused(out, place, columns, at_event(t, i), e, z);
             return Walked {
                 at: last,
                 whole: false,
@@ -126,16 +129,17 @@ fn endings_told(
     out: &mut [u8; 65536],
     at: usize,
     how: Asked,
-    book: &mut [u64; 8385],
+    book: &mut [u64; 9288],
     s: &[u8],
     m: Machine,
     count: u32,
 ) -> usize {
+    let z = shape_of(m);
     if how.columns {
         let first = put_all(out, at, b"endings");
         let second = field(out, first, count as u64);
         let third = end(out, second);
-        return stops::endings(out, third, s, book, m, count, line_total(m));
+        return stops::endings(out, third, s, book, m, count, line_total(z));
     }
     let place = said(out, at, b"endings ", count as u64, b"\n");
     if !how.picked {
@@ -148,7 +152,7 @@ fn endings_told(
             reply: 0,
             item: 0,
         };
-        return telling::refusals::refused(out, place, false, t, no_event());
+        return telling::refusals::refused(out, place, false, t, no_event(), z);
     }
     stops::ending_words(
         out,
@@ -156,7 +160,7 @@ fn endings_told(
         book,
         how.ending,
         stops::ended_at(s, m, how.ending),
-        line_total(m),
+        line_total(z),
     )
 }
 
@@ -165,20 +169,22 @@ fn stop_told(
     out: &mut [u8; 65536],
     at: usize,
     how: Asked,
-    book: &mut [u64; 8385],
+    book: &mut [u64; 9288],
     s: &[u8],
     m: Machine,
 ) -> usize {
+    let z = shape_of(m);
+    let lines = line_total(z);
     let place = stops::next_steps(out, at, how.columns, m, m.t);
     let page = pages::count_endings(s);
     let a = page.answer;
     let t = told_of(a);
     if t.number == 0 {
-        stops::lines_called(s, book, line_total(m));
+        stops::lines_called(s, book, lines);
     }
-    let next = stops::lines_kept(out, place, how.columns, book, line_total(m));
+    let next = stops::lines_kept(out, place, how.columns, book, z, lines);
     if t.number != 0 {
-        return telling::refusals::refused(out, next, how.columns, t, no_event());
+        return telling::refusals::refused(out, next, how.columns, t, no_event(), z);
     }
     endings_told(out, next, how, book, s, m, page.count)
 }
@@ -187,7 +193,7 @@ fn run_told(
     out: &mut [u8; 65536],
     at: usize,
     how: Asked,
-    book: &mut [u64; 8385],
+    book: &mut [u64; 9288],
     s: &[u8],
     d: Schedule,
 ) -> usize {
@@ -196,7 +202,8 @@ fn run_told(
     let m = r.machine;
     let mut place = sizes(out, at, how.columns, d.t, d.count, m.n);
     if how.columns {
-        let next = names(out, place, line_total(m));
+        let z = shape_of(m);
+        let next = names(out, place, z, line_total(z));
         place = next;
     }
     let begun = telling::starts::started(out, place, how.columns, book, 0, m);
@@ -208,7 +215,19 @@ fn run_told(
     stop_told(out, w.at, how, book, s, last)
 }
 
-fn explained(out: &mut [u8; 65536], how: Asked, book: &mut [u64; 8385], s: &[u8]) -> usize {
+// The shape that the image of a schedule says, as far as there are bytes.
+fn shape_said(s: &[u8]) -> Shape {
+    if s.len() < 15 {
+        return Shape {
+            form: 0,
+            n: 0,
+            t: 0,
+        };
+    }
+    codec::shape_in(&s[8..])
+}
+
+fn explained(out: &mut [u8; 65536], how: Asked, book: &mut [u64; 9288], s: &[u8]) -> usize {
     let mut place = 0;
     if how.columns {
         let next = put_all(out, 0, b"columns\t1\n");
@@ -218,7 +237,7 @@ fn explained(out: &mut [u8; 65536], how: Asked, book: &mut [u64; 8385], s: &[u8]
     let a = o.answer;
     let t = told_of(a);
     if t.number != 0 {
-        return telling::refusals::refused(out, place, how.columns, t, no_event());
+        return telling::refusals::refused(out, place, how.columns, t, no_event(), shape_said(s));
     }
     let d = o.schedule;
     run_told(out, place, how, book, s, d)
@@ -233,7 +252,7 @@ fn main() {
         );
         return;
     }
-    // The longest schedule has 25,170 bytes: what is longer than this is refused as its first part is.
+    // The longest schedule has 25,430 bytes: what is longer than this is refused as its first part is.
     let mut s = [0u8; 32768];
     let got = stream::fill(&mut s);
     if got.failed {
@@ -244,7 +263,7 @@ fn main() {
         return;
     }
     let mut out = [0u8; 65536];
-    let mut book = [0u64; 8385];
+    let mut book = [0u64; 9288];
     let bytes = got.bytes;
     let at = explained(&mut out, how, &mut book, &s[..bytes]);
     finish(&out, at);

@@ -3,14 +3,21 @@ use compare::text::put;
 use compare::text::put_all;
 use image::Content;
 use image::Image;
+use image::Shape;
+use machine::Line;
 use machine::Machine;
 use telling::lines::begun;
-use telling::lines::cached_of;
 use telling::lines::content_at;
 use telling::lines::count_of;
+use telling::lines::head_in;
 use telling::lines::joined;
+use telling::lines::node_in;
 use telling::lines::seat_of;
 use telling::lines::thread_of;
+use telling::shapes::head_index;
+use telling::shapes::image_shape;
+use telling::shapes::line_of;
+use telling::shapes::shape_of;
 use telling::starts::queue;
 use telling::starts::recovered;
 use telling::text::content_fields;
@@ -51,7 +58,7 @@ pub fn next_steps(out: &mut [u8; 65536], at: usize, columns: bool, m: Machine, n
 }
 
 // The contents of a line as the public call has them, into the book.
-fn line_called(s: &[u8], book: &mut [u64; 8385], line: u8) {
+fn line_called(s: &[u8], book: &mut [u64; 9288], line: u8) {
     let r = pages::line_contents(s, line as u32);
     let contents = r.contents;
     let c = contents[0];
@@ -66,7 +73,7 @@ fn line_called(s: &[u8], book: &mut [u64; 8385], line: u8) {
     }
 }
 
-pub fn lines_called(s: &[u8], book: &mut [u64; 8385], n: u8) {
+pub fn lines_called(s: &[u8], book: &mut [u64; 9288], n: u8) {
     let mut line: u8 = 0;
     while line < n {
         line_called(s, book, line);
@@ -74,18 +81,26 @@ pub fn lines_called(s: &[u8], book: &mut [u64; 8385], n: u8) {
     }
 }
 
-fn kept(out: &mut [u8; 65536], at: usize, columns: bool, line: u8, j: u8, c: Content) -> usize {
+fn kept(
+    out: &mut [u8; 65536],
+    at: usize,
+    columns: bool,
+    z: Shape,
+    line: u8,
+    j: u8,
+    c: Content,
+) -> usize {
     if columns {
         let first = put_all(out, at, b"kept");
         let second = field(out, first, line as u64);
         let third = field(out, second, j as u64);
-        let last = content_fields(out, third, line, c);
+        let last = content_fields(out, third, z, line, c);
         return end(out, last);
     }
     let first = put_all(out, at, b"  ");
     let second = letter(out, first, j);
     let third = put_all(out, second, b"  ");
-    let last = content_words(out, third, line, c);
+    let last = content_words(out, third, z, line, c);
     end(out, last)
 }
 
@@ -93,20 +108,21 @@ fn line_kept(
     out: &mut [u8; 65536],
     at: usize,
     columns: bool,
-    book: &mut [u64; 8385],
+    book: &mut [u64; 9288],
+    z: Shape,
     line: u8,
 ) -> usize {
     let mut place = at;
     if !columns {
         let first = said(out, at, b"line ", line as u64, b", ");
-        let second = line_name(out, first, line);
+        let second = line_name(out, first, z, line);
         let third = put_all(out, second, b", may hold\n");
         place = third;
     }
     let n = count_of(book, line);
     let mut j: u8 = 0;
     while j < n {
-        let next = kept(out, place, columns, line, j, content_at(book, line, j));
+        let next = kept(out, place, columns, z, line, j, content_at(book, line, j));
         place = next;
         j += 1;
     }
@@ -117,13 +133,14 @@ pub fn lines_kept(
     out: &mut [u8; 65536],
     at: usize,
     columns: bool,
-    book: &mut [u64; 8385],
+    book: &mut [u64; 9288],
+    z: Shape,
     n: u8,
 ) -> usize {
     let mut place = at;
     let mut line: u8 = 0;
     while line < n {
-        let next = line_kept(out, place, columns, book, line);
+        let next = line_kept(out, place, columns, book, z, line);
         place = next;
         line += 1;
     }
@@ -132,35 +149,24 @@ pub fn lines_kept(
 
 // What a line has in an ending.
 fn content_in(g: Image, line: u8) -> Content {
-    if line == 0 {
-        let index = g.heads[0];
-        return Content {
-            linked: 0,
-            index,
-            item: 0,
-        };
-    }
-    let i = (line - 1) as usize;
-    if i < 64 {
-        let v = g.nodes[i];
-        return v;
-    }
-    Content {
-        linked: 0,
-        index: 0,
-        item: 0,
+    let heads = g.heads;
+    let nodes = g.nodes;
+    let l = line_of(image_shape(g), line);
+    match l {
+        Line::OfHead(k) => head_in(heads, k),
+        Line::OfNode(k) => node_in(nodes, k),
     }
 }
 
 // The letter of a line with a choice.
-fn choice(out: &mut [u8; 65536], at: usize, book: &mut [u64; 8385], g: Image, line: u8) -> usize {
+fn choice(out: &mut [u8; 65536], at: usize, book: &mut [u64; 9288], g: Image, line: u8) -> usize {
     if count_of(book, line) < 2 {
         return at;
     }
     letter(out, at, seat_of(book, line, content_in(g, line)))
 }
 
-fn has_choice(book: &mut [u64; 8385], n: u8) -> bool {
+fn has_choice(book: &mut [u64; 9288], n: u8) -> bool {
     let mut line: u8 = 0;
     while line < n {
         if count_of(book, line) > 1 {
@@ -171,7 +177,7 @@ fn has_choice(book: &mut [u64; 8385], n: u8) -> bool {
     false
 }
 
-fn choices(out: &mut [u8; 65536], at: usize, book: &mut [u64; 8385], g: Image, n: u8) -> usize {
+fn choices(out: &mut [u8; 65536], at: usize, book: &mut [u64; 9288], g: Image, n: u8) -> usize {
     if !has_choice(book, n) {
         return put(out, at, b'-');
     }
@@ -203,13 +209,13 @@ fn image_of(b: &[u8], n: usize) -> Image {
     g
 }
 
-// How many bytes the image of an ending has, by the version of the schedule's.
+// How many bytes the image of an ending has: the form is the schedule's.
 fn size_of(m: Machine) -> usize {
-    let n = m.n as usize;
-    if m.form == 2 {
-        return 14 + n * 13;
+    let z = shape_of(m);
+    if image::is_known(z.form) {
+        return image::size_of(z);
     }
-    10 + n * 9
+    0
 }
 
 pub fn ended_at(s: &[u8], m: Machine, k: u64) -> Ended {
@@ -224,7 +230,7 @@ pub fn ended_at(s: &[u8], m: Machine, k: u64) -> Ended {
 fn ending_row(
     out: &mut [u8; 65536],
     at: usize,
-    book: &mut [u64; 8385],
+    book: &mut [u64; 9288],
     k: u32,
     e: Ended,
     n: u8,
@@ -235,8 +241,7 @@ fn ending_row(
     let g = e.image;
     let m = e.machine;
     let fourth = choices(out, third, book, g, n);
-    let head = cached_of(m, 0);
-    let fifth = field(out, fourth, head.index);
+    let fifth = field(out, fourth, head_index(m));
     let sixth = put(out, fifth, b'\t');
     let seventh = queue(out, sixth, m, true);
     let eighth = put(out, seventh, b'\t');
@@ -249,7 +254,7 @@ pub fn endings(
     out: &mut [u8; 65536],
     at: usize,
     s: &[u8],
-    book: &mut [u64; 8385],
+    book: &mut [u64; 9288],
     m: Machine,
     count: u32,
     n: u8,
@@ -264,18 +269,19 @@ pub fn endings(
     place
 }
 
-fn line_in(out: &mut [u8; 65536], at: usize, book: &mut [u64; 8385], g: Image, line: u8) -> usize {
+fn line_in(out: &mut [u8; 65536], at: usize, book: &mut [u64; 9288], g: Image, line: u8) -> usize {
     let c = content_in(g, line);
+    let z = image_shape(g);
     let first = put_all(out, at, b"  ");
-    let second = line_name(out, first, line);
+    let second = line_name(out, first, z, line);
     let third = put_all(out, second, b" has ");
     let fourth = letter(out, third, seat_of(book, line, c));
     let fifth = put_all(out, fourth, b": ");
-    let last = content_words(out, fifth, line, c);
+    let last = content_words(out, fifth, z, line, c);
     end(out, last)
 }
 
-fn lines_in(out: &mut [u8; 65536], at: usize, book: &mut [u64; 8385], g: Image, n: u8) -> usize {
+fn lines_in(out: &mut [u8; 65536], at: usize, book: &mut [u64; 9288], g: Image, n: u8) -> usize {
     let mut place = at;
     let mut line: u8 = 0;
     while line < n {
@@ -290,7 +296,7 @@ fn lines_in(out: &mut [u8; 65536], at: usize, book: &mut [u64; 8385], g: Image, 
 pub fn ending_words(
     out: &mut [u8; 65536],
     at: usize,
-    book: &mut [u64; 8385],
+    book: &mut [u64; 9288],
     k: u64,
     e: Ended,
     n: u8,

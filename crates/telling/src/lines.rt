@@ -1,6 +1,9 @@
 // What lines hold, and the book of each line's contents since it was last persisted: per line 64 places of index, then of linked and
 // item, and how many are used. More are not kept: a page takes 16.
+use crate::shapes::line_of;
+use crate::shapes::shape_of;
 use image::Content;
+use machine::Line;
 use machine::Machine;
 use machine::Thread;
 
@@ -14,17 +17,31 @@ fn no_content() -> Content {
     }
 }
 
-// The cached content of a line.
-pub fn cached_of(m: Machine, line: u8) -> Content {
-    if line == 0 {
-        let index = m.heads[0];
+// The content of a head line, and of a node's, among all.
+pub fn head_in(heads: [u64; 8], k: u8) -> Content {
+    let i = k as usize;
+    if i < 8 {
+        let index = heads[i];
         return Content {
             linked: 0,
             index,
             item: 0,
         };
     }
-    let i = (line - 1) as usize;
+    no_content()
+}
+
+pub fn node_in(nodes: [Content; 64], k: u8) -> Content {
+    let i = k as usize;
+    if i < 64 {
+        let v = nodes[i];
+        return v;
+    }
+    no_content()
+}
+
+fn cached_node(m: Machine, k: u8) -> Content {
+    let i = k as usize;
     if i < 64 {
         let v = m.nodes[i];
         return Content {
@@ -36,22 +53,25 @@ pub fn cached_of(m: Machine, line: u8) -> Content {
     no_content()
 }
 
+// The cached content of a line.
+pub fn cached_of(m: Machine, line: u8) -> Content {
+    let heads = m.heads;
+    let l = line_of(shape_of(m), line);
+    match l {
+        Line::OfHead(k) => head_in(heads, k),
+        Line::OfNode(k) => cached_node(m, k),
+    }
+}
+
 // The persisted content of a line.
 pub fn kept_of(m: Machine, line: u8) -> Content {
-    if line == 0 {
-        let index = m.kept_heads[0];
-        return Content {
-            linked: 0,
-            index,
-            item: 0,
-        };
+    let heads = m.kept_heads;
+    let nodes = m.kept;
+    let l = line_of(shape_of(m), line);
+    match l {
+        Line::OfHead(k) => head_in(heads, k),
+        Line::OfNode(k) => node_in(nodes, k),
     }
-    let i = (line - 1) as usize;
-    if i < 64 {
-        let v = m.kept[i];
-        return v;
-    }
-    no_content()
 }
 
 pub fn thread_of(m: Machine, k: u8) -> Thread {
@@ -76,25 +96,25 @@ pub fn same(a: Content, b: Content) -> bool {
     a.linked == b.linked && a.index == b.index && a.item == b.item
 }
 
-fn get(book: &[u64; 8385], i: usize) -> u64 {
-    if i < 8385 {
+fn get(book: &[u64; 9288], i: usize) -> u64 {
+    if i < 9288 {
         return book[i];
     }
     0
 }
 
-fn set(book: &mut [u64; 8385], i: usize, x: u64) {
-    if i < 8385 {
+fn set(book: &mut [u64; 9288], i: usize, x: u64) {
+    if i < 9288 {
         book[i] = x;
     }
 }
 
-pub fn count_of(book: &[u64; 8385], line: u8) -> u8 {
+pub fn count_of(book: &[u64; 9288], line: u8) -> u8 {
     let n = get(book, (line as usize) * 129 + 128);
     (n % 65) as u8
 }
 
-pub fn content_at(book: &[u64; 8385], line: u8, j: u8) -> Content {
+pub fn content_at(book: &[u64; 9288], line: u8, j: u8) -> Content {
     let at = (line as usize) * 129 + (j as usize) * 2;
     let index = get(book, at);
     let rest = get(book, at + 1);
@@ -105,7 +125,7 @@ pub fn content_at(book: &[u64; 8385], line: u8, j: u8) -> Content {
     }
 }
 
-fn put_at(book: &mut [u64; 8385], line: u8, j: u8, c: Content) {
+fn put_at(book: &mut [u64; 9288], line: u8, j: u8, c: Content) {
     let at = (line as usize) * 129 + (j as usize) * 2;
     set(book, at, c.index);
     set(
@@ -116,7 +136,7 @@ fn put_at(book: &mut [u64; 8385], line: u8, j: u8, c: Content) {
 }
 
 // The place of a content in a line's list; where it is not there, how many there are.
-pub fn seat_of(book: &[u64; 8385], line: u8, c: Content) -> u8 {
+pub fn seat_of(book: &[u64; 9288], line: u8, c: Content) -> u8 {
     let n = count_of(book, line);
     let mut j = 0;
     while j < n {
@@ -130,7 +150,7 @@ pub fn seat_of(book: &[u64; 8385], line: u8, c: Content) -> u8 {
 }
 
 // The line's cached content became c: it joins the list unless it is there. Its place.
-pub fn joined(book: &mut [u64; 8385], line: u8, c: Content) -> u8 {
+pub fn joined(book: &mut [u64; 9288], line: u8, c: Content) -> u8 {
     let n = count_of(book, line);
     let j = seat_of(book, line, c);
     if j == n && j < PLACES {
@@ -141,7 +161,7 @@ pub fn joined(book: &mut [u64; 8385], line: u8, c: Content) -> u8 {
 }
 
 // The line's list begins anew with c.
-pub fn begun(book: &mut [u64; 8385], line: u8, c: Content) {
+pub fn begun(book: &mut [u64; 9288], line: u8, c: Content) {
     put_at(book, line, 0, c);
     set(book, (line as usize) * 129 + 128, 1);
 }

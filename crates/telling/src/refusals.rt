@@ -1,10 +1,12 @@
 // A refusal: its row, or its sentence with what stands at its place.
+use crate::shapes::per_desk;
 use crate::text::end;
 use crate::text::field;
-use crate::text::line_name;
+use crate::text::line_words;
 use crate::text::said;
 use answer::Told;
 use compare::text::put_all;
+use image::Shape;
 use machine::Event;
 
 // Whether a number refuses an event: its place is one.
@@ -25,8 +27,20 @@ fn kind_words(out: &mut [u8; 65536], at: usize, kind: u8) -> usize {
     }
 }
 
+// 4: an image that holds the number of threads holds the schedule's.
+fn threads_words(out: &mut [u8; 65536], at: usize, z: Shape) -> usize {
+    if per_desk(z) {
+        return put_all(
+            out,
+            at,
+            b"the number of threads is not 1 to 8, or the image has another than the schedule",
+        );
+    }
+    put_all(out, at, b"the number of threads is not 1 to 8")
+}
+
 // Refusals of the bytes: 1 to 8.
-fn bytes_words(out: &mut [u8; 65536], at: usize, t: Told) -> usize {
+fn bytes_words(out: &mut [u8; 65536], at: usize, t: Told, z: Shape) -> usize {
     let number = t.number;
     match number {
         1 => put_all(
@@ -40,7 +54,7 @@ fn bytes_words(out: &mut [u8; 65536], at: usize, t: Told) -> usize {
             b"mark or version is wrong: no schedule with an image that is read here",
         ),
         3 => put_all(out, at, b"the number of nodes is not 2 to 64"),
-        4 => put_all(out, at, b"the number of threads is not 1 to 8"),
+        4 => threads_words(out, at, z),
         5 => put_all(out, at, b"there are more than 4,096 events"),
         6 => said(
             out,
@@ -98,9 +112,9 @@ fn event_words(out: &mut [u8; 65536], at: usize, t: Told, e: Event) -> usize {
     }
 }
 
-fn refusal_words(out: &mut [u8; 65536], at: usize, t: Told, e: Event) -> usize {
+fn refusal_words(out: &mut [u8; 65536], at: usize, t: Told, e: Event, z: Shape) -> usize {
     if t.number <= 8 {
-        return bytes_words(out, at, t);
+        return bytes_words(out, at, t, z);
     }
     if is_event(t.number) {
         return event_words(out, at, t, e);
@@ -108,9 +122,8 @@ fn refusal_words(out: &mut [u8; 65536], at: usize, t: Told, e: Event) -> usize {
     let number = t.number;
     match number {
         14 => {
-            let first = put_all(out, at, b"the line of ");
-            let second = line_name(out, first, (t.place % 256) as u8);
-            put_all(out, second, b" has more than 16 contents")
+            let first = line_words(out, at, z, (t.place % 256) as u8);
+            put_all(out, first, b" has more than 16 contents")
         }
         15 => put_all(out, at, b"there are more than 65,536 endings"),
         16 => put_all(out, at, b"there is no ending of that number"),
@@ -127,8 +140,15 @@ fn event_fields(out: &mut [u8; 65536], at: usize, t: Told, e: Event) -> usize {
     put_all(out, at, b"\t-\t-\t-")
 }
 
-// The last row, or the last line.
-pub fn refused(out: &mut [u8; 65536], at: usize, columns: bool, t: Told, e: Event) -> usize {
+// The last row, or the last line; z is the shape, as far as the bytes say it.
+pub fn refused(
+    out: &mut [u8; 65536],
+    at: usize,
+    columns: bool,
+    t: Told,
+    e: Event,
+    z: Shape,
+) -> usize {
     if columns {
         let first = put_all(out, at, b"refused");
         let second = field(out, first, t.number as u64);
@@ -138,6 +158,6 @@ pub fn refused(out: &mut [u8; 65536], at: usize, columns: bool, t: Told, e: Even
     }
     let first = said(out, at, b"refused ", t.number as u64, b" at ");
     let second = said(out, first, b"", t.place as u64, b": ");
-    let last = refusal_words(out, second, t, e);
+    let last = refusal_words(out, second, t, e, z);
     end(out, last)
 }

@@ -4,6 +4,9 @@ use crate::lines::cached_of;
 use crate::lines::joined;
 use crate::lines::kept_of;
 use crate::lines::same;
+use crate::shapes::head_index;
+use crate::shapes::line_total;
+use crate::shapes::shape_of;
 use crate::text::content_fields;
 use crate::text::end;
 use crate::text::event_field;
@@ -13,6 +16,7 @@ use compare::text::put;
 use compare::text::put_all;
 use compare::text::put_decimal;
 use image::Content;
+use image::Shape;
 use machine::Machine;
 use machine::Node;
 
@@ -68,6 +72,7 @@ pub fn content_row(
     out: &mut [u8; 65536],
     at: usize,
     moment: usize,
+    z: Shape,
     line: u8,
     j: u8,
     c: Content,
@@ -76,7 +81,7 @@ pub fn content_row(
     let second = event_field(out, first, moment);
     let third = field(out, second, line as u64);
     let fourth = field(out, third, j as u64);
-    let last = content_fields(out, fourth, line, c);
+    let last = content_fields(out, fourth, z, line, c);
     end(out, last)
 }
 
@@ -85,7 +90,7 @@ fn line_begun(
     out: &mut [u8; 65536],
     at: usize,
     columns: bool,
-    book: &mut [u64; 8385],
+    book: &mut [u64; 9288],
     moment: usize,
     line: u8,
     m: Machine,
@@ -97,18 +102,19 @@ fn line_begun(
     if !columns {
         return at;
     }
-    let place = content_row(out, at, moment, line, 0, p);
+    let z = shape_of(m);
+    let place = content_row(out, at, moment, z, line, 0, p);
     if same(p, c) {
         return place;
     }
-    content_row(out, place, moment, line, j, c)
+    content_row(out, place, moment, z, line, j, c)
 }
 
 fn lines_begun(
     out: &mut [u8; 65536],
     at: usize,
     columns: bool,
-    book: &mut [u64; 8385],
+    book: &mut [u64; 9288],
     moment: usize,
     m: Machine,
     n: u8,
@@ -126,8 +132,7 @@ fn lines_begun(
 // In words: the dummy, the head index, the queue.
 pub fn recovered(out: &mut [u8; 65536], at: usize, m: Machine) -> usize {
     let first = said(out, at, b"the dummy is node ", m.head as u64, b", ");
-    let head = cached_of(m, 0);
-    let second = said(out, first, b"head index ", head.index, b", queue ");
+    let second = said(out, first, b"head index ", head_index(m), b", queue ");
     let last = queue(out, second, m, true);
     end(out, last)
 }
@@ -155,22 +160,15 @@ fn start_row(out: &mut [u8; 65536], at: usize, columns: bool, moment: usize, m: 
     recovered(out, first, m)
 }
 
-// How many lines a machine has.
-pub fn line_total(m: Machine) -> u8 {
-    if m.n < 64 {
-        return m.n + 1;
-    }
-    65
-}
-
 pub fn started(
     out: &mut [u8; 65536],
     at: usize,
     columns: bool,
-    book: &mut [u64; 8385],
+    book: &mut [u64; 9288],
     moment: usize,
     m: Machine,
 ) -> usize {
     let place = start_row(out, at, columns, moment, m);
-    lines_begun(out, place, columns, book, moment, m, line_total(m))
+    let lines = line_total(shape_of(m));
+    lines_begun(out, place, columns, book, moment, m, lines)
 }

@@ -1,8 +1,13 @@
 // Pieces of rows and of sentences.
+use crate::shapes::is_head;
+use crate::shapes::line_of;
+use crate::shapes::per_desk;
 use compare::text::put;
 use compare::text::put_all;
 use compare::text::put_decimal;
 use image::Content;
+use image::Shape;
+use machine::Line;
 use machine::Machine;
 
 // A number behind a tab.
@@ -44,27 +49,49 @@ pub fn event_field(out: &mut [u8; 65536], at: usize, moment: usize) -> usize {
 }
 
 // A1 to A12, D1 to D7.
-pub fn step_name(out: &mut [u8; 65536], at: usize, step: u8) -> usize {
+fn numbered(out: &mut [u8; 65536], at: usize, step: u8) -> usize {
     if step <= Machine::A12 {
         return said(out, at, b"A", step as u64, b"");
     }
     said(out, at, b"D", (step - Machine::A12) as u64, b"")
 }
 
-pub fn is_head(line: u8) -> bool {
-    (line as usize) < Machine::HEADS
+// The same, and the stores S3 and S6 of "UQP".
+pub fn step_name(out: &mut [u8; 65536], at: usize, step: u8) -> usize {
+    match step {
+        Machine::S3 => put_all(out, at, b"S3"),
+        Machine::S6 => put_all(out, at, b"S6"),
+        _ => numbered(out, at, step),
+    }
 }
 
-pub fn line_name(out: &mut [u8; 65536], at: usize, line: u8) -> usize {
-    if line == 0 {
-        return put_all(out, at, b"Head");
+fn head_name(out: &mut [u8; 65536], at: usize, z: Shape, k: u8) -> usize {
+    if per_desk(z) {
+        return said(out, at, b"head of desk ", k as u64, b"");
     }
-    said(out, at, b"node ", (line - 1) as u64, b"")
+    put_all(out, at, b"Head")
+}
+
+pub fn line_name(out: &mut [u8; 65536], at: usize, z: Shape, line: u8) -> usize {
+    let l = line_of(z, line);
+    match l {
+        Line::OfHead(k) => head_name(out, at, z, k),
+        Line::OfNode(i) => said(out, at, b"node ", i as u64, b""),
+    }
+}
+
+// The line itself, in a sentence.
+pub fn line_words(out: &mut [u8; 65536], at: usize, z: Shape, line: u8) -> usize {
+    if per_desk(z) && is_head(z, line) {
+        return said(out, at, b"the head line of desk ", line as u64, b"");
+    }
+    let first = put_all(out, at, b"the line of ");
+    line_name(out, first, z, line)
 }
 
 // A content as three fields.
-pub fn content_fields(out: &mut [u8; 65536], at: usize, line: u8, c: Content) -> usize {
-    if is_head(line) {
+pub fn content_fields(out: &mut [u8; 65536], at: usize, z: Shape, line: u8, c: Content) -> usize {
+    if is_head(z, line) {
         let first = put_all(out, at, b"\t-");
         let second = field(out, first, c.index);
         return put_all(out, second, b"\t-");
@@ -74,8 +101,8 @@ pub fn content_fields(out: &mut [u8; 65536], at: usize, line: u8, c: Content) ->
     field(out, second, c.item as u64)
 }
 
-pub fn content_words(out: &mut [u8; 65536], at: usize, line: u8, c: Content) -> usize {
-    if is_head(line) {
+pub fn content_words(out: &mut [u8; 65536], at: usize, z: Shape, line: u8, c: Content) -> usize {
+    if is_head(z, line) {
         return said(out, at, b"index ", c.index, b"");
     }
     let mut place = at;

@@ -5,10 +5,10 @@ use Rattle.explain.proofs.names.Statement.{statement}
 use Rattle.explain.proofs.names.Tie as tie
 
 abbrev Inv-loop : tie.InvT-loop
-Inv-loop out₀ at n place₀ line₀ t10 out place line = line ≤ n
+Inv-loop out₀ at z n place₀ line₀ t10 out place line = line ≤ n
 
 abbrev μ-loop : tie.MeasureT-loop
-μ-loop out₀ at n place₀ line₀ t10 out place line = n - line
+μ-loop out₀ at z n place₀ line₀ t10 out place line = n - line
 
 loop-holds : tie.Need-loop-holds Inv-loop μ-loop
 loop-holds c = omega arith

@@ -5,10 +5,10 @@ use Rattle.stops.proofs.line_kept.Statement.{statement}
 use Rattle.stops.proofs.line_kept.Tie as tie
 
 abbrev Inv-loop : tie.InvT-loop
-Inv-loop out₀ at columns book line place₀ n j₀ out place j = j ≤ n
+Inv-loop out₀ at columns book z line place₀ n j₀ out place j = j ≤ n
 
 abbrev μ-loop : tie.MeasureT-loop
-μ-loop out₀ at columns book line place₀ n j₀ out place j = n - j
+μ-loop out₀ at columns book z line place₀ n j₀ out place j = n - j
 
 slice-aggregate-said : tie.Need-slice-aggregate-said Inv-loop μ-loop
 slice-aggregate-said c = search needs

@@ -5,10 +5,10 @@ use Rattle.stops.proofs.lines_kept.Statement.{statement}
 use Rattle.stops.proofs.lines_kept.Tie as tie
 
 abbrev Inv-loop : tie.InvT-loop
-Inv-loop out₀ at columns book₀ n place₀ line₀ out book place line = line ≤ n
+Inv-loop out₀ at columns book₀ z n place₀ line₀ out book place line = line ≤ n
 
 abbrev μ-loop : tie.MeasureT-loop
-μ-loop out₀ at columns book₀ n place₀ line₀ out book place line = n - line
+μ-loop out₀ at columns book₀ z n place₀ line₀ out book place line = n - line
 
 loop-holds : tie.Need-loop-holds Inv-loop μ-loop
 loop-holds c = omega arith
