@@ -67,6 +67,10 @@ static void build_p1_to_p5(u32 which)
     if (which < 3)
         return;
     add(BEGIN_DEQUEUE, 0, 0);
+    if (which == 8) {
+        steps(0, form == DESKS ? 6 : 5); /* the same of D6 */
+        return;
+    }
     steps_persisting(0, which == 3 ? 3 : which == 4 ? 5 : form == DESKS ? 7 : 6, which > 3 && !(which == 4 && form == DESKS));
     if (which == 6)
         built_length -= EVENT_BYTES, put2(built + 6, get2(built + 6) - 1); /* all but the last step of the dequeue */
@@ -97,8 +101,8 @@ static void build_worn(u32 enqueues)
     }
 }
 
-/* Thread 0 stores ever higher indices, because thread 1 enqueues before each of its A8. */
-static void build_overtaken(u32 times)
+/* Thread 0 stores ever higher indices, because thread 1 enqueues before each of its A8; then so many steps of thread 0, the third a flush. */
+static void build_overtaken(u32 times, u32 more)
 {
     open_schedule(64, 2, 0);
     add(BEGIN_ENQUEUE, 0, 9);
@@ -108,6 +112,15 @@ static void build_overtaken(u32 times)
         steps_persisting(1, 11, 1);
         steps(0, 5);
     }
+    steps(0, more);
+}
+
+/* A dequeue of an empty queue, whose head line is clean. */
+static void build_empty_answer(void)
+{
+    open_schedule(2, 1, 0);
+    add(BEGIN_DEQUEUE, 0, 0);
+    steps_persisting(0, form == DESKS ? 4 : 3, 1);
 }
 
 /* The last index of 32 bits as the head index: in version 2 the enqueue goes on beyond it. */
@@ -118,8 +131,9 @@ static void build_past_32(void)
     steps_persisting(0, 11, 1);
 }
 
-/* Queue 8 9 on nodes 1 and 2. Thread 0 has flushed its dequeue's head, thread 1 moves it on; then, maybe behind a write-back of line 0, thread 0's fence. */
-static void build_at_flush(u32 written)
+/* Queue 8 9 on nodes 1 and 2. Thread 0 has flushed its dequeue's head, thread 1 moves it on; then thread 0's fence, maybe behind a write-back of line 0 (1) or
+   behind thread 1's own flush and fence (2), or not at all (3). */
+static void build_at_flush(u32 behind)
 {
     open_schedule(3, 2, 0);
     for (u32 i = 1; i <= 2; i++) {
@@ -132,9 +146,11 @@ static void build_at_flush(u32 written)
     steps(0, 5);
     add(BEGIN_DEQUEUE, 1, 0);
     steps(1, 3);
-    if (written)
+    if (behind == 1)
         add(WRITE_BACK, 0, 0);
-    steps(0, 1);
+    if (behind == 2)
+        steps(1, 3);
+    steps(0, behind != 3);
 }
 
 /* Version 3, three nodes, node 1's queue byte 1 beforehand: an enqueue of 7 on one of the queues. */
@@ -235,7 +251,8 @@ void build(const Sequence *s)
     case WORN: build_worn(s->a); break;
     case WORN_WRITTEN: build_worn(s->a); add(WRITE_BACK, 2, 0); break;
     case ONE_EVENT: open_schedule(2, 1, 0); add(s->a, s->b, s->c); break;
-    case OVERTAKEN: build_overtaken(s->a); break;
+    case OVERTAKEN: build_overtaken(s->a, s->b); break;
+    case EMPTY_ANSWER: build_empty_answer(); break;
     case WRITE_BACKS: build_write_backs(s->a, s->b, s->c); break;
     case HEAD_ONLY: open_schedule(s->a, s->b, s->c); break;
     case PAST_32: build_past_32(); break;

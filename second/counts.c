@@ -11,6 +11,7 @@ static const char *const names[POINTS] = {
     [AT_STEP + D5] = "D5", [AT_STEP + D6] = "D6", [AT_STEP + D7] = "D7",
     [AT_STEP + S3] = "S3", [AT_STEP + S6] = "S6", [AT_STEP + A10_FENCE] = "fence of A10", [AT_STEP + D3_FENCE] = "fence of D3", [AT_STEP + D6_FENCE] = "fence of D6",
     [AT_FENCE_MOVES] = "a fence moves the persisted content", [AT_FENCE_STAYS] = "a fence finds a later one persisted",
+    [AT_FENCE_BEHIND_FENCE] = "a fence finds one of a later flush persisted",
     [AT_FENCE_NOT_PRESENT] = "a fence leaves a later content behind", [AT_DESKS] = "image UQP",
     [AT_STEP + AQ] = "store of the queue byte", [AT_TWO] = "image version 3", [AT_BOTH_QUEUES] = "operations on both queues at once",
     [AT_LARGEST_NOT_FIRST] = "the largest index is not the first desk's",

@@ -33,12 +33,24 @@ static int note(History *line, Content content, u64 moment)
     return 1;
 }
 
+static u32 noted_at(const History *line, u64 moment)
+{
+    u32 at = 0;
+    while (at + 1 < line->noted && line->moments[at + 1] <= moment)
+        at++;
+    return at;
+}
+
+/* What the line held at a moment since the last start. */
+Content content_at(const History *line, u64 moment)
+{
+    return line->contents[noted_at(line, moment)];
+}
+
 /* Lists what the line held at the moment of the persisted content and later. */
 static void list_since(History *line, u64 since)
 {
-    u32 first = 0;
-    while (first + 1 < line->noted && line->moments[first + 1] <= since)
-        first++;
+    u32 first = noted_at(line, since);
     line->since = since;
     line->count = 0;
     for (u32 i = first; i < line->noted; i++)

@@ -13,6 +13,8 @@ typedef struct Plan {
     u64 limit; /* above this many endings a write-back is put in */
     u32 items_begun;
     u32 last_thread;
+    u32 waiting_percent; /* how often a thread that is to take its fence is passed over */
+    u32 ends_at_fence;   /* 1: the run ends, late enough, at a fence that finds another content persisted than its own */
     u32 in_bursts;  /* 1: threads run for a few steps or for a whole operation at a time */
     u32 burst_left;
 } Plan;
@@ -80,6 +82,8 @@ static u32 some_thread(Plan *plan)
         k = plan->last_thread;
     if (k == plan->slow_thread && !chance(8))
         k = below(side.machine.t);
+    for (u32 tries = 0; tries < 4 && is_fence(side.machine.threads[k].step) && chance(plan->waiting_percent); tries++)
+        k = below(side.machine.t);
     plan->last_thread = k;
     return k;
 }
@@ -116,8 +120,21 @@ static void some_plan(Plan *plan, u32 threads)
     plan->item_style = chance(75) ? below(3) : 5;
     plan->items_begun = 0;
     plan->last_thread = 0;
+    plan->waiting_percent = 0;
+    plan->ends_at_fence = 0;
     plan->in_bursts = chance(30);
     plan->burst_left = 0;
+}
+
+/* The line whose fence this event is, or NO_LINE. */
+static u32 fenced_line(const Event *e)
+{
+    return e->kind == STEP && is_fence(side.machine.threads[e->number].step) ? line_of_fence(&side.machine, e->number) : NO_LINE;
+}
+
+static int finds_another(u32 line, u32 k)
+{
+    return line != NO_LINE && !same_content(persisted_content(&side.machine, line), side.machine.threads[k].flushed);
 }
 
 /* Runs the plan and writes the schedule; every event is valid because the machine beside has taken it. */
@@ -129,14 +146,19 @@ static u64 run_plan(Plan *plan, Schedule *s, u8 *bytes)
     for (u32 i = 0; i < plan->events; i++) {
         Reply reply;
         Event e = some_event(plan);
+        u32 line = fenced_line(&e);
         if (bench_event(&side, &e, i, &reply).number != TAKEN) {
             s->event_count = i; /* a wrong machine can refuse a crash: the schedule ends before */
-            put2(bytes + 6, i);
-            return at;
+            break;
         }
         event_to_bytes(&e, bytes + at);
         at += EVENT_BYTES;
+        if (plan->ends_at_fence && i > plan->events / 4 && finds_another(line, e.number))
+            s->event_count = i + 1;
+        if (s->event_count <= i + 1)
+            break;
     }
+    put2(bytes + 6, s->event_count);
     return at;
 }
 
@@ -190,6 +212,28 @@ static u64 generate_bursts(u8 *bytes)
     plan.enqueue_percent = 50;
     plan.item_style = 1;
     plan.events = 50 + below(80);
+    plan.limit = 600;
+    return run_plan(&plan, &s, bytes);
+}
+
+/* Request 104: many threads between a flush and its fence at once, on one head line or their own, and write-backs among them. */
+u64 generate_flushed(u8 *bytes)
+{
+    Schedule s;
+    Plan plan;
+    s.image.n = 3 + below(6);
+    s.t = 2 + below(chance(60) ? 3 : 7);
+    s.image.t = s.t;
+    some_image(&s.image);
+    some_plan(&plan, s.t);
+    plan.in_bursts = 0;
+    plan.sticky_percent = chance(50) ? 0 : 60;
+    plan.waiting_percent = chance(20) ? 0 : 50 + below(50);
+    plan.ends_at_fence = (u32)chance(50);
+    plan.enqueue_percent = 20 + below(50);
+    plan.write_back_percent = chance(40) ? 0 : below(12);
+    plan.crash_per_mille = chance(70) ? 0 : 5;
+    plan.events = 40 + below(120);
     plan.limit = 600;
     return run_plan(&plan, &s, bytes);
 }
@@ -290,6 +334,8 @@ u64 generate_input(u64 seed, u64 number, const char *shape, u8 *bytes)
         return generate_small(bytes, 110);
     if (same_text(shape, "bursts"))
         return generate_bursts(bytes);
+    if (same_text(shape, "flushed"))
+        return generate_flushed(bytes);
     if (same_text(shape, "valid"))
         return generate_any(bytes, 300);
     if (same_text(shape, "long"))

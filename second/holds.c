@@ -82,6 +82,11 @@ int mode_same_when_fenced(int count, char **words)
     return mode_hold(count, words, same_when_fenced);
 }
 
+int mode_by_times_and_sets(int count, char **words)
+{
+    return mode_hold(count, words, by_times_and_sets);
+}
+
 int mode_plainly_same(int count, char **words)
 {
     return mode_hold(count, words, plainly_same);

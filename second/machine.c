@@ -45,7 +45,7 @@ Content persisted_content(const Machine *m, u32 line)
 }
 
 /* The persisted content of a line becomes the one that its cached copy had at that moment. */
-static void put_persisted(Machine *m, u32 line, Content content, u64 moment)
+void put_persisted(Machine *m, u32 line, Content content, u64 moment)
 {
     u32 heads = head_lines(m->form, m->t);
     if (line < heads)
@@ -55,34 +55,12 @@ static void put_persisted(Machine *m, u32 line, Content content, u64 moment)
     m->since[line] = moment;
 }
 
-/* A line is written back whole. */
+/* A line is written back whole: no flush is of a later moment. */
 void persist(Machine *m, u32 line, Reply *reply)
 {
     put_persisted(m, line, cached_content(m, line), m->clock);
-    reply->written = line;
-}
-
-/* Request 104: "Between the two nothing is assured." */
-void flush(Machine *m, u32 k, u32 line)
-{
-    m->threads[k].flushed = 1;
-    m->threads[k].flush_time = m->clock;
-    m->threads[k].flush_content = cached_content(m, line);
-}
-
-/* "From the fence on, the line's contents start no earlier than the one at the flush; if a later one was persisted already, that one stays." */
-void fence(Machine *m, u32 k, u32 line, Reply *reply)
-{
-    Thread *self = &m->threads[k];
-    int later = m->since[line] > self->flush_time;
-    reach(later ? AT_FENCE_STAYS : AT_FENCE_MOVES);
-    if (!same_content(self->flush_content, cached_content(m, line)))
-        reach(AT_FENCE_NOT_PRESENT);
-    if (wrong_machine == FENCE_PRESENT)
-        put_persisted(m, line, cached_content(m, line), m->clock);
-    else if (!later || wrong_machine == FENCE_BACKWARDS)
-        put_persisted(m, line, self->flush_content, self->flush_time);
-    self->flushed = 0;
+    if (wrong_machine != WRITE_BACK_FORGOTTEN)
+        *over_line(m, line) = (u32)all_threads(m);
     reply->written = line;
 }
 

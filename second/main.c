@@ -283,7 +283,7 @@ static const struct {
 } modes[] = {
     {"page", mode_page}, {"many", mode_many}, {"ending", mode_ending}, {"endings-many", mode_endings_many},
     {"trace", mode_trace}, {"traces", mode_traces}, {"sums", mode_sums}, {"soak", mode_soak}, {"once", mode_once},
-    {"record", mode_record}, {"records", mode_records},
+    {"record", mode_record}, {"records", mode_records}, {"recorded", mode_recorded},
     {"place-counts", mode_place_counts}, {"saved", mode_saved}, {"starts", mode_starts}, {"fresh", mode_fresh},
     {"images", mode_images}, {"images-again", mode_images_again}, {"schedules", mode_schedules},
     {"contents", mode_contents}, {"contents-many", mode_contents_many}, {"generate", mode_generate},
@@ -291,7 +291,7 @@ static const struct {
     {"widened", mode_widened}, {"narrowed", mode_narrowed}, {"there-and-back", mode_there_and_back}, {"same-when-wide", mode_same_when_wide},
     {"imported", mode_imported}, {"exported", mode_exported}, {"out-and-in", mode_out_and_in},
     {"clean-or-same", mode_clean_or_same},
-    {"fenced", mode_fenced}, {"same-when-fenced", mode_same_when_fenced},
+    {"fenced", mode_fenced}, {"same-when-fenced", mode_same_when_fenced}, {"by-times-and-sets", mode_by_times_and_sets},
     {"plain-pages", mode_plain_pages}, {"plainly-same", mode_plainly_same}, {"listed", mode_listed}, {"lists-hold", mode_lists_hold},
     {"mended", mode_mended}, {"mend-two-ways", mode_mend_two_ways},
     {"replayed", mode_replayed}, {"probed", mode_probed}, {"replay-by-parts", mode_replay_by_parts},

@@ -71,6 +71,23 @@ void print_verdict(Verdict v)
     put_text(" ");
 }
 
+/* The bytes of the record that a schedule leads to, and an event behind it: an item of `record`. */
+int mode_recorded(int count, char **words)
+{
+    u8 item[MOST_RECORD + EVENT_BYTES];
+    Schedule schedule;
+    u64 length = read_all();
+    if (count != 2)
+        stop("use: recorded KIND NUMBER");
+    Event event = {(u32)number_from(words[0]), (u32)number_from(words[1]), 0};
+    if (read_schedule(input, length, &schedule).number != TAKEN || run_schedule(&the_bench, &schedule).number != TAKEN)
+        stop("the schedule is refused");
+    record_to_bytes(&the_bench.machine, item);
+    event_to_bytes(&event, item + record_bytes());
+    put_bytes(item, record_bytes() + EVENT_BYTES);
+    return 0;
+}
+
 /* A record with an event behind it. A record that is refused is printed as it was. */
 void print_record_item(const u8 *bytes, u64 length)
 {

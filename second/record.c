@@ -44,25 +44,18 @@ static int uses_next_read(u32 step)
 }
 
 /* Steps 20 and 21 are of "UQP", 22 to 24 of request 104. */
-static int is_step(const Machine *m, u32 step)
+int is_step_of(const Machine *m, u32 step)
 {
     return step < STEPS || (m->form == DESKS && (step == S3 || step == S6)) || (on(FENCES) && step >= A10_FENCE && step <= D6_FENCE) ||
            (m->form == TWO && step == AQ);
 }
 
-static int is_fence(u32 step)
-{
-    return step >= A10_FENCE && step <= D6_FENCE;
-}
-
 static int thread_in_range(const Machine *m, const Thread *thread)
 {
-    if (!is_step(m, thread->step) || !index_in_range(m, thread->head_read_index))
+    if (!is_step_of(m, thread->step) || !index_in_range(m, thread->head_read_index))
         return 0;
     if (!is_node_or_none(m, thread->own) || !is_node_or_none(m, thread->t) || !is_node_or_none(m, thread->head_read) ||
         !is_node_or_none(m, thread->next_read) || !is_node_or_none(m, thread->held[0]))
-        return 0;
-    if (is_fence(thread->step) && !thread->flushed)
         return 0;
     if (uses_own(thread->step) && thread->own == NONE)
         return 0;
@@ -79,6 +72,28 @@ static int head_lines_in_range(const Machine *m)
 {
     for (u32 line = 0; line < head_lines(m->form, m->t); line++)
         if (!index_in_range(m, m->lines[line]) || !index_in_range(m, m->persisted_lines[line]))
+            return 0;
+    return 1;
+}
+
+static int is_set(const Machine *m, u32 set)
+{
+    return (set & ~all_threads(m)) == 0;
+}
+
+/* Request 104: what each thread has flushed is a content, and each set is one of threads. That a thread at its fence has flushed its step says. */
+static int flushes_in_range(const Machine *m)
+{
+    for (u32 k = 0; k < m->t; k++) {
+        Content flushed = m->threads[k].flushed;
+        if (flushed.linked > 1 || !index_in_range(m, flushed.index) || (m->form == TWO && flushed.queue > 1) || !is_set(m, m->late[k]))
+            return 0;
+    }
+    for (u32 line = 0; line < head_lines(m->form, m->t); line++)
+        if (!is_set(m, m->over_heads[line]))
+            return 0;
+    for (u32 i = 0; i < m->n; i++)
+        if (!is_set(m, m->over_nodes[i]))
             return 0;
     return 1;
 }
@@ -113,6 +128,8 @@ int in_range(const Machine *m)
     if (on(ROTATION) && m->last >= m->n)
         return 0;
     if (m->form == TWO && !queues_in_range(m))
+        return 0;
+    if (on(FENCES) && !flushes_in_range(m))
         return 0;
     if (m->head[0] >= m->n || m->tail[0] >= m->n || (m->free & ~low_bits(m->n)) != 0)
         return 0;
@@ -185,57 +202,20 @@ static void walk_thread(Walk *walk, Thread *thread)
     field32(walk, 1, &thread->held[0]);
 }
 
-enum { PASSED = 255 };
-
-static u32 line_of_fence(const Machine *m, u32 k)
+/* Request 104: what each thread has flushed, then the sets. */
+static void walk_flushes(Walk *walk, Machine *m)
 {
-    return m->threads[k].step == A10_FENCE ? head_lines(m->form, m->t) + m->threads[k].own : own_line(m, k);
-}
-
-/* A flush that waits for its fence, with nothing later persisted. */
-static int place_counts(const Machine *m, u32 k)
-{
-    return is_fence(m->threads[k].step) && m->threads[k].flushed && m->since[line_of_fence(m, k)] <= m->threads[k].flush_time;
-}
-
-/* A flush that waits for its fence, in a byte: 0 none, 255 a later content is persisted already, else its place in time among the others that wait, from 1. */
-static u32 place_of_flush(const Machine *m, u32 k)
-{
-    u32 place = 1;
-    if (!is_fence(m->threads[k].step) || !m->threads[k].flushed)
-        return 0;
-    if (m->since[line_of_fence(m, k)] > m->threads[k].flush_time)
-        return PASSED;
-    for (u32 j = 0; j < m->t; j++)
-        place += j != k && place_counts(m, j) && m->threads[j].flush_time < m->threads[k].flush_time;
-    return place;
-}
-
-/* Times that give back the places: what is persisted at 1000, passed flushes before it, the others behind it. */
-static void flush_from_place(Machine *m, u32 k, u32 place)
-{
-    m->clock = 2000;
-    for (u32 line = 0; line < MAX_LINES; line++)
-        m->since[line] = 1000;
-    m->threads[k].flushed = place != 0;
-    m->threads[k].flush_time = place == PASSED ? 1 : 1000 + place;
-}
-
-static void walk_flush(Walk *walk, Machine *m, u32 k)
-{
-    Thread *thread = &m->threads[k];
-    u32 place = walk->to ? place_of_flush(m, k) : 0;
-    Content content = thread->flush_content, none = {0, 0, 0, 0};
-    if (walk->to && place == 0)
-        content = none;
-    field32(walk, 1, &place);
-    field32(walk, 1, &content.linked);
-    field(walk, 8, &content.index);
-    field32(walk, 4, &content.item);
-    if (walk->to)
-        return;
-    thread->flush_content = content;
-    flush_from_place(m, k, place);
+    for (u32 k = 0; k < MAX_THREADS; k++) {
+        field32(walk, 1, &m->threads[k].flushed.linked);
+        field(walk, 8, &m->threads[k].flushed.index);
+        field32(walk, 4, &m->threads[k].flushed.item);
+    }
+    for (u32 k = 0; k < MAX_THREADS; k++)
+        field32(walk, 1, &m->late[k]);
+    for (u32 line = 0; line < MAX_THREADS; line++)
+        field32(walk, 1, &m->over_heads[line]);
+    for (u32 i = 0; i < MAX_NODES; i++)
+        field32(walk, 1, &m->over_nodes[i]);
 }
 
 /* Behind all else: the other queue's Head and Tail, each node's two queue bytes, each thread's queue, its other held node and the queue byte it flushed. */
@@ -248,11 +228,9 @@ static void walk_queues(Walk *walk, Machine *m)
         field32(walk, 1, &m->nodes[i].persisted.queue);
     }
     for (u32 k = 0; k < MAX_THREADS; k++) {
-        u32 flushed = m->threads[k].flushed ? m->threads[k].flush_content.queue : 0;
         field32(walk, 1, &m->threads[k].queue);
         field32(walk, 1, &m->threads[k].held[1]);
-        field32(walk, 1, &flushed);
-        m->threads[k].flush_content.queue = flushed;
+        field32(walk, 1, &m->threads[k].flushed.queue);
     }
 }
 
@@ -273,8 +251,8 @@ static void walk_machine(Walk *walk, Machine *m)
         walk_thread(walk, &m->threads[k]);
     if (on(ROTATION))
         field32(walk, 1, &m->last);
-    for (u32 k = 0; on(FENCES) && k < MAX_THREADS; k++)
-        walk_flush(walk, m, k);
+    if (on(FENCES))
+        walk_flushes(walk, m);
     if (on(QUEUES_TOO))
         walk_queues(walk, m);
 }
@@ -300,7 +278,7 @@ void record_to_bytes(const Machine *m, u8 *bytes)
     bytes[0] = 'U';
     bytes[1] = 'Q';
     bytes[2] = 'M';
-    put2(bytes + 3, RECORD_VERSION);
+    put2(bytes + 3, record_version());
     walk_machine(&walk, &copy);
 }
 
@@ -311,8 +289,9 @@ Verdict record_from_bytes(const u8 *bytes, u64 length, Machine *m)
     if (length != record_bytes())
         return verdict(WRONG_LENGTH, 0);
     *m = (Machine){0}; /* what the bytes do not have */
+    m->by_sets = 1;    /* among it all times */
     walk_machine(&walk, m);
-    if (bytes[0] != 'U' || bytes[1] != 'Q' || bytes[2] != 'M' || get2(bytes + 3) != RECORD_VERSION)
+    if (bytes[0] != 'U' || bytes[1] != 'Q' || bytes[2] != 'M' || get2(bytes + 3) != record_version())
         return verdict(WRONG_MARK, 0);
     return verdict(in_range(m) ? TAKEN : OUT_OF_RANGE, 0);
 }

@@ -22,9 +22,18 @@ static Content some_content(u32 form)
     return c;
 }
 
+/* A step of the record's form, most often. */
+static u32 some_step(const Machine *m)
+{
+    u32 step = below(LAST_STEP + 1);
+    while (!is_step_of(m, step) && !chance(2))
+        step = below(LAST_STEP + 1);
+    return step;
+}
+
 static void random_thread(const Machine *m, Thread *thread)
 {
-    thread->step = chance(20) ? IDLE : below(on(FENCES) || on(QUEUES_TOO) || chance(2) ? LAST_STEP + 1 : m->form == DESKS ? A10_FENCE : STEPS);
+    thread->step = chance(20) ? IDLE : some_step(m);
     thread->own = some_node(m, 2);
     thread->t = some_node(m, 2);
     thread->head_read = chance(50) ? m->head[0] : some_node(m, 2);
@@ -34,9 +43,36 @@ static void random_thread(const Machine *m, Thread *thread)
     thread->queue = m->form == TWO ? below(2) : 0;
     thread->held[0] = some_node(m, 30);
     thread->held[1] = some_node(m, 30);
-    thread->flushed = chance(90);
-    thread->flush_time = below(20);
-    thread->flush_content = some_content(m->form);
+    thread->flushed = some_content(m->form);
+}
+
+/* None, all, or some of the threads there are. */
+static u32 some_set(const Machine *m)
+{
+    return chance(30) ? 0 : chance(20) ? (u32)all_threads(m) : (u32)(random_bits() & all_threads(m));
+}
+
+static void random_sets(Machine *m)
+{
+    for (u32 k = 0; k < MAX_THREADS; k++) {
+        m->late[k] = some_set(m);
+        m->over_heads[k] = some_set(m);
+    }
+    for (u32 i = 0; i < MAX_NODES; i++)
+        m->over_nodes[i] = some_set(m);
+}
+
+/* 18: a thread that there is not in one of the sets, or a linked byte above 1 among what was flushed; or the same where the record ends already. */
+static void flush_out_of_range(Machine *m)
+{
+    u32 heads = head_lines(m->form, m->t), threads = chance(70) ? m->t : MAX_THREADS;
+    u32 set = (u32)(m->t < MAX_THREADS ? bit(m->t + below(MAX_THREADS - m->t)) : bit(below(MAX_THREADS)));
+    switch (below(4)) {
+    case 0: m->late[below(threads)] |= set; break;
+    case 1: m->over_heads[below(chance(70) ? heads : MAX_THREADS)] |= set; break;
+    case 2: m->over_nodes[below(chance(70) ? m->n : MAX_NODES)] |= set; break;
+    default: m->threads[below(threads)].flushed.linked = 2 + below(254); break;
+    }
 }
 
 /* Fields drawn within their ranges (now and then no node where one is used): mostly records that no run leads to. */
@@ -51,9 +87,7 @@ static void random_record(Machine *m)
         m->lines[line] = some_index(m->form);
     m->tail[0] = below(m->n);
     m->tail[1] = below(m->n);
-    m->clock = 20;
-    for (u32 line = 0; line < MAX_LINES; line++)
-        m->since[line] = chance(70) ? 0 : below(20);
+    random_sets(m);
     m->last = below(m->n);
     m->free = chance(20) ? 0 : random_bits() & (m->n == 64 ? ~(u64)0 : bit(m->n) - 1);
     for (u32 line = 0; line < MAX_THREADS; line++)
@@ -69,17 +103,29 @@ static void random_record(Machine *m)
         random_thread(m, &m->threads[k]);
 }
 
+/* A crash of this record is refused by 8: every node is recovered. */
+static void no_dummy_left(Machine *m)
+{
+    for (u32 line = 0; line < MAX_THREADS; line++)
+        m->persisted_lines[line] = below(3);
+    for (u32 i = 0; i < m->n; i++) {
+        m->nodes[i].persisted.linked = 1;
+        m->nodes[i].persisted.index = 3 + i;
+    }
+}
+
 /* 18: one index above the record's width, or one where the record ends already, which is no part of it. */
 static void index_above_width(Machine *m)
 {
     u64 index = (u64)LARGEST + 1 + below(2);
     m->form = m->form == DESKS ? DESKS : NARROW;
-    switch (below(5)) {
+    switch (below(on(FENCES) ? 6 : 5)) {
     case 0: m->lines[below(record_head_lines())] = index; break;
     case 1: m->persisted_lines[below(record_head_lines())] = index; break;
     case 2: m->nodes[below(chance(80) ? m->n : MAX_NODES)].cached.index = index; break;
     case 3: m->nodes[below(chance(80) ? m->n : MAX_NODES)].persisted.index = index; break;
-    default: m->threads[below(chance(80) ? m->t : MAX_THREADS)].head_read_index = index; break;
+    case 4: m->threads[below(chance(80) ? m->t : MAX_THREADS)].head_read_index = index; break;
+    default: m->threads[below(chance(80) ? m->t : MAX_THREADS)].flushed.index = index; break;
     }
 }
 
@@ -88,7 +134,7 @@ static void record_of_run(Machine *m)
 {
     static u8 bytes[MAX_SCHEDULE];
     Schedule s;
-    u64 length = generate_valid(bytes, chance(50));
+    u64 length = on(FENCES) && chance(30) ? generate_flushed(bytes) : generate_valid(bytes, chance(50));
     if (read_schedule(bytes, length, &s).number != TAKEN)
         stop("the generator made a schedule that is refused");
     run_schedule(&the_bench, &s);
@@ -142,13 +188,20 @@ void generate_record_item(u64 seed, u64 number, u8 *item)
         record_of_run(&m);
     else
         random_record(&m);
+    int full = kind >= 4 && chance(3);
+    if (full)
+        no_dummy_left(&m);
     if (kind >= 4 && chance(5))
         index_above_width(&m);
+    if (kind >= 4 && on(FENCES) && chance(8))
+        flush_out_of_range(&m);
     record_to_bytes(&m, item);
     some_record_event(&m, item + length);
     aim_at_step(&m, item + length);
+    if (full && chance(60))
+        event_to_bytes(&(Event){CRASH, 0, 0}, item + length);
     if (kind == 3 || kind == 9) /* one byte spoilt, most often out of range */
-        item[chance(50) ? RECORD_MARK + below(28) : chance(50) ? length - 1 - below(chance(10) ? 1 : 150) : below((u32)length)] = (u8)random_bits();
+        item[chance(50) ? RECORD_MARK + below(28) : chance(50) ? length - 1 - below(chance(10) ? 1 : on(FENCES) ? 340 : 150) : below((u32)length)] = (u8)random_bits();
     if (kind == 8 && chance(20)) /* every byte string is some record */
         for (u64 i = RECORD_MARK + 3; i < length; i++)
             item[i] = (u8)random_bits();

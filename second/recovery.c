@@ -3,7 +3,7 @@
 
 static const Content ZERO = {0, 0, 0, 0};
 
-/* Every register of an operation; the held node stays, since it belongs to the thread and not to the operation. */
+/* Every register of an operation; the held node stays, since it belongs to the thread and not to the operation, and so does what the thread flushed last. */
 void blank_registers(Thread *thread)
 {
     thread->step = IDLE;
@@ -14,9 +14,6 @@ void blank_registers(Thread *thread)
     thread->head_read_index = 0;
     thread->next_read = NONE;
     thread->item = 0;
-    thread->flushed = 0;
-    thread->flush_time = 0;
-    thread->flush_content = ZERO;
 }
 
 static void no_operations(Machine *m)
@@ -100,6 +97,7 @@ static void recover(Machine *m)
     }
     read_persisted_anew(m);
     no_operations(m);
+    forget_flushes(m);
     m->head[1] = m->tail[1] = 0;
     m->free = 0;
     for (u32 i = 0; i < m->n; i++)
@@ -115,6 +113,7 @@ static void recover(Machine *m)
 void start(Machine *m, u32 t, const Image *image)
 {
     m->clock = 0;
+    m->by_sets = (u32)decides_by_sets();
     m->form = image->form;
     m->n = image->n;
     m->t = t;

@@ -8,7 +8,7 @@ static const char *const machine_names[MACHINES] = {
     "from-last", "tail-last", "last-forgotten",
     "s6-old-dummy", "s3-line-0", "persist-line-0", "first-desk", "last-desk",
     "clean-without-item", "clean-before-zeros", "clean-itself", "heads-never-clean",
-    "fence-present", "fence-backwards", "empty-at-flush",
+    "fence-present", "fence-backwards", "empty-at-flush", "write-back-forgotten", "over-all", "late-left", "over-left",
     "one-held", "queue-before-linked", "dummies-linked",
     "by-item", "unanswered-never-in",
 };

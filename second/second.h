@@ -22,6 +22,7 @@ enum {
     MAX_SCHEDULE = SCHEDULE_HEAD + MAX_IMAGE + EVENT_BYTES * MAX_EVENTS,
     RECORD_MARK = 5,        /* "UQM" and the version */
     RECORD_VERSION = 3,     /* 2 before request 101 */
+    RECORD_VERSION_WITH_FENCES = 4,
     MOST_RECORD = 4096,     /* more than any record has */
     CONTENTS_BYTES = 5 + 9 * MAX_NODES + 2,
     WIDE_CONTENTS_BYTES = 10 + 13 * MAX_NODES + 2,
@@ -132,9 +133,8 @@ typedef struct Thread {
     u32 item;            /* to be enqueued, or read at D5 */
     u32 held[QUEUES];    /* old dummy of the previous successful dequeue, of each queue */
     u32 queue;           /* the queue of the operation */
-    u32 flushed;         /* request 104: 1 between a flush and its fence */
+    Content flushed;     /* request 104: what its last flush since the start found, and when that was */
     u64 flush_time;
-    Content flush_content;
 } Thread;
 
 typedef struct Machine {
@@ -149,6 +149,11 @@ typedef struct Machine {
     u64 persisted_lines[MAX_THREADS];
     u64 clock;               /* moments so far */
     u64 since[MAX_LINES];    /* the moment of each line's persisted content */
+    /* Request 104. A record's bytes have no times but these sets of threads, by bits. */
+    u32 late[MAX_THREADS];       /* of thread k: those that flushed after k's last flush */
+    u32 over_heads[MAX_THREADS]; /* of a line: those whose flush is no later than the line's persisted content */
+    u32 over_nodes[MAX_NODES];
+    u32 by_sets; /* 1 where times are not known, or not asked: the sets decide at a fence */
     Node nodes[MAX_NODES];
     Thread threads[MAX_THREADS];
 } Machine;
@@ -218,6 +223,10 @@ enum {
     FENCE_PRESENT,
     FENCE_BACKWARDS,
     EMPTY_AT_FLUSH,
+    WRITE_BACK_FORGOTTEN,
+    OVER_ALL,
+    LATE_LEFT,
+    OVER_LEFT,
     ONE_HELD,
     QUEUE_BEFORE_LINKED,
     DUMMIES_LINKED,
@@ -233,6 +242,7 @@ int on(u32 which);
 void turn(const char *name, u32 to);
 void set(u32 which, u32 to);
 u32 record_head_lines(void);
+u32 record_version(void);
 int mode_switches(int count, char **words);
 
 /* io.c */
@@ -316,6 +326,17 @@ Finding clean_or_same(const u8 *bytes, u64 length);
 int mode_fenced(int count, char **words);
 Finding same_when_fenced(const u8 *bytes, u64 length);
 
+/* flushes.c */
+void flush(Machine *m, u32 k, u32 line);
+void fence(Machine *m, u32 k, u32 line, Reply *reply);
+u32 *over_line(Machine *m, u32 line);
+u64 all_threads(const Machine *m);
+int is_fence(u32 step);
+u32 line_of_fence(const Machine *m, u32 k);
+void forget_flushes(Machine *m);
+int decides_by_sets(void);
+Finding by_times_and_sets(const u8 *bytes, u64 length);
+
 /* list.c */
 void print_listed(const u8 *bytes, u64 length);
 Finding lists_hold(const u8 *bytes, u64 length);
@@ -345,8 +366,7 @@ void step_of_dequeue(Machine *m, u32 k, Reply *reply);
 /* machine.c */
 u64 bit(u32 i);
 void persist(Machine *m, u32 line, Reply *reply);
-void flush(Machine *m, u32 k, u32 line);
-void fence(Machine *m, u32 k, u32 line, Reply *reply);
+void put_persisted(Machine *m, u32 line, Content content, u64 moment);
 u32 own_line(const Machine *m, u32 k);
 void answer(Machine *m, u32 k, u32 number, u32 value, Reply *reply);
 void retire(Machine *m, u32 k, u32 node);
@@ -364,6 +384,7 @@ Content persisted_content(const Machine *m, u32 line);
 
 /* record.c */
 int in_range(const Machine *m);
+int is_step_of(const Machine *m, u32 step);
 u64 record_bytes(void);
 void record_to_bytes(const Machine *m, u8 *bytes);
 Verdict record_from_bytes(const u8 *bytes, u64 length, Machine *m);
@@ -379,6 +400,7 @@ int same_content(Content a, Content b);
 void bench_start(Bench *bench, const Schedule *schedule);
 Verdict bench_event(Bench *bench, const Event *event, u32 number, Reply *reply);
 Verdict run_schedule(Bench *bench, const Schedule *schedule);
+Content content_at(const History *line, u64 moment);
 Verdict count_endings(const Bench *bench, u64 *count);
 Verdict endings_of(const u8 *bytes, u64 length, Schedule *schedule, Bench *bench, u64 *count);
 void ending_image(const Bench *bench, u64 k, Image *image);
@@ -401,6 +423,7 @@ void print_soak(const u8 *bytes, u64 length);
 void count_once(const u8 *bytes, u64 length);
 int print_once(void);
 void print_record_item(const u8 *bytes, u64 length);
+int mode_recorded(int count, char **words);
 void print_place_counts(const u8 *bytes, u64 length);
 void print_saved(const u8 *bytes, u64 length);
 void print_start(const u8 *bytes, u64 length);
@@ -425,7 +448,7 @@ enum {
     AT_NARROW, AT_WIDE, AT_A7_PASSES_32, AT_A7_WIDE_TO_LARGEST, AT_WORN_NARROW, AT_WORN_WIDE, AT_HIGH_HALF_DECIDES, AT_LOW_HALVES_EQUAL,
     AT_DESKS, AT_LARGEST_NOT_FIRST,
     AT_TWO, AT_BOTH_QUEUES,
-    AT_FENCE_MOVES, AT_FENCE_STAYS, AT_FENCE_NOT_PRESENT,
+    AT_FENCE_MOVES, AT_FENCE_STAYS, AT_FENCE_BEHIND_FENCE, AT_FENCE_NOT_PRESENT,
     AT_A1_ROUND, AT_A1_LAST_AGAIN, AT_A1_NOT_LOWEST,
     POINTS
 };
@@ -450,6 +473,7 @@ u64 random_bits(void);
 u32 below(u32 limit);
 int chance(u32 percent);
 u64 generate_valid(u8 *bytes, int small);
+u64 generate_flushed(u8 *bytes);
 u64 generate_input(u64 seed, u64 number, const char *shape, u8 *bytes);
 u64 generate_damaged(u64 number, u8 *bytes);
 u64 generate_refused(u64 number, u8 *bytes);
@@ -480,6 +504,7 @@ int mode_there_and_back(int count, char **words);
 int mode_out_and_in(int count, char **words);
 int mode_clean_or_same(int count, char **words);
 int mode_same_when_fenced(int count, char **words);
+int mode_by_times_and_sets(int count, char **words);
 int mode_plainly_same(int count, char **words);
 int mode_lists_hold(int count, char **words);
 int mode_mend_two_ways(int count, char **words);

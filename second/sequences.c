@@ -101,8 +101,21 @@ static const Sequence sequences[] = {
     {"came-back", CAME_BACK, 0, 0, 0, "refused 19 at 16\n", 0, 0, 0, 1 << CLEAN, 0},
     /* request 104: between a flush and its fence nothing is assured; what is persisted at the fence is the content at the flush */
     {"p2-flushed", ONE_THREAD, 7, 0, 0, "UQS 1 threads 1 nodes 2 events 11 endings 4\n0 0 -\n1 0 -\n2 0 -\n3 0 7\n", 0, 0, 0, 1 << FENCES, 0},
+    {"at-its-fence", AT_FLUSH, 3, 0, 0, "UQS 1 threads 2 nodes 3 events 10 endings 3\n0 0 8 9\n1 1 9\n2 2 -\n", 0, 0, 0, 1 << FENCES, 0},
     {"content-at-flush", AT_FLUSH, 0, 0, 0, "UQS 1 threads 2 nodes 3 events 11 endings 2\n0 1 9\n1 2 -\n", 0, 0, 0, 1 << FENCES, 0},
     {"later-one-stays", AT_FLUSH, 1, 0, 0, "UQS 1 threads 2 nodes 3 events 12 endings 1\n0 2 -\n", 0, 0, 0, 1 << FENCES, 0},
+    {"later-fence-stays", AT_FLUSH, 2, 0, 0, "UQS 1 threads 2 nodes 3 events 14 endings 1\n0 2 -\n", 0, 0, 0, 1 << FENCES, 0},
+    {"content-at-flush-wide", AT_FLUSH, 0, 0, 0, "UQS 1 threads 2 nodes 3 events 11 endings 2\n0 1 9\n1 2 -\n", 0, 0, 1, 1 << FENCES, 0},
+    {"later-one-stays-wide", AT_FLUSH, 1, 0, 0, "UQS 1 threads 2 nodes 3 events 12 endings 1\n0 2 -\n", 0, 0, 1, 1 << FENCES, 0},
+    {"later-fence-stays-wide", AT_FLUSH, 2, 0, 0, "UQS 1 threads 2 nodes 3 events 14 endings 1\n0 2 -\n", 0, 0, 1, 1 << FENCES, 0},
+    {"p4-flushed", ONE_THREAD, 8, 0, 0, "UQS 1 threads 1 nodes 2 events 18 endings 2\n0 0 7\n1 1 -\n", 0, 0, 0, 1 << FENCES, 0},
+    {"p4-flushed-desks", ONE_THREAD, 8, 0, 0, "UQS 1 threads 1 nodes 2 events 19 endings 2\n0 0 7\n1 1 -\n", 0, 0, 2, 1 << FENCES | 1 << DESKS_TOO, 0},
+    {"empty-answer", EMPTY_ANSWER, 0, 0, 0, "UQS 1 threads 1 nodes 2 events 4 endings 1\n0 0 -\n", 3, EMPTY, 0, 0, 0},
+    {"empty-answer-wide", EMPTY_ANSWER, 0, 0, 0, "UQS 1 threads 1 nodes 2 events 4 endings 1\n0 0 -\n", 3, EMPTY, 1, 0, 0},
+    {"empty-answer-desks", EMPTY_ANSWER, 0, 0, 0, "UQS 1 threads 1 nodes 2 events 5 endings 1\n0 0 -\n", 4, EMPTY, 2, 1 << DESKS_TOO, 0},
+    /* seventeen contents at the flush, one behind the fence */
+    {"overtaken-17-flushed", OVERTAKEN, 14, 3, 0, "refused 14 at 2\n", 0, 0, 0, 1 << FENCES, 0},
+    {"overtaken-17-fenced", OVERTAKEN, 14, 4, 0, "UQS 1 threads 2 nodes 64 events 250 endings 1\n0 0 1 1 1 1 1 1 1 1 1 1 1 1 1 1 9\n", 0, 0, 0, 1 << FENCES, 0},
     /* request 113: the fresh machine has two endings, since the start stores queue 1 in the second dummy; P1 and P2 on both queues, with the queue byte of
        node 1 set before */
     {"p8-queues", HEAD_ONLY, 3, 1, 5, "UQS 1 threads 1 nodes 3 events 0 endings 4\n0 5 - | 5 -\n1 5 - | 5 -\n2 5 - | 5 -\n3 5 - | 5 -\n", 0, 0, 3, 1 << QUEUES_TOO, 0},

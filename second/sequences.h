@@ -18,7 +18,7 @@ typedef struct Sequence {
 /* How a sequence is built; a, b and c are the builder's own. */
 enum {
     ONE_THREAD, TWO_THREADS, WORN, WORN_WRITTEN, OVERTAKEN, WRITE_BACKS, HEAD_ONLY, ONE_EVENT, NO_BYTES, PAST_32, CUT_IMAGE, WORN_ON, WORN_SAME, QUEUE_AT, TWO_T,
-    CAME_BACK, AT_FLUSH, ON_QUEUE, QUEUE_BYTE, ONE_EVENT_OF_3, COMES_BACK
+    CAME_BACK, AT_FLUSH, EMPTY_ANSWER, ON_QUEUE, QUEUE_BYTE, ONE_EVENT_OF_3, COMES_BACK
 };
 
 /* building.c: the bytes of the sequence built last, their number, and the steps it gained because persists are two steps (request 104) */

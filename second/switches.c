@@ -30,6 +30,12 @@ u32 record_head_lines(void)
     return on(DESKS_TOO) || on(QUEUES_TOO) ? RECORD_HEAD_LINES_WITH_DESKS : RECORD_HEAD_LINES;
 }
 
+/* The next version where the record has flushes behind all else. */
+u32 record_version(void)
+{
+    return on(FENCES) ? RECORD_VERSION_WITH_FENCES : RECORD_VERSION;
+}
+
 /* A line a request: its name, and whether it has landed (or was turned on). */
 int mode_switches(int count, char **words)
 {

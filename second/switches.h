@@ -7,7 +7,7 @@ enum {
     ROTATION_LANDED = 1, /* request 106, `rotation` */
     DESKS_LANDED = 1,    /* request 101, `desks` */
     CLEAN_LANDED = 1,    /* request 102, `clean` */
-    FENCES_LANDED = 0,   /* request 104, `fences` */
+    FENCES_LANDED = 1,   /* request 104, `fences` */
     QUEUES_LANDED = 0    /* request 113, `queues` */
 };
 
