@@ -108,6 +108,10 @@ class Run:
     def name(self, line):
         return self.names.get(line, "line %d" % line)
 
+    def label(self, line):
+        """Its name where there is little room."""
+        return self.name(line).replace("head of desk", "head")
+
     @property
     def own_heads(self):
         """Whether each desk has a head line of its own."""

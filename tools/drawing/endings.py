@@ -116,7 +116,7 @@ def headings(t):
     s = t.d.svg
     s.text(t.x, TOP - 3, "every ending", 9.5, INK, True)
     for cx, line in zip(t.xs, t.lines):
-        *what, which = t.run.name(line).split(" ")
+        *what, which = t.run.label(line).split(" ")
         s.text(cx, TOP + 9, " ".join(what), 8, GREY, anchor="middle")
         s.text(cx, TOP + 19, which, 8.7, GREY, anchor="middle")
     s.text(t.xk, TOP + 19, "no.", 8.6, GREY, anchor="end")

@@ -21,7 +21,7 @@ def untouched_lane(d, lines, y, h):
 def line_lane(d, line, y, h):
     s, mid = d.svg, y + h / 2
     kept = d.run.kept.get(line, [])
-    s.text(LABEL - 8, mid + 3.5, d.run.name(line), 10.5 if d.names else 9.5,
+    s.text(LABEL - 8, mid + 3.5, d.run.label(line), 10.5 if d.names else 9.5,
            INK if line in d.touched else GREY, len(kept) > 1, "end", title="line %d" % line)
     if line in d.touched:
         for block in d.blocks[line]:

@@ -22,6 +22,9 @@ on-event-requires c κs = search needs
 told-of-requires : tie.Need-told-of-requires Inv-loop μ-loop
 told-of-requires c κs = search needs
 
+shape-of-requires : tie.Need-shape-of-requires Inv-loop μ-loop
+shape-of-requires c κs = search needs
+
 at-event-requires : tie.Need-at-event-requires Inv-loop μ-loop
 at-event-requires c κs = search needs
 
@@ -59,6 +62,7 @@ events-told-spec =
     event-of-requires
     on-event-requires
     told-of-requires
+    shape-of-requires
     at-event-requires
     refused-requires
     returns
