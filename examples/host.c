@@ -214,7 +214,9 @@ static void run(void) {
     expect("A8, A9", steps(record, 1), UQ_TAKEN);
     places(record, "places after P1", queued);
     saved(record, "P1 persisted", 0, 0, 0, 0);
-    expect("A10", event(record, UQ_STEP, 0), UQ_TAKEN);
+    expect("A10, the flush", event(record, UQ_STEP, 0), UQ_TAKEN);
+    saved(record, "persisted at the flush", 0, 0, 0, 0);
+    expect("its fence", event(record, UQ_STEP, 0), UQ_TAKEN);
     saved(record, "P2 persisted", 0, 1, 1, 7);
     uint64_t done = event(record, UQ_STEP, 0);
     printf("A11 of P1's enqueue: reply %u\n", uq_reply(done));
@@ -222,7 +224,10 @@ static void run(void) {
     expect("begin of a dequeue", event(record, UQ_DEQUEUE, 0), UQ_TAKEN);
     expect("D1, D2, D4", steps(record, 2), UQ_TAKEN);
     places(record, "places after P3", taken);
-    expect("D5, D6", steps(record, 1), UQ_TAKEN);
+    expect("D5, D6, the flush", steps(record, 1), UQ_TAKEN);
+    saved(record, "persisted at D6", 0, 1, 1, 7);
+    places(record, "places at the fence", taken);
+    expect("its fence", event(record, UQ_STEP, 0), UQ_TAKEN);
     saved(record, "P4 persisted", 1, 1, 1, 7);
     uint64_t item = event(record, UQ_STEP, 0);
     printf("D7 of the dequeue: reply %u, item %u\n", uq_reply(item), uq_item(item));
@@ -234,7 +239,7 @@ static void run(void) {
     expect("crash", event(record, UQ_CRASH, 0), UQ_TAKEN);
     places(record, "places after a crash", fresh);
     expect("begin after a crash", event(record, UQ_DEQUEUE, 0), UQ_TAKEN);
-    expect("an empty queue", uq_reply(steps(record, 2)), UQ_EMPTY);
+    expect("an empty queue", uq_reply(steps(record, 3)), UQ_EMPTY);
 }
 
 /* P10. */

@@ -16,7 +16,7 @@ mod uq {
         fn uq_places(record: *const u8, length: usize, buffer: *mut u8, room: usize) -> u64;
     }
 
-    pub const RECORD: usize = 2083;
+    pub const RECORD: usize = 2267;
 
     #[derive(Debug, PartialEq)]
     pub struct Refusal {
@@ -185,12 +185,15 @@ fn run(t: &mut Tally) {
     for _ in 0..10 {
         t.expect("A1 to A10", uq::event(&mut record, 3, 0, 0), Ok(Reply::None));
     }
+    t.expect("flushed", uq::save(&record, &mut saved), Ok(()));
+    t.expect("bytes persisted at the flush", &saved[..], &image(0, 0, 0, 0)[..]);
+    t.expect("the fence of A10", uq::event(&mut record, 3, 0, 0), Ok(Reply::None));
     t.expect("persisted", uq::save(&record, &mut saved), Ok(()));
     t.expect("bytes persisted", &saved[..], &image(0, 1, 1, 7)[..]);
     t.expect("A11", uq::event(&mut record, 3, 0, 0), Ok(Reply::Done));
     t.expect("begin of a dequeue", uq::event(&mut record, 2, 0, 0), Ok(Reply::None));
-    for _ in 0..5 {
-        t.expect("D1 to D6", uq::event(&mut record, 3, 0, 0), Ok(Reply::None));
+    for _ in 0..6 {
+        t.expect("D1 to D6, and its fence", uq::event(&mut record, 3, 0, 0), Ok(Reply::None));
     }
     t.expect("D7", uq::event(&mut record, 3, 0, 0), Ok(Reply::Item(7)));
     t.expect("places", uq::places(&record), Ok([1, 0, 0, 1, 0, 0]));

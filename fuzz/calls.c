@@ -3,7 +3,7 @@
 
 u64 numbers_seen[NUMBERS], history_numbers_seen[NUMBERS], verdicts_seen[VERDICTS];
 
-enum { ROOM = 2560 }; /* more than a record */
+enum { ROOM = MOST_RECORD }; /* more than any record has */
 
 static int differ(const char *call, u64 ours, u64 theirs)
 {
@@ -80,17 +80,17 @@ int agree_on_ending(const u8 *bytes, u64 length)
 }
 
 /* A line's contents: of a head line the index, of a node linked, index, item; indices of 8 bytes. */
-static u64 put_contents(int node, const History *history, u8 *bytes)
+static u64 put_contents(int head, const History *history, u8 *bytes)
 {
     u64 at = 0;
     for (u32 i = 0; i < history->count; i++) {
         const Content *c = &history->list[i];
-        if (node)
+        if (!head)
             bytes[at++] = (u8)c->linked;
         put4(bytes + at, (u32)c->index);
         put4(bytes + at + 4, (u32)(c->index >> 32));
         at += 8;
-        if (node) {
+        if (!head) {
             put4(bytes + at, c->item);
             at += 4;
         }
@@ -105,14 +105,13 @@ int agree_on_line(const u8 *bytes, u64 length)
     Schedule schedule;
     u64 count = 0, size = 0, value = 0;
     Verdict v = endings_of(bytes, length, &schedule, &the_bench, &count);
-    u32 heads = v.number == TAKEN ? head_lines(schedule.image.form, schedule.t) : 0;
-    u32 lines = v.number == TAKEN ? heads + schedule.image.n : MAX_LINES;
+    u32 lines = v.number == TAKEN ? line_count(&the_bench.machine) : MAX_LINES;
     u32 line = chance(85) ? below(lines) : chance(50) ? lines + below(3) : (u32)random_bits();
     if (v.number == TAKEN && line >= lines)
         v = verdict(NUMBER_TOO_LARGE, 0);
     if (v.number == TAKEN) {
         value = the_bench.lines[line].count;
-        size = put_contents(line >= heads, &the_bench.lines[line], whole);
+        size = put_contents(line < head_lines(schedule.image.form, schedule.t), &the_bench.lines[line], whole);
     }
     u64 room = chance(60) ? size + below(40) : chance(50) || size == 0 ? size : below((u32)size);
     if (v.number == TAKEN && room < size)

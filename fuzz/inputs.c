@@ -101,7 +101,7 @@ u64 some_history(u64 seed, u64 number, u8 *bytes)
 
 u64 some_input(u64 seed, u64 number, u8 *bytes)
 {
-    static const char *const shapes[] = {"tiny", "small", "deep", "bursts", "worn", "valid", "refused", "wild", "clean"};
+    static const char *const shapes[] = {"tiny", "small", "deep", "bursts", "worn", "valid", "refused", "wild", "clean", "flushed"};
     u64 length;
     seed_random(seed, number);
     u32 kind = below(16);
@@ -113,7 +113,7 @@ u64 some_input(u64 seed, u64 number, u8 *bytes)
         return raw_behind_head(bytes, kind == 3, 0);
     if (kind < 9)
         return raw_behind_head(bytes, 1, 1);
-    length = generate_input(seed + 1, number, shapes[below(9)], bytes);
+    length = generate_input(seed + 1, number, shapes[below(sizeof shapes / sizeof shapes[0])], bytes);
     if (kind < 14)
         spoil(bytes, &length, LONGEST);
     return length;

@@ -200,8 +200,9 @@ void generate_record_item(u64 seed, u64 number, u8 *item)
     aim_at_step(&m, item + length);
     if (full && chance(60))
         event_to_bytes(&(Event){CRASH, 0, 0}, item + length);
+    u32 end = chance(10) ? 1 : on(FENCES) ? 340 : 150; /* the threads and what stands behind them */
     if (kind == 3 || kind == 9) /* one byte spoilt, most often out of range */
-        item[chance(50) ? RECORD_MARK + below(28) : chance(50) ? length - 1 - below(chance(10) ? 1 : on(FENCES) ? 340 : 150) : below((u32)length)] = (u8)random_bits();
+        item[chance(50) ? RECORD_MARK + below(28) : chance(50) ? length - 1 - below(end) : below((u32)length)] = (u8)random_bits();
     if (kind == 8 && chance(20)) /* every byte string is some record */
         for (u64 i = RECORD_MARK + 3; i < length; i++)
             item[i] = (u8)random_bits();
