@@ -1,7 +1,7 @@
 -- Laws of #104's sets of threads, one thread at a time, and of a flush and a fence of a line that is known to be a head line or a node's.
 use Prim.Native.Nat.{ℕ, zero, suc, _+_, _-_, _^_, _≤_, _<_}
 use mathlib.Core.Path.{_≡_, refl, sym, ap, ap₂, _∙_}
-use mathlib.Core.Bool.{true, false}
+use mathlib.Core.Bool.{Bool, true, false}
 use mathlib.Core.List.{List}
 use native.Mathlib.Nat.{pow-suc}
 use native.Mathlib.Omega.{arith}
@@ -87,3 +87,17 @@ fence-head m k l h w e f g = ap (putKeptHead m h (flushed m k .index)) (g ∙ ov
 pub fence-node : (m : Machine) (k : ℕ) (l : Line) (i w : ℕ) → l ≡ ofNode i → has (overNode m i) k ≡ false → w ≡ overBelow (overNode m i) (late m k) (m .t)
     → putKept m i (flushed m k) w ≡ fence m k l
 fence-node m k l i w e f g = ap (putKept m i (flushed m k)) (g ∙ over-is m k (ofNode i)) ∙ rw (e, f)
+
+-- ---- a fence leaves the number of nodes
+
+pub fence-n : (m : Machine) (k : ℕ) (l : Line) → fence m k l .n ≡ m .n
+fence-n m k (ofHead h) = by (has (overHead m h) k)
+  where
+    by : (b : Bool) → pick b m (putKeptHead m h (flushed m k .index) (overAfter m k (ofHead h))) .n ≡ m .n
+    by true = refl
+    by false = refl
+fence-n m k (ofNode i) = by (has (overNode m i) k)
+  where
+    by : (b : Bool) → pick b m (putKept m i (flushed m k) (overAfter m k (ofNode i))) .n ≡ m .n
+    by true = refl
+    by false = refl
