@@ -1,18 +1,21 @@
 -- In every machine of a run there are as many persisted copies as nodes: each node's line has one.
-use Prim.Native.Nat.{ℕ, zero, suc, _+_, _-_}
+use Prim.Native.Nat.{ℕ, _+_, _-_}
 use mathlib.Core.Path.{_≡_, refl, sym, ap, _∙_}
 use mathlib.Core.Bool.{Bool, true, false}
 use mathlib.Core.List.{List}
-use lib.ListN.{length, set, length-map, length-set, length-replicate}
+use lib.ListN.{length, length-map, length-set, length-replicate}
 use lib.Dec.{eqb, leb}
 use Rattle.lists.specs.Find.{pick, both}
+use Rattle.lists.specs.Word.{has}
 use Rattle.lists.proofs.TabLaws as tabs
+use Rattle.image.specs.declared.Content.{Content}
 use Rattle.image.specs.declared.Image.{Image}
 use Rattle.image.specs.Layout.{noContent, noContents}
 use Rattle.image.specs.Form.{topOf, perDesk}
-use Rattle.machine.specs.Record.{none, node, thread, headAt, contentOf, blankNode, blankNodes, putTail, putHeadAt, putNode}
-use Rattle.machine.specs.Stage.{Stage, noStep, A1, A2, A3, A4, A5, A6, A7, A8, A9, A10, A11, A12, D1, D2, D3, D4, D5, D6, D7, S3, S6, stage}
-use Rattle.machine.specs.Line.{shapeOf, lineAt, ownHead, persist}
+use Rattle.machine.specs.Record.{none, node, thread, headAt, contentOf, flushed, blankNode, blankNodes, putTail, putHeadAt, putNode}
+use Rattle.machine.specs.Stage.{Stage, noStep, A1, A2, A3, A4, A5, A6, A7, A8, A9, A10, A11, A12, D1, D2, D3, D4, D5, D6, D7, S3, S6, F10, F3, F6, stage}
+use Rattle.machine.specs.Line.{shapeOf, lineAt, ownHead, cachedAt, overAt, keeping, everyone, persist}
+use Rattle.machine.specs.Flush.{flush, overAfter, fence}
 use Rattle.machine.specs.declared.Line.{Line}
 use Rattle.machine.specs.declared.Line.the-variants.{OfHead as ofHead, OfNode as ofNode}
 use Rattle.machine.specs.Retire.{left, freed, released, retired, retiredHeld}
@@ -22,7 +25,7 @@ use Rattle.machine.specs.declared.Machine.{Machine}
 use Rattle.machine.specs.declared.Node.{Node}
 use Rattle.machine.specs.declared.Event.{Event}
 use Rattle.machine.specs.declared.Acted.{Acted}
-use Rattle.moments.specs.Frame.{Even}
+use Rattle.moments.specs.Frame.{Even, Keeps}
 use Rattle.moments.proofs.Frame as frame
 
 -- ---- parts of a step
@@ -30,8 +33,8 @@ use Rattle.moments.proofs.Frame as frame
 -- the same contents
 even-same : (m m′ : Machine) → frame.Same m m′ → Even m → Even m′
 even-same m m′ s e = (
-  ap length (s .kept) ∙ e .0 ∙ sym (length-map (m .nodes) contentOf) ∙ ap length (sym (s .nodes)) ∙ length-map (m′ .nodes) contentOf,
-  ap length (s .head) ∙ e .1 ∙ ap length (sym (s .index)),
+  ap (λ (k : Keeps). length (k .nodes)) (s .kept) ∙ e .0 ∙ sym (length-map (m .nodes) contentOf) ∙ ap length (sym (s .nodes)) ∙ length-map (m′ .nodes) contentOf,
+  ap (λ (k : Keeps). length (k .heads)) (s .kept) ∙ e .1 ∙ ap length (sym (s .index)),
 )
 
 even-left : (m : Machine) (k x : ℕ) → Even m → Even (left m k x)
@@ -47,9 +50,23 @@ even-pick : (t : Bool) (a b : Acted) → Even (a .machine) → Even (b .machine)
 even-pick true a b p q = p
 even-pick false a b p q = q
 
+even-keeping : (m : Machine) (l : Line) (c : Content) (w : ℕ) → Even m → Even (keeping m l c w)
+even-keeping m (ofHead k) c w e = (e .0, length-set (m .«kept_heads») k (c .index) ∙ e .1)
+even-keeping m (ofNode i) c w e = (length-set (m .kept) i c ∙ e .0, e .1)
+
 even-persist : (m : Machine) (l : Line) → Even m → Even (persist m l)
-even-persist m (ofHead k) e = (e .0, length-set (m .«kept_heads») k (headAt m k) ∙ e .1)
-even-persist m (ofNode i) e = (length-set (m .kept) i (contentOf (node m i)) ∙ e .0, e .1)
+even-persist m l e = even-keeping m l (cachedAt m l) (everyone m) e
+
+even-flush : (m : Machine) (k : ℕ) (l : Line) → Even m → Even (flush m k l)
+even-flush m k (ofHead j) e = e
+even-flush m k (ofNode i) e = e
+
+even-fence : (m : Machine) (k : ℕ) (l : Line) → Even m → Even (fence m k l)
+even-fence m k l e = by (has (overAt m l) k)
+  where
+    by : (t : Bool) → Even (pick t m (keeping m l (flushed m k) (overAfter m k l)))
+    by true = e
+    by false = even-keeping m l (flushed m k) (overAfter m k l) e
 
 even-held : (m : Machine) (k : ℕ) → Even m → Even (retiredHeld m k)
 even-held m k e = by (eqb (thread m k .held) none)
@@ -78,7 +95,7 @@ module _ (m : Machine) (k : ℕ) (e : Even m) where
       (even-set m (thread m k .node) _ e)
   even-step A8 = even-pick (eqb (node m (thread m k .tail) .next) none) _ _ (even-set m (thread m k .tail) _ e) e
   even-step A9 = even-set m (thread m k .node) _ e
-  even-step A10 = even-persist m (ofNode (thread m k .node)) e
+  even-step A10 = even-flush m k (ofNode (thread m k .node)) e
   even-step A11 =
       even-left (pick (eqb (m .tail) (thread m k .tail)) (putTail m (thread m k .node)) m) k
       (thread (pick (eqb (m .tail) (thread m k .tail)) (putTail m (thread m k .node)) m) k .held)
@@ -86,15 +103,20 @@ module _ (m : Machine) (k : ℕ) (e : Even m) where
   even-step A12 = even-tail m (eqb (m .tail) (thread m k .tail)) (node m (thread m k .tail) .next) e
   even-step D1 = e
   even-step D2 = e
-  even-step D3 = even-left (persist m (ofHead (ownHead m k))) k (thread m k .held) (even-persist m (ofHead (ownHead m k)) e)
+  even-step D3 = even-flush m k (ofHead (ownHead m k)) e
   even-step D4 =
       even-pick (both (eqb (m .head) (thread m k .head)) (pick (perDesk (m .form)) true (eqb (headAt m 0) (thread m k .index)))) _ _
       (even-pick (perDesk (m .form)) _ _ e (even-head m 0 _ e)) e
   even-step D5 = e
-  even-step D6 = even-persist m (ofHead (ownHead m k)) e
+  even-step D6 = even-flush m k (ofHead (ownHead m k)) e
   even-step D7 = even-left (retiredHeld m k) k (thread m k .head) (even-held m k e)
   even-step S3 = even-head m k _ e
   even-step S6 = even-head m k _ e
+  even-step F10 = even-fence m k (ofNode (thread m k .node)) e
+  even-step F3 =
+      let x = fence m k (ofHead (ownHead m k)) in
+      even-left x k (thread x k .held) (even-fence m k (ofHead (ownHead m k)) e)
+  even-step F6 = even-fence m k (ofHead (ownHead m k)) e
 
 -- ---- starts and events
 

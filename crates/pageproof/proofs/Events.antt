@@ -1,8 +1,7 @@
--- One event that is taken: what it makes of a bench, of each line's contents, and of a machine that is alike.
+-- One event that is taken: what it makes of a bench, and of a machine that is alike.
 use Prim.Native.Nat.{ℕ, _<_}
 use mathlib.Core.Path.{_≡_, refl, sym, ap, subst, _∙_}
 use mathlib.Core.Bool.{Bool, true, false, not}
-use mathlib.Core.List.{[], _∷_}
 use native.Mathlib.Omega.{arith}
 use lib.Dec.{eqb, leb, leb→le}
 use borrow.Author.Tests.{leb-false}
@@ -13,23 +12,20 @@ use Rattle.answer.specs.declared.Answer.{Answer}
 use Rattle.answer.specs.declared.Answer.the-variants.{Taken, Number, Busy, Idle, NotZero, Clean}
 use Rattle.image.specs.Refusals.{startable}
 use Rattle.machine.specs.Stage.{busy}
-use Rattle.machine.specs.Line.{shapeOf, lineCount, lineAt, sameLine, cachedAt, persistedAt, persisted}
-use Rattle.machine.specs.declared.Line.{Line}
+use Rattle.machine.specs.Line.{shapeOf, lineCount, lineAt, persisted}
 use Rattle.machine.specs.Retire.{quiet}
 use Rattle.machine.specs.Event.{Deed, unknown, enqueues, dequeues, steps, writesBack, crashes, deedOf, threadTooLarge, lineTooLarge, itemNotZero, clean, eventAnswer, done, eventAt}
 use Rattle.machine.specs.declared.Machine.{Machine}
 use Rattle.machine.specs.declared.Event.{Event}
 use Rattle.machine.specs.declared.Acted.{Acted}
-use Rattle.machine.proofs.LineLaws.{same-line, same-is}
 use Rattle.machine.specs.declared.Touch.{Touch}
-use Rattle.machine.specs.declared.Touch.the-variants.{Nothing as nothing, Store as aStore, Persist as aPersist}
 use Rattle.schedule.specs.Run.{Bench, goesOn, turned}
-use Rattle.page.specs.Contents.{joins, contentsOf}
 use Rattle.lawful.specs.Added.{writeBack}
-use Rattle.moments.specs.Frame.{Persists, Frame, Even}
+use Rattle.moments.specs.Frame.{Even}
 use Rattle.moments.specs.Moments.{Timed}
 use Rattle.moments.proofs.Steps as acts
 use Rattle.moments.proofs.Moments as moments
+use Rattle.moments.proofs.Known.{Known, known-done}
 use Rattle.pageproof.proofs.Alike.{Alike, alike-done, alike-answer}
 use Rattle.pageproof.proofs.Even.{even-done}
 
@@ -40,12 +36,16 @@ Takes p m e = accepted (eventAt p m e .answer) ≡ true
 abbrev pub next : Machine → Event → Machine
 next m e = done m e (deedOf (e .kind)) .machine
 
+-- what it touches
+abbrev pub touch : Machine → Event → Touch
+touch m e = done m e (deedOf (e .kind)) .touch
+
 abbrev pub Crash : Event → Type 0
 Crash e = deedOf (e .kind) ≡ crashes
 
 -- ---- what is taken is taken at every place, and by every machine that is alike, of a write-back if its line is as clean there
 
-tests : (p : ℕ) (m : Machine) (e : Event) → Takes p m e → accepted (eventAnswer p m e (deedOf (e .kind))) ≡ true
+pub tests : (p : ℕ) (m : Machine) (e : Event) → Takes p m e → accepted (eventAnswer p m e (deedOf (e .kind))) ≡ true
 unfolding eventAt
 tests p m e h = by (accepted (eventAnswer p m e (deedOf (e .kind)))) refl h
   where
@@ -108,6 +108,9 @@ module _ (p q : ℕ) (m m′ : Machine) (a : Alike m m′) (e : Event) (ne : Cra
       (passes q m′ e (ap accepted (alike-answer q m m′ a e (deedOf (e .kind)) ne s) ∙ replaced p q m e (deedOf (e .kind)) (tests p m e h)))
       ∙ ap accepted (alike-done m m′ a e (deedOf (e .kind)) ne .answer ∙ ap (λ (o : Acted). o .answer) (sym (taken-is p m e h))) ∙ h
 
+pub alike-touch : (m m′ : Machine) → Alike m m′ → (e : Event) → (Crash e → ⊥) → touch m′ e ≡ touch m e
+alike-touch m m′ a e ne = alike-done m m′ a e (deedOf (e .kind)) ne .touch
+
 pub alike-next : (m m′ : Machine) → Alike m m′ → (e : Event) → (Crash e → ⊥) → Alike (next m e) (next m′ e)
 alike-next m m′ a e ne = alike-done m m′ a e (deedOf (e .kind)) ne .machine
 
@@ -148,51 +151,6 @@ back-changed p m e h w =
     by false false true f g a = no-way (sym a)
     by false false false f g a = (leb-false (lineCount (shapeOf m)) (e .number) f, g)
 
--- ---- which line an event persists
-
--- the touch w persists line l
-abbrev pub persistsLine : Touch → Line → Bool
-persistsLine nothing l = false
-persistsLine (aStore x) l = false
-persistsLine (aPersist x) l = sameLine l x
-
-abbrev pub hits : Machine → Event → Line → Bool
-hits m e l = persistsLine (done m e (deedOf (e .kind)) .touch) l
-
-hit-is : (w : Touch) (l : Line) → persistsLine w l ≡ true → w ≡ aPersist l
-hit-is nothing l z = no-way (sym z)
-hit-is (aStore x) l z = no-way (sym z)
-hit-is (aPersist x) l z = ap aPersist (sym (same-is l x z))
-
-miss-is : (w : Touch) (l : Line) → persistsLine w l ≡ false → Persists w l → ⊥
-miss-is nothing l z p = p
-miss-is (aStore x) l z p = p
-miss-is (aPersist x) l z p = no-way (sym (rw p (same-line x)) ∙ z)
-
--- a write-back persists its own line
-pub back-hits : (m : Machine) (e : Event) → deedOf (e .kind) ≡ writesBack → hits m e (lineAt (shapeOf m) (e .number)) ≡ true
-back-hits m e w = ap (λ (d : Deed). persistsLine (done m e d .touch) (lineAt (shapeOf m) (e .number))) w ∙ same-line (lineAt (shapeOf m) (e .number))
-
-pub alike-hits : (m m′ : Machine) → Alike m m′ → (e : Event) → (Crash e → ⊥) → (l : Line) → hits m′ e l ≡ hits m e l
-alike-hits m m′ a e ne l = ap (λ (w : Touch). persistsLine w l) (alike-done m m′ a e (deedOf (e .kind)) ne .touch)
-
-module _ (m : Machine) (ev : Even m) (e : Event) (ne : Crash e → ⊥) (l : Line) where
-  fr : Frame m (next m e) (done m e (deedOf (e .kind)) .touch)
-  fr = acts.frame-done m e (deedOf (e .kind)) ev ne
-
-  pub hit-persisted : hits m e l ≡ true → persistedAt (next m e) l ≡ cachedAt (next m e) l
-  hit-persisted h = fr .present l (subst (λ (w : Touch). Persists w l) (sym (hit-is (done m e (deedOf (e .kind)) .touch) l h)) refl)
-
-  pub miss-persisted : hits m e l ≡ false → persistedAt (next m e) l ≡ persistedAt m l
-  miss-persisted h = fr .kept l (miss-is (done m e (deedOf (e .kind)) .touch) l h)
-
-  pub persisted-next : persistedAt (next m e) l ≡ pick (hits m e l) (cachedAt (next m e) l) (persistedAt m l)
-  persisted-next = by (hits m e l) refl
-    where
-      by : (b : Bool) → hits m e l ≡ b → persistedAt (next m e) l ≡ pick b (cachedAt (next m e) l) (persistedAt m l)
-      by true h = hit-persisted h
-      by false h = miss-persisted h
-
 -- ---- a bench that goes on
 
 pub record Good (b : Bench) : Type 0 where
@@ -203,37 +161,26 @@ pub record Good (b : Bench) : Type 0 where
 abbrev pub onto : Bench → Event → Bench
 onto b e = turned b (done (b .machine) e (deedOf (e .kind))) (deedOf (e .kind))
 
-module _ (p : ℕ) (b : Bench) (g : Good b) (e : Event) (ne : Crash e → ⊥) (h : Takes p (b .machine) e) where
-  abbrev w : Touch
-  w = done (b .machine) e (deedOf (e .kind)) .touch
+module _ (p : ℕ) (b : Bench) (e : Event) (h : Takes p (b .machine) e) where
+  -- what the moments know goes on
+  pub onto-known : Known b → Known (onto b e)
+  onto-known k = known-done p b e k (deedOf (e .kind)) (tests p (b .machine) e h)
 
-  goes : onto b e ≡ goesOn b (next (b .machine) e) w
-  goes = subst (λ (o : Acted). turned b o (deedOf (e .kind)) ≡ goesOn b (o .machine) (o .touch)) (taken-is p (b .machine) e h) (acts.turned-on p b e h ne)
+  module _ (ne : Crash e → ⊥) where
+    pub onto-goes : onto b e ≡ goesOn b (next (b .machine) e) (touch (b .machine) e)
+    onto-goes = subst (λ (o : Acted). turned b o (deedOf (e .kind)) ≡ goesOn b (o .machine) (o .touch)) (taken-is p (b .machine) e h) (acts.turned-on p b e h ne)
 
-  pub onto-machine : onto b e .machine ≡ next (b .machine) e
-  onto-machine = ap (λ (x : Bench). x .machine) goes
+    pub onto-machine : onto b e .machine ≡ next (b .machine) e
+    onto-machine = ap (λ (x : Bench). x .machine) onto-goes
 
-  size : shapeOf (next (b .machine) e) ≡ shapeOf (b .machine)
-  size = acts.frame-done (b .machine) e (deedOf (e .kind)) (g .even) ne .shape
+    pub onto-size : shapeOf (onto b e .machine) ≡ shapeOf (b .machine)
+    onto-size = ap shapeOf onto-machine ∙ acts.frame-done (b .machine) e (deedOf (e .kind)) ne .shape
 
-  pub onto-size : shapeOf (onto b e .machine) ≡ shapeOf (b .machine)
-  onto-size = ap shapeOf onto-machine ∙ size
-
-  pub onto-good : Good (onto b e)
-  onto-good = record {
-    timed = rw goes (moments.timed-goes b (next (b .machine) e) w (g .timed));
-    even = rw onto-machine (even-done (b .machine) e (deedOf (e .kind)) (g .even));
-  }
-
-  pub hit-contents : (l : Line) → hits (b .machine) e l ≡ true → contentsOf (onto b e) l ≡ cachedAt (next (b .machine) e) l ∷ []
-  hit-contents l t =
-      ap (λ (x : Bench). contentsOf x l) (goes ∙ ap (goesOn b (next (b .machine) e)) (hit-is w l t))
-      ∙ moments.contents-persisted b (next (b .machine) e) l (hit-persisted (b .machine) (g .even) e ne l t)
-
-  pub miss-contents : (l : Line) → hits (b .machine) e l ≡ false → contentsOf (onto b e) l ≡ joins (contentsOf b l) (cachedAt (next (b .machine) e) l)
-  miss-contents l t =
-      ap (λ (x : Bench). contentsOf x l) goes
-      ∙ moments.contents-joined b (g .timed) (next (b .machine) e) w l (miss-is w l t) (miss-persisted (b .machine) (g .even) e ne l t)
+    pub onto-good : Good b → Good (onto b e)
+    onto-good g = record {
+      timed = rw onto-goes (moments.timed-goes b (next (b .machine) e) (touch (b .machine) e) (g .timed));
+      even = rw onto-machine (even-done (b .machine) e (deedOf (e .kind)) (g .even));
+    }
 
 -- a crash begins anew
 pub crash-good : (b : Bench) → Good b → (e : Event) → Crash e → Good (onto b e)

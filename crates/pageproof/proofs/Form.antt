@@ -7,10 +7,12 @@ use lib.Dec.{eqb, leb}
 use Rattle.lists.specs.Find.{pick, both}
 use Rattle.image.specs.Form.{topOf, perDesk}
 use Rattle.machine.specs.Record.{none, node, thread, headAt, putTail}
-use Rattle.machine.specs.Line.{shapeOf, lineAt, ownHead, persist}
+use Rattle.image.specs.declared.Shape.{Shape}
+use Rattle.machine.specs.Line.{shapeOf, lineAt, ownHead, cachedAt, everyone, persist}
+use Rattle.machine.specs.Flush.{flush, fence}
 use Rattle.machine.specs.declared.Line.{Line}
 use Rattle.machine.specs.declared.Line.the-variants.{OfHead as ofHead, OfNode as ofNode}
-use Rattle.machine.specs.Stage.{Stage, noStep, A1, A2, A3, A4, A5, A6, A7, A8, A9, A10, A11, A12, D1, D2, D3, D4, D5, D6, D7, S3, S6, stage}
+use Rattle.machine.specs.Stage.{Stage, noStep, A1, A2, A3, A4, A5, A6, A7, A8, A9, A10, A11, A12, D1, D2, D3, D4, D5, D6, D7, S3, S6, F10, F3, F6, stage}
 use Rattle.machine.specs.Retire.{freed, releasedAt, released, left, retired, retiredHeld}
 use Rattle.machine.specs.Start.{startWith}
 use Rattle.machine.specs.Event.{Deed, unknown, enqueues, dequeues, steps, writesBack, crashes, deedOf, stepped, done}
@@ -18,6 +20,7 @@ use Rattle.machine.specs.declared.Machine.{Machine}
 use Rattle.machine.specs.declared.Event.{Event}
 use Rattle.machine.specs.declared.Acted.{Acted}
 use Rattle.schedule.specs.Run.{Bench, run, turned}
+use Rattle.moments.proofs.Frame.{keeping-shape, flush-shape, fence-shape}
 use Rattle.pageproof.proofs.Events.{onto}
 use Rattle.pageproof.proofs.Runs.{Accepts, run-first, run-rest, run-bench, run-nothing}
 
@@ -43,8 +46,13 @@ form-pick f true x y p q = p
 form-pick f false x y p q = q
 
 form-persist : (m : Machine) (l : Line) → persist m l .form ≡ m .form
-form-persist m (ofHead k) = refl
-form-persist m (ofNode i) = refl
+form-persist m l = ap (λ (z : Shape). z .form) (keeping-shape m l (cachedAt m l) (everyone m))
+
+form-flush : (m : Machine) (k : ℕ) (l : Line) → flush m k l .form ≡ m .form
+form-flush m k l = ap (λ (z : Shape). z .form) (flush-shape m k l)
+
+form-fence : (m : Machine) (k : ℕ) (l : Line) → fence m k l .form ≡ m .form
+form-fence m k l = ap (λ (z : Shape). z .form) (fence-shape m k l)
 
 module _ (m : Machine) (k : ℕ) where
   form-step : (s : Stage) → stepped m k s .machine .form ≡ m .form
@@ -58,22 +66,25 @@ module _ (m : Machine) (k : ℕ) where
   form-step A7 = form-pick (m .form) (leb (topOf (m .form)) (node m (thread m k .tail) .index)) _ _ (form-left (freed m (thread m k .node)) k (thread m k .held)) refl
   form-step A8 = form-pick (m .form) (eqb (node m (thread m k .tail) .next) none) _ _ refl refl
   form-step A9 = refl
-  form-step A10 = refl
+  form-step A10 = form-flush m k (ofNode (thread m k .node))
   form-step A11 =
       let b = eqb (m .tail) (thread m k .tail) in
       form-left (pick b (putTail m (thread m k .node)) m) k (thread (pick b (putTail m (thread m k .node)) m) k .held) ∙ form-tail m b (thread m k .node)
   form-step A12 = form-tail m (eqb (m .tail) (thread m k .tail)) (node m (thread m k .tail) .next)
   form-step D1 = refl
   form-step D2 = refl
-  form-step D3 = form-left (persist m (ofHead (ownHead m k))) k (thread m k .held)
+  form-step D3 = form-flush m k (ofHead (ownHead m k))
   form-step D4 =
       form-pick (m .form) (both (eqb (m .head) (thread m k .head)) (pick (perDesk (m .form)) true (eqb (headAt m 0) (thread m k .index)))) _ _
       (form-pick (m .form) (perDesk (m .form)) _ _ refl refl) refl
   form-step D5 = refl
-  form-step D6 = refl
+  form-step D6 = form-flush m k (ofHead (ownHead m k))
   form-step D7 = form-left (retiredHeld m k) k (thread m k .head) ∙ form-held m k (eqb (thread m k .held) none)
   form-step S3 = refl
   form-step S6 = refl
+  form-step F10 = form-fence m k (ofNode (thread m k .node))
+  form-step F3 = let x = fence m k (ofHead (ownHead m k)) in form-left x k (thread x k .held) ∙ form-fence m k (ofHead (ownHead m k))
+  form-step F6 = form-fence m k (ofHead (ownHead m k))
 
 form-turned : (b : Bench) (e : Event) (d : Deed) → turned b (done (b .machine) e d) d .machine .form ≡ b .machine .form
 unfolding startWith

@@ -4,8 +4,10 @@ pub mod Among
 pub mod Events
 pub mod Runs
 pub mod Form
+pub mod Lengthened
 pub mod Fewer
-pub mod Left
+pub mod Before
+pub mod Ripe
 pub mod Sow
 pub mod Page
 pub mod Holds

@@ -21,15 +21,12 @@ use Rattle.schedule.specs.Run.{Bench, Ran, run, ran, opened, begins, andBefore,
 use Rattle.page.specs.Refusals.{pageAnswer, endingCount, endingIn}
 use Rattle.lawful.specs.Added.{writeBack, NoCrash, Adds, ends, keeps, adds, AddsLate}
 use Rattle.lawful.specs.Demand3.{Bytes, runOf, imageLeft, Leaves}
-use Rattle.moments.proofs.Moments as moments
 use Rattle.pageproof.specs.Longer as longer
 use Rattle.pageproof.specs.Longer.{Longer, LongerLate, Changed}
-use Rattle.moments.specs.Frame.{Even}
 use Rattle.pageproof.proofs.Alike.{Alike, alike-self, alike-back, alike-size}
-use Rattle.pageproof.proofs.Even.{even-start}
 use Rattle.pageproof.proofs.Events as events
-use Rattle.pageproof.proofs.Events.{Takes, no-crash, Good, onto}
-use Rattle.pageproof.proofs.Runs.{Accepts, run-first, run-cons, run-rest, run-bench, run-nothing, run-taken, run-silent, run-front, run-append, good-run, run-size, andAfter}
+use Rattle.pageproof.proofs.Events.{Takes, no-crash, onto}
+use Rattle.pageproof.proofs.Runs.{Accepts, run-first, run-cons, run-rest, run-bench, run-nothing, run-taken, run-silent, run-front, run-append, run-size, andAfter}
 use Rattle.pageproof.proofs.Holds.{page-ran, page-holds}
 
 -- what is said of a run with write-backs added
@@ -95,33 +92,29 @@ module _ (z : Shape) (q : ℕ) (b′ : Bench) (i : ℕ) (lt : i < lineCount z) (
     added = subst (λ (r : Ran). Adds (lineCount z) l x (writeBack i ∷ l′) (r .replies)) (sym back-is) (adds i lt (s .added));
   }
 
-pub same-run : (z : Shape) {l l′ : List Event} → Longer (lineCount z) l l′ → (p q : ℕ) (b b′ : Bench) → NoCrash l → Good b → Good b′ → shapeOf (b .machine) ≡ z
+pub same-run : (z : Shape) {l l′ : List Event} → Longer (lineCount z) l l′ → (p q : ℕ) (b b′ : Bench) → NoCrash l → shapeOf (b .machine) ≡ z
     → Alike (b .machine) (b′ .machine) → Accepts p b l → Changed q b′ l′ → Same z l (run p b l .replies) l′ q b′
-same-run z longer.ends p q b b′ nc g g′ size a h c = record {
+same-run z longer.ends p q b b′ nc size a h c = record {
   taken = run-taken q b′;
   added = rw (run-silent p b, run-silent q b′) ends;
 }
-same-run z (longer.keeps {e = e} {l = l} {l′ = l′} r) p q b b′ nc g g′ size a h c =
+same-run z (longer.keeps {e = e} {l = l} {l′ = l′} r) p q b b′ nc size a h c =
     let t = run-first p b e l h in
     let y = t′ z p q b b′ e l l′ t (nc .0) a c in
     kept z p q b b′ e l l′ t (nc .0) a c
-    (same-run z r (suc p) (suc q) (onto b e) (onto b′ e) (nc .1) (events.onto-good p b g e (nc .0) t) (events.onto-good q b′ g′ e (nc .0) y)
-    (events.onto-size p b g e (nc .0) t ∙ size)
-    (rw (events.onto-machine p b g e (nc .0) t, events.onto-machine q b′ g′ e (nc .0) y) (events.alike-next (b .machine) (b′ .machine) a e (nc .0)))
+    (same-run z r (suc p) (suc q) (onto b e) (onto b′ e) (nc .1) (events.onto-size p b e t (nc .0) ∙ size)
+    (rw (events.onto-machine p b e t (nc .0), events.onto-machine q b′ e y (nc .0)) (events.alike-next (b .machine) (b′ .machine) a e (nc .0)))
     (run-rest p b e l h) (changed-rest q b′ e l′ y c))
-same-run z (longer.adds i lt {l = l} {l′ = l′} r) p q b b′ nc g g′ size a h c =
+same-run z (longer.adds i lt {l = l} {l′ = l′} r) p q b b′ nc size a h c =
     let y = events.back-taken q (b′ .machine) i (subst (λ x. i < lineCount x) (sym (alike-size (b .machine) (b′ .machine) a ∙ size)) lt) (c .0 refl) in
     back z q b′ i lt l (run p b l .replies) l′ y
-    (same-run z r p (suc q) b (onto b′ (writeBack i)) nc g (events.onto-good q b′ g′ (writeBack i) (no-crash i) y) size
-    (rw (events.onto-machine q b′ g′ (writeBack i) (no-crash i) y) (alike-back (b .machine) (b′ .machine) a (lineAt (shapeOf (b′ .machine)) i))) h
+    (same-run z r p (suc q) b (onto b′ (writeBack i)) nc size
+    (rw (events.onto-machine q b′ (writeBack i) y (no-crash i)) (alike-back (b .machine) (b′ .machine) a (lineAt (shapeOf (b′ .machine)) i))) h
     (changed-rest q b′ (writeBack i) l′ y c))
 
 -- ---- a whole run from a start
 
-good-begins : (m : Machine) → Even m → Good (begins m)
-good-begins m e = record { timed = moments.timed-begins m; even = e }
-
-module _ (z : Shape) (m : Machine) (ev : Even m) (size : shapeOf m ≡ z) (l : List Event) (h : Accepts 0 (begins m) l) (l′ : List Event) (o : LongerLate (lineCount z) l l′) (c : Changed 0 (begins m) l′) where
+module _ (z : Shape) (m : Machine) (size : shapeOf m ≡ z) (l : List Event) (h : Accepts 0 (begins m) l) (l′ : List Event) (o : LongerLate (lineCount z) l l′) (c : Changed 0 (begins m) l′) where
   h₁ : Accepts 0 (begins m) (o .before ++ o .since)
   h₁ = subst (Accepts 0 (begins m)) (o .is) h
 
@@ -134,12 +127,9 @@ module _ (z : Shape) (m : Machine) (ev : Even m) (size : shapeOf m ≡ z) (l : L
   split : (x : List Event) → run 0 (begins m) (o .before ++ x) ≡ andAfter (run 0 (begins m) (o .before)) (run (0 + length (o .before)) b₁ x)
   split x = run-append (o .before) x 0 (begins m) front-taken
 
-  good₁ : Good b₁
-  good₁ = good-run (o .before) 0 (begins m) (good-begins m ev) front-taken
-
   s : Same z (o .since) (run (0 + length (o .before)) b₁ (o .since) .replies) (o .since′) (0 + length (o .before)) b₁
-  s = same-run z (o .adds) (0 + length (o .before)) (0 + length (o .before)) b₁ b₁ (o .free) good₁ good₁
-      (run-size (o .before) 0 (begins m) (good-begins m ev) front-taken ∙ size) (alike-self (b₁ .machine))
+  s = same-run z (o .adds) (0 + length (o .before)) (0 + length (o .before)) b₁ b₁ (o .free)
+      (run-size (o .before) 0 (begins m) front-taken ∙ size) (alike-self (b₁ .machine))
       (ap (λ (r : Ran). accepted (r .answer)) (sym (split (o .since))) ∙ h₁)
       (changed-after (o .before) (o .since′) 0 (begins m) front-taken (subst (Changed 0 (begins m)) (o .is′) c))
 
@@ -176,11 +166,11 @@ module _ (s : List ℕ) (bytes : Bytes s) (a : accepted (pageAnswer s) ≡ true)
     (c : Changed 0 (opened (scheduleIn s)) l′) where
   pub late-taken : accepted (runOf s l′ .answer) ≡ true
   unfolding ran
-  late-taken = longer-taken (scheduleShape s) (first s) (even-start (scheduleIn s .image) (scheduleIn s .t)) (first-size s) (eventsIn s) (page-ran s a) l′ o c
+  late-taken = longer-taken (scheduleShape s) (first s) (first-size s) (eventsIn s) (page-ran s a) l′ o c
 
   pub late-answers : AddsLate (lineCount (scheduleShape s)) (eventsIn s) (ran s .replies) l′ (runOf s l′ .replies)
   unfolding ran
-  late-answers = longer-answers (scheduleShape s) (first s) (even-start (scheduleIn s .image) (scheduleIn s .t)) (first-size s) (eventsIn s) (page-ran s a) l′ o c
+  late-answers = longer-answers (scheduleShape s) (first s) (first-size s) (eventsIn s) (page-ran s a) l′ o c
 
   -- what it leaves is on the page
   pub late-on-page : (k : ℕ) × (k < endingCount s) × (endingIn s k ≡ imageLeft (runOf s l′ .bench .machine))

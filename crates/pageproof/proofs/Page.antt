@@ -1,10 +1,9 @@
 -- The page of a run from a start: its endings are what added write-backs leave.
-use Prim.Native.Nat.{ℕ, suc, _+_, _<_}
+use Prim.Native.Nat.{ℕ, _+_, _<_}
 use mathlib.Core.Path.{_≡_, refl, sym, ap, ap₂, subst, _∙_}
 use mathlib.Core.List.{List, [], _++_}
 use native.Mathlib.Omega.{arith}
-use native.Mathlib.Decide.{decLt}
-use lib.ListN.{length, getD, drop}
+use lib.ListN.{length, getD}
 use Rattle.lists.specs.Tab.{front}
 use Rattle.lists.proofs.TabLaws as tabs
 use Rattle.answer.specs.Answers.{accepted}
@@ -14,26 +13,25 @@ use Rattle.image.specs.declared.Content.{Content}
 use Rattle.image.specs.declared.Image.{Image}
 use Rattle.image.specs.declared.Shape.{Shape}
 use Rattle.machine.specs.Line.{shapeOf, lineCount, lineAt, persistedAt}
-use Rattle.machine.specs.declared.Line.the-variants.{OfHead as ofHead}
 use Rattle.machine.specs.Record.{keptHead}
 use Rattle.machine.specs.declared.Machine.{Machine}
 use Rattle.machine.specs.declared.Event.{Event}
 use Rattle.image.proofs.HeadLaws.{heads-same}
-use Rattle.machine.proofs.LineLaws.{line-head, line-node}
+use Rattle.machine.proofs.LineLaws.{LineIn, line-in, line-head, line-node}
 use Rattle.schedule.specs.Run.{Bench, Ran, run, begins}
 use Rattle.page.specs.Contents.{contentsOf, tableOf}
 use Rattle.page.specs.Endings.{choices, product, imageOf, ending}
 use Rattle.lawful.specs.Added.{AddsLate}
 use Rattle.lawful.specs.Demand3.{imageLeft}
 use Rattle.moments.proofs.Moments as moments
-use Rattle.moments.specs.Frame.{Even}
-use Rattle.pageproof.proofs.Alike.{alike-self}
+use Rattle.moments.proofs.Known.{Known, known-run}
 use Rattle.pageproof.proofs.Among.{Among, choice-in, choice-of}
-use Rattle.pageproof.proofs.Events.{Good}
-use Rattle.pageproof.proofs.Runs.{Accepts, Last, last-of, good-run, run-size, run-front, run-append, begins-at, andAfter}
-use Rattle.pageproof.proofs.Fewer.{Inside, kept-inside, fewer}
-use Rattle.pageproof.proofs.Left.{leftAt, Ripe, chosen}
-use Rattle.pageproof.proofs.Sow.{sow, Sown, sown-self}
+use Rattle.pageproof.proofs.Runs.{Accepts, Last, last-of, run-size, run-front, run-append, begins-at, andAfter}
+use Rattle.pageproof.proofs.Lengthened.{lengthened-self}
+use Rattle.pageproof.proofs.Fewer.{Fewer, fewer, lengthened-inside}
+use Rattle.pageproof.proofs.Before.{Before, before-run}
+use Rattle.pageproof.proofs.Ripe.{chosen}
+use Rattle.pageproof.proofs.Sow.{Sown, sown}
 
 -- the persisted copies as an image, where line j's is the content c has there
 image-is : (m : Machine) (z : Shape) (c : List Content) → shapeOf m ≡ z → ((j : ℕ) → j < lineCount z → persistedAt m (lineAt z j) ≡ contentAt c j) → imageLeft m ≡ imageOf z c
@@ -50,10 +48,7 @@ image-is m z c size h =
     node : (i : ℕ) → i < z .n → contentAt (m .kept) i ≡ contentAt c (headLines z + i)
     node i k = ap (persistedAt m) (sym (line-node z i)) ∙ h (headLines z + i) (omega arith)
 
-good-begins : (m : Machine) → Even m → Good (begins m)
-good-begins m e = record { timed = moments.timed-begins m; even = e }
-
-module _ (z : Shape) (m : Machine) (ev : Even m) (size : shapeOf m ≡ z) (l : List Event) (h : Accepts 0 (begins m) l) where
+module _ (z : Shape) (m : Machine) (kn : Known (begins m)) (size : shapeOf m ≡ z) (l : List Event) (h : Accepts 0 (begins m) l) where
   -- the image is left by added write-backs
   pub record Left (g : Image) : Type 0 where
     pub events : List Event
@@ -64,11 +59,11 @@ module _ (z : Shape) (m : Machine) (ev : Even m) (size : shapeOf m ≡ z) (l : L
   abbrev final : Bench
   final = run 0 (begins m) l .bench
 
-  good : Good final
-  good = good-run l 0 (begins m) (good-begins m ev) h
+  known : Known final
+  known = known-run l 0 (begins m) kn
 
   final-size : shapeOf (final .machine) ≡ z
-  final-size = run-size l 0 (begins m) (good-begins m ev) h ∙ size
+  final-size = run-size l 0 (begins m) h ∙ size
 
   -- ---- every ending is left
 
@@ -84,26 +79,26 @@ module _ (z : Shape) (m : Machine) (ev : Even m) (size : shapeOf m ≡ z) (l : L
 
     from : (s : Last l) (m₀ : Machine) → run 0 (begins m) (s .before) .bench ≡ begins m₀ → Left (imageOf z (getD (choices (tableOf final)) k []))
     from s m₀ is = record {
-      events = s .before ++ since′;
-      taken = ap (λ (r : Ran). accepted (r .answer)) (split since′) ∙ o .taken;
+      events = s .before ++ o .events;
+      taken = ap (λ (r : Ran). accepted (r .answer)) (split (o .events)) ∙ o .taken;
       added = record {
         before = s .before;
         told = run 0 (begins m) (s .before) .replies;
         since = s .since;
-        since′ = since′;
+        since′ = o .events;
         heard = run (0 + length (s .before)) (begins m₀) (s .since) .replies;
-        heard′ = run (0 + length (s .before)) (begins m₀) since′ .replies;
+        heard′ = run (0 + length (s .before)) (begins m₀) (o .events) .replies;
         start = s .start;
         free = s .free;
         adds = o .added;
         is = s .is;
         is′ = refl;
         answers = ap (λ (x : List Event). run 0 (begins m) x .replies) (s .is) ∙ ap (λ (r : Ran). r .replies) (split (s .since));
-        answers′ = ap (λ (r : Ran). r .replies) (split since′);
+        answers′ = ap (λ (r : Ran). r .replies) (split (o .events));
       };
-      left = image-is (run 0 (begins m) (s .before ++ since′) .bench .machine) z (getD (choices (tableOf final)) k [])
-          (run-size (s .before ++ since′) 0 (begins m) (good-begins m ev) (ap (λ (r : Ran). accepted (r .answer)) (split since′) ∙ o .taken) ∙ size)
-          (λ j r. ap (λ (r : Ran). persistedAt (r .bench .machine) (lineAt z j)) (split since′) ∙ o .left j r ∙ due j .1 r .0);
+      left = image-is (run 0 (begins m) (s .before ++ o .events) .bench .machine) z (getD (choices (tableOf final)) k [])
+          (run-size (s .before ++ o .events) 0 (begins m) (ap (λ (r : Ran). accepted (r .answer)) (split (o .events)) ∙ o .taken) ∙ size)
+          (λ j r. ap (λ (r : Ran). persistedAt (r .bench .machine) (lineAt z j)) (split (o .events)) ∙ o .left j r);
     }
       where
         h₁ : Accepts 0 (begins m) (s .before ++ s .since)
@@ -117,11 +112,11 @@ module _ (z : Shape) (m : Machine) (ev : Even m) (size : shapeOf m ≡ z) (l : L
             run-append (s .before) x 0 (begins m) front-taken
             ∙ ap (λ (b : Bench). andAfter (run 0 (begins m) (s .before)) (run (0 + length (s .before)) b x)) is
 
-        good₀ : Good (begins m₀)
-        good₀ = subst Good is (good-run (s .before) 0 (begins m) (good-begins m ev) front-taken)
+        known₀ : Known (begins m₀)
+        known₀ = subst Known is (known-run (s .before) 0 (begins m) kn)
 
         size₀ : shapeOf m₀ ≡ z
-        size₀ = ap (λ (b : Bench). shapeOf (b .machine)) (sym is) ∙ run-size (s .before) 0 (begins m) (good-begins m ev) front-taken ∙ size
+        size₀ = ap (λ (b : Bench). shapeOf (b .machine)) (sym is) ∙ run-size (s .before) 0 (begins m) front-taken ∙ size
 
         rest-taken : Accepts (0 + length (s .before)) (begins m₀) (s .since)
         rest-taken = ap (λ (r : Ran). accepted (r .answer)) (sym (split (s .since))) ∙ h₁
@@ -129,23 +124,14 @@ module _ (z : Shape) (m : Machine) (ev : Even m) (size : shapeOf m ≡ z) (l : L
         there : final ≡ run (0 + length (s .before)) (begins m₀) (s .since) .bench
         there = ap (λ (x : List Event). run 0 (begins m) x .bench) (s .is) ∙ ap (λ (r : Ran). r .bench) (split (s .since))
 
-        due : (j : ℕ) → (r : ℕ) × (j < lineCount z → (leftAt (lineAt z j) r m₀ (s .since) (persistedAt m₀ (lineAt z j)) ≡ wanted j) × Ripe (lineAt z j) r m₀ (s .since))
-        due j = by (decLt j (lineCount z))
-          where
-            by : Dec (j < lineCount z)
-                → (r : ℕ) × (j < lineCount z → (leftAt (lineAt z j) r m₀ (s .since) (persistedAt m₀ (lineAt z j)) ≡ wanted j) × Ripe (lineAt z j) r m₀ (s .since))
-            by (yes r) =
-                let c = chosen (lineAt z j) (wanted j) (s .since) (0 + length (s .before)) m₀ good₀ (s .free) rest-taken
-                (subst (λ (b : Bench). Among (wanted j) (contentsOf b (lineAt z j))) there (among j r)) in
-                (c .0, λ y. (c .1, c .2))
-            by (no r) = (0, λ y. absurd (r y))
+        before : Before (begins m₀) final
+        before = subst (Before (begins m₀)) (sym there) (before-run (s .since) (0 + length (s .before)) (begins m₀) known₀ (s .free) rest-taken)
 
-        since′ : List Event
-        since′ = sow (λ j. due j .0) (lineCount z) (s .since)
-
-        o : Sown z (s .since) (run (0 + length (s .before)) (begins m₀) (s .since) .replies) since′ (0 + length (s .before)) (begins m₀)
-            (λ j c. leftAt (lineAt z j) (due j .0) m₀ (s .since) c)
-        o = sown-self z (λ j. due j .0) (s .since) (0 + length (s .before)) (begins m₀) good₀ (s .free) size₀ rest-taken (λ j r. due j .1 r .1)
+        o : Sown z final wanted (s .since) (run (0 + length (s .before)) (begins m₀) (s .since) .replies) (0 + length (s .before)) (begins m₀)
+        o = sown z final wanted (s .since) (0 + length (s .before)) (begins m₀) known₀ (s .free) size₀ rest-taken (sym there) (0 + length (s .before)) (begins m₀) (λ l. 0)
+            (lengthened-self (begins m₀) known₀)
+            (λ j r. chosen final known (lineAt z j) (wanted j) (subst (λ x. LineIn x (lineAt z j)) (sym final-size) (line-in z j r)) m₀
+            (subst (λ x. LineIn x (lineAt z j)) (sym size₀) (line-in z j r)) before (among j r))
 
     pub leaves : Left (ending (shapeOf (final .machine)) (tableOf final) k)
     unfolding ending
@@ -178,17 +164,15 @@ module _ (z : Shape) (m : Machine) (ev : Even m) (size : shapeOf m ≡ z) (l : L
           ≡ andAfter (run 0 (begins m) (o .added .before)) (run (0 + length (o .added .before)) (run 0 (begins m) (o .added .before) .bench) x)
       split x = run-append (o .added .before) x 0 (begins m) front-taken
 
-      good₁ : Good (run 0 (begins m) (o .added .before) .bench)
-      good₁ = good-run (o .added .before) 0 (begins m) (good-begins m ev) front-taken
-
-      inside : Inside (run (0 + length (o .added .before)) (run 0 (begins m) (o .added .before) .bench) (o .added .since) .bench)
+      inside : Fewer (run (0 + length (o .added .before)) (run 0 (begins m) (o .added .before) .bench) (o .added .since) .bench)
           (run (0 + length (o .added .before)) (run 0 (begins m) (o .added .before) .bench) (o .added .since′) .bench .machine)
       inside =
           let b = run 0 (begins m) (o .added .before) .bench in
           let p = 0 + length (o .added .before) in
-          fewer (lineCount z) (o .added .adds) p p b b (o .added .free) good₁ good₁ (alike-self (b .machine))
+          let kn₁ = known-run (o .added .before) 0 (begins m) kn in
+          fewer z (o .added .adds) p p b b (o .added .free) kn₁ (run-size (o .added .before) 0 (begins m) front-taken ∙ size) (λ l. 0) (lengthened-self b kn₁)
           (ap (λ (r : Ran). accepted (r .answer)) (sym (split (o .added .since))) ∙ h₁)
-          (ap (λ (r : Ran). accepted (r .answer)) (sym (split (o .added .since′))) ∙ h₁′) (kept-inside b)
+          (ap (λ (r : Ran). accepted (r .answer)) (sym (split (o .added .since′))) ∙ h₁′)
 
       there : run (0 + length (o .added .before)) (run 0 (begins m) (o .added .before) .bench) (o .added .since) .bench ≡ run 0 (begins m) l .bench
       there = ap (λ (r : Ran). r .bench) (sym (split (o .added .since))) ∙ ap (λ (x : List Event). run 0 (begins m) x .bench) (sym (o .added .is))
@@ -196,15 +180,16 @@ module _ (z : Shape) (m : Machine) (ev : Even m) (size : shapeOf m ≡ z) (l : L
       there′ : run (0 + length (o .added .before)) (run 0 (begins m) (o .added .before) .bench) (o .added .since′) .bench ≡ run 0 (begins m) (o .events) .bench
       there′ = ap (λ (r : Ran). r .bench) (sym (split (o .added .since′))) ∙ ap (λ (x : List Event). run 0 (begins m) x .bench) (sym (o .added .is′))
 
-      among : Inside (run 0 (begins m) l .bench) (run 0 (begins m) (o .events) .bench .machine)
-      among = subst (λ (b : Bench). Inside (run 0 (begins m) l .bench) (b .machine)) there′ (subst (λ (b : Bench). Inside b
+      among : Fewer (run 0 (begins m) l .bench) (run 0 (begins m) (o .events) .bench .machine)
+      among = subst (λ (b : Bench). Fewer (run 0 (begins m) l .bench) (b .machine)) there′ (subst (λ (b : Bench). Fewer b
           (run (0 + length (o .added .before)) (run 0 (begins m) (o .added .before) .bench) (o .added .since′) .bench .machine)) there inside)
 
       size′ : shapeOf (run 0 (begins m) (o .events) .bench .machine) ≡ shapeOf (run 0 (begins m) l .bench .machine)
-      size′ = run-size (o .events) 0 (begins m) (good-begins m ev) (o .taken) ∙ sym (run-size l 0 (begins m) (good-begins m ev) h)
+      size′ = run-size (o .events) 0 (begins m) (o .taken) ∙ sym (run-size l 0 (begins m) h)
 
       k : (k : ℕ) × (k < product (tableOf final)) × ((j : ℕ) → j < length (tableOf final)
           → contentAt (getD (choices (tableOf final)) k []) j ≡ persistedAt (run 0 (begins m) (o .events) .bench .machine) (lineAt (shapeOf (final .machine)) j))
       k = choice-of (tableOf final) (λ j. persistedAt (run 0 (begins m) (o .events) .bench .machine) (lineAt (shapeOf (final .machine)) j)) (λ j r.
           let r′ : j < lineCount (shapeOf (final .machine)) = omega (arith, moments.table-length final) in
-          rw (moments.table-at final j r′) (among (lineAt (shapeOf (final .machine)) j)))
+          rw (moments.table-at final j r′)
+          (lengthened-inside final (among .last) _ (among .is) (lineAt (shapeOf (final .machine)) j) (line-in (shapeOf (final .machine)) j r′)))

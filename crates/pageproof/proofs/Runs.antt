@@ -108,35 +108,35 @@ crash-size : (b : Bench) (e : Event) (d : Deed) → d ≡ crashes → shapeOf (t
 unfolding startWith
 crash-size b e d c = rw c
 
-module _ (p : ℕ) (b : Bench) (g : Good b) (e : Event) (t : Takes p (b .machine) e) where
-  good-onto : Good (onto b e)
-  good-onto = by (crash-or (deedOf (e .kind)))
+module _ (p : ℕ) (b : Bench) (e : Event) (t : Takes p (b .machine) e) where
+  good-onto : Good b → Good (onto b e)
+  good-onto g = by (crash-or (deedOf (e .kind)))
     where
       by : Crash e ⊎ (Crash e → ⊥) → Good (onto b e)
       by (inl c) = crash-good b g e c
-      by (inr ne) = onto-good p b g e ne t
+      by (inr ne) = onto-good p b e t ne g
 
   size-onto : shapeOf (onto b e .machine) ≡ shapeOf (b .machine)
   size-onto = by (crash-or (deedOf (e .kind)))
     where
       by : Crash e ⊎ (Crash e → ⊥) → shapeOf (onto b e .machine) ≡ shapeOf (b .machine)
       by (inl c) = crash-size b e (deedOf (e .kind)) c
-      by (inr ne) = onto-size p b g e ne t
+      by (inr ne) = onto-size p b e t ne
 
 pub good-run : (l : List Event) (p : ℕ) (b : Bench) → Good b → Accepts p b l → Good (run p b l .bench)
 good-run [] p b g h = rw (run-nothing p b) g
 good-run (e ∷ l) p b g h =
     let t = run-first p b e l h in
-    rw (run-bench p b e l t) (good-run l (suc p) (onto b e) (good-onto p b g e t) (run-rest p b e l h))
+    rw (run-bench p b e l t) (good-run l (suc p) (onto b e) (good-onto p b e t g) (run-rest p b e l h))
 
 -- N stays
-pub run-size : (l : List Event) (p : ℕ) (b : Bench) → Good b → Accepts p b l → shapeOf (run p b l .bench .machine) ≡ shapeOf (b .machine)
-run-size [] p b g h = ap (λ (x : Bench). shapeOf (x .machine)) (run-nothing p b)
-run-size (e ∷ l) p b g h =
+pub run-size : (l : List Event) (p : ℕ) (b : Bench) → Accepts p b l → shapeOf (run p b l .bench .machine) ≡ shapeOf (b .machine)
+run-size [] p b h = ap (λ (x : Bench). shapeOf (x .machine)) (run-nothing p b)
+run-size (e ∷ l) p b h =
     let t = run-first p b e l h in
     ap (λ (x : Bench). shapeOf (x .machine)) (run-bench p b e l t)
-    ∙ run-size l (suc p) (onto b e) (good-onto p b g e t) (run-rest p b e l h)
-    ∙ size-onto p b g e t
+    ∙ run-size l (suc p) (onto b e) (run-rest p b e l h)
+    ∙ size-onto p b e t
 
 -- ---- the last start
 

@@ -1,300 +1,219 @@
--- Write-backs sown among events: each line at its moment, when it is ripe. The run takes them, answers the same, and leaves each line what `leftAt` says.
+-- Write-backs sown among the events of a run, each of a changed line: the run takes them, answers the same, and leaves each line the content that was chosen for it.
 use Prim.Native.Nat.{ℕ, zero, suc, _≤_, _<_}
 use mathlib.Core.Path.{_≡_, refl, sym, ap, subst, _∙_}
 use mathlib.Core.Bool.{Bool, true, false}
 use mathlib.Core.List.{List, [], _∷_}
-use mathlib.Core.Logic.{_⊎_, inl, inr, _≢_}
+use mathlib.Core.Logic.{_≢_}
 use native.Mathlib.Omega.{arith}
 use native.Mathlib.Decide.{ℕ-discrete}
 use lib.ListN.{length}
-use lib.Dec.{eqb}
-use borrow.Author.Tests.{eqb-true}
-use Rattle.lists.specs.Find.{pick, both}
-use Rattle.lists.proofs.BoolLaws.{no-way}
+use Rattle.lists.specs.Find.{pick}
 use Rattle.answer.specs.Answers.{accepted}
 use Rattle.answer.specs.declared.Answer.{Answer}
 use Rattle.image.specs.declared.Content.{Content}
 use Rattle.image.specs.declared.Shape.{Shape}
-use Rattle.machine.specs.Line.{shapeOf, lineCount, lineAt, sameLine, cachedAt, persistedAt}
-use Rattle.machine.specs.Event.{writesBack, deedOf, clean, eventAt}
+use Rattle.machine.specs.Line.{shapeOf, lineCount, lineAt, cachedAt, persistedAt, putLine}
+use Rattle.machine.specs.Event.{Deed, writesBack, deedOf, clean, done, eventAt}
 use Rattle.machine.specs.declared.Line.{Line}
-use Rattle.machine.specs.declared.Machine.{Machine}
 use Rattle.machine.specs.declared.Event.{Event}
-use Rattle.machine.proofs.LineLaws.{same-number}
-use Rattle.schedule.specs.Run.{Bench, Ran, run, andBefore}
+use Rattle.machine.specs.declared.Touch.{Touch}
+use Rattle.machine.specs.declared.Touch.the-variants.{Persist as aPersist}
+use Rattle.machine.proofs.LineLaws.{LineIn, line-in, line-one, put-same, put-other}
+use Rattle.schedule.specs.Run.{Bench, Ran, run, andBefore, fromAfter}
 use Rattle.lawful.specs.Added.{writeBack, Adds, ends, keeps, adds, NoCrash}
-use Rattle.moments.proofs.Frame.{persist-cached}
-use Rattle.pageproof.proofs.Alike.{Alike, alike-self, alike-cached, alike-clean, alike-back, alike-size}
+use Rattle.moments.proofs.Joins.{same-equal}
+use Rattle.moments.proofs.Known.{Known}
+use Rattle.pageproof.proofs.Alike.{Alike, alike-cached, alike-clean, alike-size}
 use Rattle.pageproof.proofs.Events as events
-use Rattle.pageproof.proofs.Events.{Takes, next, Crash, no-crash, hits, Good, onto}
-use Rattle.pageproof.proofs.Runs.{Accepts, run-first, run-rest, run-cons, run-nothing, run-silent, run-taken}
-use Rattle.pageproof.proofs.Left.{leftAt, eq-no, eq-self, Unhit, Ripe, ripe-now}
+use Rattle.pageproof.proofs.Events.{Takes, touch, Crash, no-crash, onto}
+use Rattle.pageproof.proofs.Runs.{Accepts, run-first, run-rest, run-bench, run-cons, run-nothing, run-silent, run-taken}
+use Rattle.pageproof.proofs.Before.{Before, before-run}
+use Rattle.pageproof.proofs.Lengthened.{Lengthened, leftWith, lengthened-keeps}
+use Rattle.pageproof.proofs.Fewer.{writes, lengthened-back, lengthened-onto}
+use Rattle.pageproof.proofs.Ripe as ripe
+use Rattle.pageproof.proofs.Ripe.{Due, Stands, Settled, settle, untouched, ended}
 
--- ---- the list: line i is written back when `due i` events are still to come
+-- ---- line j is to be left with `goal j`, the recorded run ending in bench d
 
-abbrev pub addIf : Bool → ℕ → List Event → List Event
-addIf true i l = writeBack i ∷ l
-addIf false i l = l
+module _ (z : Shape) (d : Bench) (goal : ℕ → Content) where
+  -- some list with write-backs added to l is taken from b′, its recorded events answer x, and it leaves what is wanted
+  pub record Sown (l : List Event) (x : List Answer) (q : ℕ) (b′ : Bench) : Type 0 where
+    pub events : List Event
+    pub taken : Accepts q b′ events
+    pub added : Adds (lineCount z) l x events (run q b′ events .replies)
+    pub left : (j : ℕ) → j < lineCount z → persistedAt (run q b′ events .bench .machine) (lineAt z j) ≡ goal j
 
--- those of the first lines that are due when r are
-unfoldable pub sowAt : (ℕ → ℕ) → ℕ → ℕ → List Event → List Event
-sowAt due r zero l = l
-sowAt due r (suc i) l = addIf (eqb (due i) r) i (sowAt due r i l)
+  abbrev DueAt : Bench → (Line → ℕ) → ℕ → Type 0
+  DueAt b r j = Due d (lineAt z j) (goal j) b (r (lineAt z j))
 
-unfoldable pub sow : (ℕ → ℕ) → ℕ → List Event → List Event
-sow due n [] = sowAt due 0 n []
-sow due n (e ∷ l) = sowAt due (suc (length l)) n (e ∷ sow due n l)
+  abbrev StandsAt : Bench → (Line → ℕ) → ℕ → Type 0
+  StandsAt b r j = Stands d (lineAt z j) (goal j) b (r (lineAt z j))
 
--- what the write-backs of one moment make of a line that held c
-unfoldable afterAt : (ℕ → ℕ) → ℕ → ℕ → ℕ → Content → Content → Content
-afterAt due r zero j x c = c
-afterAt due r (suc i) j x c = afterAt due r i j x (pick (both (eqb (due i) r) (eqb j i)) x c)
+  -- wherever a lengthened run of b stands, with all done that is due now, the events l can be sown
+  abbrev Goes : Bench → List Event → List Answer → Type 0
+  Goes b l x = (q : ℕ) (b′ : Bench) (r : Line → ℕ) → Lengthened b r (b′ .machine) → ((j : ℕ) → j < lineCount z → StandsAt b r j) → Sown l x q b′
 
-both-no : (a : Bool) → both a false ≡ false
-both-no true = refl
-both-no false = refl
-
-both-yes : (a : Bool) → both a true ≡ a
-both-yes true = refl
-both-yes false = refl
-
-after-low : (due : ℕ → ℕ) (r i j : ℕ) (x c : Content) → i ≤ j → afterAt due r i j x c ≡ c
-unfolding afterAt
-after-low due r zero j x c h = refl
-after-low due r (suc i) j x c h = rw (eq-no j i (omega arith), both-no (eqb (due i) r)) (after-low due r i j x c (omega arith))
-
-after-is : (due : ℕ → ℕ) (r i j : ℕ) (x c : Content) → j < i → afterAt due r i j x c ≡ pick (eqb (due j) r) x c
-unfolding afterAt
-after-is due r zero j x c h = absurd (omega arith)
-after-is due r (suc i) j x c h = by (ℕ-discrete j i) (after-is due r i j x c)
-  where
-    by : Dec (j ≡ i) → (j < i → afterAt due r i j x c ≡ pick (eqb (due j) r) x c)
-        → afterAt due r i j x (pick (both (eqb (due i) r) (eqb j i)) x c) ≡ pick (eqb (due j) r) x c
-    by (yes e) f = rw (e, eq-self i, both-yes (eqb (due i) r)) (after-low due r i i x (pick (eqb (due i) r) x c) (omega arith))
-    by (no ne) f = rw (eq-no j i ne, both-no (eqb (due i) r)) (f (omega arith))
-
--- ---- the run
-
--- l′ is l with write-backs added; from b′ it is taken, its recorded events answer x, and line j is left what `goal j` makes of what it holds
-pub record Sown (z : Shape) (l : List Event) (x : List Answer) (l′ : List Event) (q : ℕ) (b′ : Bench) (goal : ℕ → Content → Content) : Type 0 where
-  pub taken : Accepts q b′ l′
-  pub added : Adds (lineCount z) l x l′ (run q b′ l′ .replies)
-  pub left : (j : ℕ) → j < lineCount z → persistedAt (run q b′ l′ .bench .machine) (lineAt z j) ≡ goal j (persistedAt (b′ .machine) (lineAt z j))
-
-regoal : (z : Shape) (l : List Event) (x : List Answer) (l′ : List Event) (q : ℕ) (b′ : Bench) (goal goal′ : ℕ → Content → Content)
-    → ((j : ℕ) → j < lineCount z → (c : Content) → goal j c ≡ goal′ j c) → Sown z l x l′ q b′ goal → Sown z l x l′ q b′ goal′
-regoal n l x l′ q b′ goal goal′ f s = record { taken = s .taken; added = s .added; left = λ j h. s .left j h ∙ f j h (persistedAt (b′ .machine) (lineAt n j)) }
-
--- m′ is m with other persisted copies: a line that is still to be written back has m's, and so has every line that an event of l persists
-pub record Near (z : Shape) (todo : ℕ → Type 0) (m : Machine) (l : List Event) (m′ : Machine) : Type 0 where
-  pub alike : Alike m m′
-  pub same : (j : ℕ) → j < lineCount z → todo j → persistedAt m′ (lineAt z j) ≡ persistedAt m (lineAt z j)
-  pub held : (j : ℕ) → j < lineCount z → (persistedAt m′ (lineAt z j) ≡ persistedAt m (lineAt z j)) ⊎ Unhit (lineAt z j) m l
-
--- wherever a machine near m stands, the rest leaves what `goal` says
-abbrev Goes : Shape → (ℕ → Type 0) → Machine → List Event → List Answer → List Event → (ℕ → Content → Content) → Type 0
-Goes z todo m l x rest goal = (q : ℕ) (b′ : Bench) → Good b′ → Near z todo m l (b′ .machine) → Sown z l x rest q b′ goal
-
--- more lines may be still to be written back
-loosen : (z : Shape) (todo todo′ : ℕ → Type 0) (m : Machine) (l : List Event) (x : List Answer) (rest : List Event) (goal : ℕ → Content → Content)
-    → ((j : ℕ) → j < lineCount z → todo j → todo′ j) → Goes z todo m l x rest goal → Goes z todo′ m l x rest goal
-loosen z todo todo′ m l x rest goal f k q b′ g a = k q b′ g (record { alike = a .alike; same = λ j r w. a .same j r (f j r w); held = a .held })
-
--- what a line must be to be written back now
-abbrev RipeNow : Machine → List Event → Line → Type 0
-RipeNow m l j = (clean m j ≡ false) × Unhit j m l
-
--- one write-back in front: line i was still to be written back, and is no more
-module _ (z : Shape) (m : Machine) (size : shapeOf m ≡ z) (l : List Event) (x : List Answer) (rest : List Event) (goal : ℕ → Content → Content) (i : ℕ) (h : i < lineCount z) (todo todo′ : ℕ → Type 0) where
-  one : todo′ i → ((j : ℕ) → todo j → todo′ j × (j ≢ i)) → RipeNow m l (lineAt z i)
-      → Goes z todo m l x rest goal → Goes z todo′ m l x (writeBack i ∷ rest) (λ j c. goal j (pick (eqb j i) (cachedAt m (lineAt z j)) c))
-  one here less ripe f q b′ g k = record {
+  -- a write-back in front
+  sown-back : (l : List Event) (x : List Answer) (q : ℕ) (b′ : Bench) (i : ℕ) → i < lineCount z → Takes q (b′ .machine) (writeBack i)
+      → Sown l x (suc q) (onto b′ (writeBack i)) → Sown l x q b′
+  sown-back l x q b′ i h t s = record {
+    events = writeBack i ∷ s .events;
     taken = ap (λ (r : Ran). accepted (r .answer)) is ∙ s .taken;
-    added = subst (λ (r : Ran). Adds (lineCount z) l x (writeBack i ∷ rest) (r .replies)) (sym is) (adds i h (s .added));
-    left = λ j k. ap (λ (r : Ran). persistedAt (r .bench .machine) (lineAt z j)) is ∙ s .left j k ∙ ap (goal j) (held j);
+    added = subst (λ (r : Ran). Adds (lineCount z) l x (writeBack i ∷ s .events) (r .replies)) (sym is) (adds i h (s .added));
+    left = λ j k. ap (λ (r : Ran). persistedAt (r .bench .machine) (lineAt z j)) is ∙ s .left j k;
   }
     where
-      m′ : Machine
-      m′ = b′ .machine
+      is : run q b′ (writeBack i ∷ s .events) ≡ andBefore (eventAt q (b′ .machine) (writeBack i) .answer) (run (suc q) (onto b′ (writeBack i)) (s .events))
+      is = run-cons q b′ (writeBack i) (s .events) t
 
-      size′ : shapeOf m′ ≡ z
-      size′ = alike-size m m′ (k .alike) ∙ size
-
-      t : Takes q (b′ .machine) (writeBack i)
-      t = events.back-taken q (b′ .machine) i (subst (λ x. i < lineCount x) (sym size′) h)
-          (ap (λ x. clean (b′ .machine) (lineAt x i)) size′ ∙ alike-clean m (b′ .machine) (k .alike) (lineAt z i) (k .same i h here) ∙ ripe .0)
-
-      is : run q b′ (writeBack i ∷ rest) ≡ andBefore (eventAt q (b′ .machine) (writeBack i) .answer) (run (suc q) (onto b′ (writeBack i)) rest)
-      is = run-cons q b′ (writeBack i) rest t
-
-      held : (j : ℕ) → persistedAt (onto b′ (writeBack i) .machine) (lineAt z j) ≡ pick (eqb j i) (cachedAt m (lineAt z j)) (persistedAt (b′ .machine) (lineAt z j))
-      held j =
-          events.persisted-next (b′ .machine) (g .even) (writeBack i) (no-crash i) (lineAt z j)
-          ∙ ap (λ (t : Bool). pick t (cachedAt (onto b′ (writeBack i) .machine) (lineAt z j)) (persistedAt (b′ .machine) (lineAt z j))) hit
-          ∙ ap (λ (c : Content). pick (eqb j i) c (persistedAt (b′ .machine) (lineAt z j)))
-          (persist-cached (b′ .machine) (lineAt (shapeOf (b′ .machine)) i) (lineAt z j) ∙ alike-cached m (b′ .machine) (k .alike) (lineAt z j))
-        where
-          hit : hits (b′ .machine) (writeBack i) (lineAt z j) ≡ eqb j i
-          hit = ap (λ x. sameLine (lineAt z j) (lineAt x i)) size′ ∙ same-number z j i
-
-      -- another line holds what it held
-      stays : (j : ℕ) → j ≢ i → persistedAt (onto b′ (writeBack i) .machine) (lineAt z j) ≡ persistedAt (b′ .machine) (lineAt z j)
-      stays j ne = held j ∙ ap (λ (t : Bool). pick t (cachedAt m (lineAt z j)) (persistedAt (b′ .machine) (lineAt z j))) (eq-no j i ne)
-
-      near : Near z todo m l (onto b′ (writeBack i) .machine)
-      near = record {
-        alike = alike-back m (b′ .machine) (k .alike) (lineAt (shapeOf (b′ .machine)) i);
-        same = λ j r w. stays j (less j w .1) ∙ k .same j r (less j w .0);
-        held = λ j r. by j (ℕ-discrete j i) (k .held j r);
-      }
-        where
-          by : (j : ℕ) → Dec (j ≡ i) → (persistedAt (b′ .machine) (lineAt z j) ≡ persistedAt m (lineAt z j)) ⊎ Unhit (lineAt z j) m l
-              → (persistedAt (onto b′ (writeBack i) .machine) (lineAt z j) ≡ persistedAt m (lineAt z j)) ⊎ Unhit (lineAt z j) m l
-          by j (yes e) w = inr (subst (λ y. Unhit (lineAt z y) m l) (sym e) (ripe .1))
-          by j (no ne) (inl w) = inl (stays j ne ∙ w)
-          by j (no ne) (inr w) = inr w
-
-      s : Sown z l x rest (suc q) (onto b′ (writeBack i)) goal
-      s = f (suc q) (onto b′ (writeBack i)) (events.onto-good q b′ g (writeBack i) (no-crash i) t) near
-
--- still to be written back: later than when r events are to come, or then and of a number below i
-abbrev Still : (ℕ → ℕ) → ℕ → ℕ → ℕ → Type 0
-Still due r i j = (due j < r) ⊎ ((due j ≡ r) × (j < i))
-
--- those of one moment
-module _ (z : Shape) (m : Machine) (size : shapeOf m ≡ z) (l : List Event) (x : List Answer) (rest : List Event) (goal : ℕ → Content → Content) (due : ℕ → ℕ) (r : ℕ)
-    (ripe : (j : ℕ) → j < lineCount z → due j ≡ r → RipeNow m l (lineAt z j)) where
-  many : (i : ℕ) → i ≤ lineCount z → Goes z (Still due r 0) m l x rest goal
-      → Goes z (Still due r i) m l x (sowAt due r i rest) (λ j c. goal j (afterAt due r i j (cachedAt m (lineAt z j)) c))
-  unfolding sowAt afterAt
-  many zero h f = f
-  many (suc i) h f = by (eqb (due i) r) refl (many i (omega arith) f)
-    where
-      less : due i ≡ r → (j : ℕ) → Still due r i j → Still due r (suc i) j × (j ≢ i)
-      less e j (inl w) = (inl w, λ y. let d = ap due y in omega (arith, d, e, w))
-      less e j (inr w) = (inr (w .0, omega (arith, w .1)), λ y. omega (arith, w .1))
-
-      wider : (j : ℕ) → j < lineCount z → Still due r i j → Still due r (suc i) j
-      wider j k (inl w) = inl w
-      wider j k (inr w) = inr (w .0, omega (arith, w .1))
-
-      by : (t : Bool) → eqb (due i) r ≡ t → Goes z (Still due r i) m l x (sowAt due r i rest) (λ j c. goal j (afterAt due r i j (cachedAt m (lineAt z j)) c))
-          → Goes z (Still due r (suc i)) m l x (addIf t i (sowAt due r i rest))
-          (λ j c. goal j (afterAt due r i j (cachedAt m (lineAt z j)) (pick (both t (eqb j i)) (cachedAt m (lineAt z j)) c)))
-      by true e k =
-          let d = eqb-true (due i) r e in
-          one z m size l x (sowAt due r i rest) (λ j c. goal j (afterAt due r i j (cachedAt m (lineAt z j)) c)) i (omega arith) (Still due r i) (Still due r (suc i))
-          (inr (d, omega arith)) (less d) (ripe i (omega arith) d) k
-      by false e k = loosen z (Still due r i) (Still due r (suc i)) m l x (sowAt due r i rest) (λ j c. goal j (afterAt due r i j (cachedAt m (lineAt z j)) c)) wider k
-
-  -- all of them, and what each line is left with before the next recorded event
-  moment : Goes z (Still due r 0) m l x rest goal
-      → Goes z (λ j. due j ≤ r) m l x (sowAt due r (lineCount z) rest) (λ j c. goal j (pick (eqb (due j) r) (cachedAt m (lineAt z j)) c))
-  moment f q b′ g a =
-      regoal z l x (sowAt due r (lineCount z) rest) q b′ (λ j c. goal j (afterAt due r (lineCount z) j (cachedAt m (lineAt z j)) c))
-      (λ j c. goal j (pick (eqb (due j) r) (cachedAt m (lineAt z j)) c)) (λ j h c. ap (goal j) (after-is due r (lineCount z) j (cachedAt m (lineAt z j)) c h))
-      (loosen z (Still due r (lineCount z)) (λ j. due j ≤ r) m l x (sowAt due r (lineCount z) rest) (λ j c. goal j (afterAt due r (lineCount z) j (cachedAt m (lineAt z j)) c)) all
-      (many (lineCount z) (omega arith) f) q b′ g a)
-    where
-      all : (j : ℕ) → j < lineCount z → Still due r (lineCount z) j → due j ≤ r
-      all j k (inl w) = omega arith
-      all j k (inr w) = omega (arith, w .0)
-
--- no event is left
-nothing-left : (z : Shape) (p : ℕ) (todo : ℕ → Type 0) (b : Bench) → Goes z todo (b .machine) [] (run p b [] .replies) [] (λ j c. c)
-nothing-left z p todo b q b′ g a = record {
-  taken = run-taken q b′;
-  added = rw (run-silent p b, run-silent q b′) ends;
-  left = λ j h. ap (λ (y : Bench). persistedAt (y .machine) (lineAt z j)) (run-nothing q b′);
-}
-
--- a recorded event in front. A write-back is taken: it persists its line, so that line's copy is the recorded one
-module _ (z : Shape) (p : ℕ) (todo : ℕ → Type 0) (b : Bench) (g : Good b) (size : shapeOf (b .machine) ≡ z) (e : Event) (ne : Crash e → ⊥) (t : Takes p (b .machine) e) (l : List Event) (rest : List Event) (goal : ℕ → Content → Content) where
-  before : Goes z todo (onto b e .machine) l (run (suc p) (onto b e) l .replies) rest goal
-      → Goes z todo (b .machine) (e ∷ l) (run p b (e ∷ l) .replies) (e ∷ rest) (λ j c. goal j (pick (hits (b .machine) e (lineAt z j)) (cachedAt (next (b .machine) e) (lineAt z j)) c))
-  before f q b′ g′ k = record {
+  -- a recorded event in front
+  sown-event : (p : ℕ) (b : Bench) (e : Event) (l : List Event) → Takes p (b .machine) e → (Crash e → ⊥) → (q : ℕ) (b′ : Bench)
+      → Alike (b .machine) (b′ .machine) → Takes q (b′ .machine) e
+      → Sown l (run (suc p) (onto b e) l .replies) (suc q) (onto b′ e) → Sown (e ∷ l) (run p b (e ∷ l) .replies) q b′
+  sown-event p b e l t ne q b′ a t′ s = record {
+    events = e ∷ s .events;
     taken = ap (λ (r : Ran). accepted (r .answer)) is′ ∙ s .taken;
-    added = rw (ap (λ (r : Ran). r .replies) is, ap (λ (r : Ran). r .replies) is′, events.alike-reply p q m m′ a e ne t t′) (keeps (s .added));
-    left = λ j h. ap (λ (r : Ran). persistedAt (r .bench .machine) (lineAt z j)) is′ ∙ s .left j h ∙ ap (goal j) (held j);
+    added = rw (ap (λ (r : Ran). r .replies) (run-cons p b e l t), ap (λ (r : Ran). r .replies) is′, events.alike-reply p q (b .machine) (b′ .machine) a e ne t t′) (keeps (s .added));
+    left = λ j k. ap (λ (r : Ran). persistedAt (r .bench .machine) (lineAt z j)) is′ ∙ s .left j k;
   }
     where
-      m : Machine
-      m = b .machine
+      is′ : run q b′ (e ∷ s .events) ≡ andBefore (eventAt q (b′ .machine) e .answer) (run (suc q) (onto b′ e) (s .events))
+      is′ = run-cons q b′ e (s .events) t′
 
-      m′ : Machine
-      m′ = b′ .machine
+  -- no event is left
+  sown-none : (p : ℕ) (b : Bench) → b ≡ d → shapeOf (b .machine) ≡ z → Goes b [] (run p b [] .replies)
+  sown-none p b is size q b′ r g st = record {
+    events = [];
+    taken = run-taken q b′;
+    added = rw (run-silent p b, run-silent q b′) ends;
+    left = λ j h.
+        let l = lineAt z j in
+        ap (λ (y : Bench). persistedAt (y .machine) l) (run-nothing q b′) ∙ g .kept l (subst (λ s. LineIn s l) (sym size) (line-in z j h))
+        ∙ ap (λ (y : Bench). leftWith y (r l) l) is ∙ ended d l (goal j) (r l) (subst (λ (y : Bench). Stands d l (goal j) y (r l)) is (st j h));
+  }
 
-      a : Alike (b .machine) (b′ .machine)
-      a = k .alike
+  -- ---- what is due at one moment: the lines below i are still to be seen to, the others are as they are to be
 
-      as-clean : deedOf (e .kind) ≡ writesBack → clean (b′ .machine) (lineAt (shapeOf (b .machine)) (e .number)) ≡ clean (b .machine) (lineAt (shapeOf (b .machine)) (e .number))
-      as-clean w = by (k .held (e .number) (subst (λ x. e .number < lineCount x) size (events.back-changed p (b .machine) e t w .0)))
+  module _ (b : Bench) (kn : Known b) (u : Before b d) (size : shapeOf (b .machine) ≡ z) (l : List Event) (x : List Answer) (on : Goes b l x) where
+    abbrev Mixed : ℕ → Type 0
+    Mixed i = (q : ℕ) (b′ : Bench) (r : Line → ℕ) → Lengthened b r (b′ .machine) → ((j : ℕ) → j < i → DueAt b r j)
+        → ((j : ℕ) → i ≤ j → j < lineCount z → StandsAt b r j) → Sown l x q b′
+
+    -- line i is written back
+    module _ (i : ℕ) (h : i < lineCount z) (rest : Mixed i) (q : ℕ) (b′ : Bench) (r : Line → ℕ) (g : Lengthened b r (b′ .machine)) where
+      abbrev r′ : Line → ℕ
+      r′ = writes b r i
+
+      written : r′ (lineAt z i) ≡ length (b .past)
+      unfolding writes
+      written = ap (λ (y : Shape). putLine r (lineAt y i) (length (b .past)) (lineAt z i)) size ∙ put-same r (lineAt z i) (length (b .past))
+
+      others : (j : ℕ) → j ≢ i → r′ (lineAt z j) ≡ r (lineAt z j)
+      unfolding writes
+      others j ne =
+          ap (λ (y : Shape). putLine r (lineAt y i) (length (b .past)) (lineAt z j)) size
+          ∙ put-other r (lineAt z i) (length (b .past)) (lineAt z j) (λ e. ne (line-one z j i e))
+
+      size′ : shapeOf (b′ .machine) ≡ z
+      size′ = alike-size (b .machine) (b′ .machine) (g .alike) ∙ size
+
+      -- it is a changed line
+      is-changed : leftWith b (r (lineAt z i)) (lineAt z i) ≢ cachedAt (b .machine) (lineAt z i) → clean (b′ .machine) (lineAt (shapeOf (b′ .machine)) i) ≡ false
+      is-changed ne = by (clean (b′ .machine) (lineAt (shapeOf (b′ .machine)) i)) refl
         where
-          by : (persistedAt (b′ .machine) (lineAt z (e .number)) ≡ persistedAt (b .machine) (lineAt z (e .number))) ⊎ Unhit (lineAt z (e .number)) (b .machine) (e ∷ l)
-              → clean (b′ .machine) (lineAt (shapeOf (b .machine)) (e .number)) ≡ clean (b .machine) (lineAt (shapeOf (b .machine)) (e .number))
-          by (inl y) = alike-clean (b .machine) (b′ .machine) a (lineAt (shapeOf (b .machine)) (e .number)) (subst (λ x. persistedAt (b′ .machine) (lineAt x (e .number)) ≡ persistedAt (b .machine) (lineAt x (e .number))) (sym size) y)
-          by (inr u) = no-way (sym (events.back-hits (b .machine) e w) ∙ ap (λ x. hits (b .machine) e (lineAt x (e .number))) size ∙ u .0)
+          by : (y : Bool) → clean (b′ .machine) (lineAt (shapeOf (b′ .machine)) i) ≡ y → y ≡ false
+          by false e = refl
+          by true e =
+              let k = lineAt z i in
+              let same = same-equal (cachedAt (b′ .machine) k) (persistedAt (b′ .machine) k) (ap (λ (y : Shape). clean (b′ .machine) (lineAt y i)) (sym size′) ∙ e) in
+              absurd (ne (sym (g .kept k (subst (λ s. LineIn s k) (sym size) (line-in z i h))) ∙ sym same ∙ alike-cached (b .machine) (b′ .machine) (g .alike) k))
 
-      t′ : Takes q (b′ .machine) e
-      t′ = events.alike-takes p q (b .machine) (b′ .machine) a e ne t as-clean
+      taken : leftWith b (r (lineAt z i)) (lineAt z i) ≢ cachedAt (b .machine) (lineAt z i) → Takes q (b′ .machine) (writeBack i)
+      taken ne = events.back-taken q (b′ .machine) i (subst (λ (y : Shape). i < lineCount y) (sym size′) h) (is-changed ne)
 
-      is : run p b (e ∷ l) ≡ andBefore (eventAt p (b .machine) e .answer) (run (suc p) (onto b e) l)
-      is = run-cons p b e l t
-
-      is′ : run q b′ (e ∷ rest) ≡ andBefore (eventAt q (b′ .machine) e .answer) (run (suc q) (onto b′ e) rest)
-      is′ = run-cons q b′ e rest t′
-
-      held : (j : ℕ) → persistedAt (onto b′ e .machine) (lineAt z j) ≡ pick (hits (b .machine) e (lineAt z j)) (cachedAt (next (b .machine) e) (lineAt z j)) (persistedAt (b′ .machine) (lineAt z j))
-      held j =
-          ap (λ (y : Machine). persistedAt y (lineAt z j)) (events.onto-machine q b′ g′ e ne t′)
-          ∙ events.persisted-next (b′ .machine) (g′ .even) e ne (lineAt z j)
-          ∙ ap (λ (y : Bool). pick y (cachedAt (next (b′ .machine) e) (lineAt z j)) (persistedAt (b′ .machine) (lineAt z j))) (events.alike-hits (b .machine) (b′ .machine) a e ne (lineAt z j))
-          ∙ ap (λ (y : Content). pick (hits (b .machine) e (lineAt z j)) y (persistedAt (b′ .machine) (lineAt z j)))
-          (alike-cached (next (b .machine) e) (next (b′ .machine) e) (events.alike-next (b .machine) (b′ .machine) a e ne) (lineAt z j))
-
-      -- a line with the recorded copy has it behind the event too
-      same : (j : ℕ) → persistedAt (b′ .machine) (lineAt z j) ≡ persistedAt (b .machine) (lineAt z j) → persistedAt (onto b′ e .machine) (lineAt z j) ≡ persistedAt (onto b e .machine) (lineAt z j)
-      same j y =
-          held j ∙ ap (pick (hits (b .machine) e (lineAt z j)) (cachedAt (next (b .machine) e) (lineAt z j))) y
-          ∙ sym (ap (λ (y : Machine). persistedAt y (lineAt z j)) (events.onto-machine p b g e ne t) ∙ events.persisted-next (b .machine) (g .even) e ne (lineAt z j))
-
-      near : Near z todo (onto b e .machine) l (onto b′ e .machine)
-      near = record {
-        alike = rw (events.onto-machine p b g e ne t, events.onto-machine q b′ g′ e ne t′) (events.alike-next (b .machine) (b′ .machine) a e ne);
-        same = λ j r w. same j (k .same j r w);
-        held = λ j r. by j (k .held j r);
-      }
+      writing : leftWith b (r (lineAt z i)) (lineAt z i) ≢ cachedAt (b .machine) (lineAt z i) → Stands d (lineAt z i) (goal i) b (length (b .past))
+          → ((j : ℕ) → j < i → DueAt b r j) → ((j : ℕ) → suc i ≤ j → j < lineCount z → StandsAt b r j) → Sown l x q b′
+      writing ne st low high =
+          sown-back l x q b′ i h (taken ne)
+          (rest (suc q) (onto b′ (writeBack i)) r′
+          (lengthened-onto b r′ q b′ (writeBack i) (taken ne) (no-crash i) (lengthened-back b kn r (b′ .machine) g i (subst (λ (y : Shape). i < lineCount y) (sym size) h)))
+          (λ j k. subst (Due d (lineAt z j) (goal j) b) (sym (others j (omega arith))) (low j k))
+          (λ j k n. by j k n (ℕ-discrete j i)))
         where
-          by : (j : ℕ) → (persistedAt (b′ .machine) (lineAt z j) ≡ persistedAt (b .machine) (lineAt z j)) ⊎ Unhit (lineAt z j) (b .machine) (e ∷ l)
-              → (persistedAt (onto b′ e .machine) (lineAt z j) ≡ persistedAt (onto b e .machine) (lineAt z j)) ⊎ Unhit (lineAt z j) (onto b e .machine) l
-          by j (inl y) = inl (same j y)
-          by j (inr u) = inr (subst (λ (y : Machine). Unhit (lineAt z j) y l) (sym (events.onto-machine p b g e ne t)) (u .1))
+          by : (j : ℕ) → i ≤ j → j < lineCount z → Dec (j ≡ i) → StandsAt b r′ j
+          by j k n (yes e) = subst (λ j. StandsAt b r′ j) (sym e) (subst (Stands d (lineAt z i) (goal i) b) (sym written) st)
+          by j k n (no ne) = subst (Stands d (lineAt z j) (goal j) b) (sym (others j ne)) (high j (omega arith) n)
 
-      s : Sown z l (run (suc p) (onto b e) l .replies) rest (suc q) (onto b′ e) goal
-      s = f (suc q) (onto b′ e) (events.onto-good q b′ g′ e ne t′) near
+      -- or it is not
+      leaving : Stands d (lineAt z i) (goal i) b (r (lineAt z i)) → ((j : ℕ) → j < i → DueAt b r j) → ((j : ℕ) → suc i ≤ j → j < lineCount z → StandsAt b r j)
+          → Sown l x q b′
+      leaving st low high = rest q b′ r g low (λ j k n. by j k n (ℕ-discrete j i))
+        where
+          by : (j : ℕ) → i ≤ j → j < lineCount z → Dec (j ≡ i) → StandsAt b r j
+          by j k n (yes e) = subst (λ j. StandsAt b r j) (sym e) st
+          by j k n (no ne) = high j (omega arith) n
 
--- the whole list, where each line is ripe at its moment
-pub sown : (z : Shape) (due : ℕ → ℕ) (l : List Event) (p : ℕ) (b : Bench) → Good b → NoCrash l → shapeOf (b .machine) ≡ z → Accepts p b l
-    → ((j : ℕ) → j < lineCount z → Ripe (lineAt z j) (due j) (b .machine) l)
-    → Goes z (λ j. due j ≤ length l) (b .machine) l (run p b l .replies) (sow due (lineCount z) l) (λ j c. leftAt (lineAt z j) (due j) (b .machine) l c)
-unfolding sow leftAt
-sown z due [] p b g nc size h ripe =
-    moment z (b .machine) size [] (run p b [] .replies) [] (λ j c. c) due 0 (λ j r w. ripe-now (lineAt z j) (due j) (b .machine) [] (ripe j r) w) (nothing-left z p (Still due 0 0) b)
-sown z due (e ∷ l) p b g nc size h ripe =
-    let t = run-first p b e l h in
-    let is = events.onto-machine p b g e (nc .0) t in
-    let goal : ℕ → Content → Content = λ j c. leftAt (lineAt z j) (due j) (next (b .machine) e) l (pick (hits (b .machine) e (lineAt z j)) (cachedAt (next (b .machine) e) (lineAt z j)) c) in
-    moment z (b .machine) size (e ∷ l) (run p b (e ∷ l) .replies) (e ∷ sow due (lineCount z) l) goal due (suc (length l))
-    (λ j r w. ripe-now (lineAt z j) (due j) (b .machine) (e ∷ l) (ripe j r) w)
-    (loosen z (λ j. due j ≤ length l) (Still due (suc (length l)) 0) (b .machine) (e ∷ l) (run p b (e ∷ l) .replies) (e ∷ sow due (lineCount z) l) goal (λ j r w. inl (omega (arith, w)))
-    (before z p (λ j. due j ≤ length l) b g size e (nc .0) t l (sow due (lineCount z) l) (λ j c. leftAt (lineAt z j) (due j) (next (b .machine) e) l c)
-    (subst (λ (y : Machine). Goes z (λ j. due j ≤ length l) (onto b e .machine) l (run (suc p) (onto b e) l .replies) (sow due (lineCount z) l) (λ j c. leftAt (lineAt z j) (due j) y l c)) is
-    (sown z due l (suc p) (onto b e) (events.onto-good p b g e (nc .0) t) (nc .1) (events.onto-size p b g e (nc .0) t ∙ size) (run-rest p b e l h)
-    (λ j r. subst (λ (y : Machine). Ripe (lineAt z j) (due j) y l) (sym is) (ripe j r .1))))))
+      one : Settled d (lineAt z i) (goal i) b kn u (r (lineAt z i)) → ((j : ℕ) → j < i → DueAt b r j)
+          → ((j : ℕ) → suc i ≤ j → j < lineCount z → StandsAt b r j) → Sown l x q b′
+      one s low high = by (s .back) refl
+        where
+          by : (y : Bool) → s .back ≡ y → Sown l x q b′
+          by true e = writing (s .changed e) (subst (λ (y : Bool). Stands d (lineAt z i) (goal i) b (pick y (length (b .past)) (r (lineAt z i)))) e (s .stands)) low high
+          by false e = leaving (subst (λ (y : Bool). Stands d (lineAt z i) (goal i) b (pick y (length (b .past)) (r (lineAt z i)))) e (s .stands)) low high
 
--- from a bench to itself
-pub sown-self : (z : Shape) (due : ℕ → ℕ) (l : List Event) (p : ℕ) (b : Bench) → Good b → NoCrash l → shapeOf (b .machine) ≡ z → Accepts p b l
-    → ((j : ℕ) → j < lineCount z → Ripe (lineAt z j) (due j) (b .machine) l)
-    → Sown z l (run p b l .replies) (sow due (lineCount z) l) p b (λ j c. leftAt (lineAt z j) (due j) (b .machine) l c)
-sown-self z due l p b g nc size h ripe =
-    sown z due l p b g nc size h ripe p b g (record { alike = alike-self (b .machine); same = λ j r w. refl; held = λ j r. inl refl })
+    many : (i : ℕ) → i ≤ lineCount z → Mixed i
+    many zero h q b′ r g low high = on q b′ r g (λ j k. high j (omega arith) k)
+    many (suc i) h q b′ r g low high =
+        one i (omega arith) (many i (omega arith)) q b′ r g (settle d (lineAt z i) (goal i) b kn u (r (lineAt z i)) (low i (omega arith))) (λ j k. low j (omega arith)) high
+
+    -- all lines
+    moment : (q : ℕ) (b′ : Bench) (r : Line → ℕ) → Lengthened b r (b′ .machine) → ((j : ℕ) → j < lineCount z → DueAt b r j) → Sown l x q b′
+    moment q b′ r g due = many (lineCount z) (omega arith) q b′ r g due (λ j k n. absurd (omega arith))
+
+  -- ---- a recorded event: of a write-back, the line's copy is the recorded one
+
+  module _ (p : ℕ) (b : Bench) (kn : Known b) (e : Event) (ne : Crash e → ⊥) (t : Takes p (b .machine) e) (u : Before b d) (u₁ : Before (onto b e) d) (size : shapeOf (b .machine) ≡ z)
+      (b′ : Bench) (r : Line → ℕ) (g : Lengthened b r (b′ .machine)) (st : (j : ℕ) → j < lineCount z → StandsAt b r j) where
+    -- behind a write-back its line counts from there
+    counts : deedOf (e .kind) ≡ writesBack → length (b .past) ≤ d .from (lineAt z (e .number))
+    counts w =
+        let k = lineAt z (e .number) in
+        let is : touch (b .machine) e ≡ aPersist k = ap (λ (y : Deed). done (b .machine) e y .touch) w ∙ ap (λ (y : Shape). aPersist (lineAt y (e .number))) size in
+        omega (arith, u₁ .from k, ap (λ (y : Bench). y .from k) (events.onto-goes p b e t ne) ∙ ap (λ (y : Touch). fromAfter y (length (b .past)) (b .mark) (b .from) k) is ∙ put-same (b .from) k (length (b .past)))
+
+    as-clean : deedOf (e .kind) ≡ writesBack
+        → clean (b′ .machine) (lineAt (shapeOf (b .machine)) (e .number)) ≡ clean (b .machine) (lineAt (shapeOf (b .machine)) (e .number))
+    as-clean w = subst (λ (y : Shape). clean (b′ .machine) (lineAt y (e .number)) ≡ clean (b .machine) (lineAt y (e .number))) (sym size)
+        (alike-clean (b .machine) (b′ .machine) (g .alike) k
+        (g .kept k (subst (λ s. LineIn s k) (sym size) (line-in z (e .number) there))
+        ∙ untouched d k (goal (e .number)) b (r k) (g .early k) (counts w) (st (e .number) there)))
+      where
+        k : Line
+        k = lineAt z (e .number)
+
+        there : e .number < lineCount z
+        there = subst (λ (y : Shape). e .number < lineCount y) size (events.back-changed p (b .machine) e t w .0)
+
+    goes-taken : (q : ℕ) → Takes q (b′ .machine) e
+    goes-taken q = events.alike-takes p q (b .machine) (b′ .machine) (g .alike) e ne t as-clean
+
+  -- ---- all events
+
+  pub sown : (l : List Event) (p : ℕ) (b : Bench) → Known b → NoCrash l → shapeOf (b .machine) ≡ z → Accepts p b l → run p b l .bench ≡ d
+      → (q : ℕ) (b′ : Bench) (r : Line → ℕ) → Lengthened b r (b′ .machine) → ((j : ℕ) → j < lineCount z → DueAt b r j) → Sown l (run p b l .replies) q b′
+  sown [] p b kn nc size h is q b′ r g due =
+      moment b kn (subst (Before b) is (before-run [] p b kn nc h)) size [] (run p b [] .replies) (sown-none p b (sym (run-nothing p b) ∙ is) size) q b′ r g due
+  sown (e ∷ l) p b kn nc size h is q b′ r g due =
+      let t = run-first p b e l h in
+      let is₁ = sym (run-bench p b e l t) ∙ is in
+      let kn₁ = events.onto-known p b e t kn in
+      let u = subst (Before b) is (before-run (e ∷ l) p b kn nc h) in
+      let u₁ = subst (Before (onto b e)) is₁ (before-run l (suc p) (onto b e) kn₁ (nc .1) (run-rest p b e l h)) in
+      moment b kn u size (e ∷ l) (run p b (e ∷ l) .replies)
+      (λ q b′ r g st.
+      let t′ = goes-taken p b kn e (nc .0) t u u₁ size b′ r g st q in
+      sown-event p b e l t (nc .0) q b′ (g .alike) t′
+      (sown l (suc p) (onto b e) kn₁ (nc .1) (events.onto-size p b e t (nc .0) ∙ size) (run-rest p b e l h) is₁ (suc q) (onto b′ e) r
+      (lengthened-onto (onto b e) r q b′ e t′ (nc .0) (lengthened-keeps p b kn r (b′ .machine) g e (nc .0) t))
+      (λ j k. ripe.goes d (lineAt z j) (goal j) p b kn e (nc .0) t u u₁ (r (lineAt z j)) (g .early (lineAt z j)) (st j k))))
+      q b′ r g due
