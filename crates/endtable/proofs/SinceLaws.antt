@@ -47,9 +47,9 @@ module _ (b : Bench) (k : Known b) where
       let old = map (λ m. cachedAt m l) (drop (b .mark u) (k .timed .before)) in
       let c = cachedAt (b .machine) l in
       let e : map (λ m. cachedAt m l) (drop (b .mark u) (b .past)) ≡ old ++ (c ∷ []) =
-          ap (λ ms. map (λ m. cachedAt m l) (drop (b .mark u) ms)) (k .timed .now)
-          ∙ ap (map (λ m. cachedAt m l)) (drop-append-le (b .mark u) (k .timed .before) (b .machine ∷ []) (k .timed .marks u))
-          ∙ map-append (λ m. cachedAt m l) (drop (b .mark u) (k .timed .before)) (b .machine ∷ []) in
+      ap (λ ms. map (λ m. cachedAt m l) (drop (b .mark u) ms)) (k .timed .now)
+      ∙ ap (map (λ m. cachedAt m l)) (drop-append-le (b .mark u) (k .timed .before) (b .machine ∷ []) (k .timed .marks u))
+      ∙ map-append (λ m. cachedAt m l) (drop (b .mark u) (k .timed .before)) (b .machine ∷ []) in
       rw e (joined.gathered-last [] old c)
 
   -- ---- behind an event that leaves machine m and touched w
@@ -65,7 +65,7 @@ module _ (b : Bench) (k : Known b) where
     pub since-still : (FlushesBy w u → ⊥) → (StoresTo w l → ⊥) → (r : Row) → Holds r (sinceOf b u l) → Holds r (sinceOf (goesOn b m w) u l)
     since-still ne ns r h =
         let e : sinceOf (goesOn b m w) u l ≡ sinceOf b u l =
-            since.since-joined b k m l w u (mark-stays w (length (b .past)) (b .mark) u ne) ∙ ap (joins (sinceOf b u l)) (f .cached l ns) ∙ since-present u l in
+        since.since-joined b k m l w u (mark-stays w (length (b .past)) (b .mark) u ne) ∙ ap (joins (sinceOf b u l)) (f .cached l ns) ∙ since-present u l in
         rw e h
 
     -- a thread that did

@@ -2,9 +2,9 @@
 use Prim.Native.Nat.{ℕ, _+_, _-_, _≤_, _<_}
 use mathlib.Core.Path.{_≡_, refl, sym, ap, _∙_}
 use mathlib.Core.Bool.{Bool, true, false}
-use mathlib.Core.List.{List}
+use mathlib.Core.List.{List, _++_}
 use native.Mathlib.Omega.{arith}
-use lib.ListN.{length, getD, set}
+use lib.ListN.{length, getD, set, drop, take-append-drop}
 use lib.Dec.{eqb}
 use borrow.Author.Tests.{eq-eqb, ne-eqb, le-leb, lt-leb}
 use Rattle.lists.specs.Find.{pick}
@@ -57,6 +57,12 @@ pub length-no-since : length noSince ≡ 8
 unfolding noSince
 length-no-since = refl
 
+-- a list filled from itself
+own : (r : List Row) (n : ℕ) → n ≤ length r → front (λ k. getD r k noRow) n r ≡ r
+unfolding front
+own r n h =
+    ap (λ (a : List Row). a ++ drop n r) (tabs.tab-same (λ k. getD r k noRow) (λ k. getD r (0 + k) noRow) n (λ k q. ap (λ j. getD r j noRow) (let z : k ≡ 0 + k = omega arith in z)) ∙ sym (tabs.take-drop-tab r noRow 0 n (omega arith))) ∙ take-append-drop n r
+
 module _ (z : Shape) (ts : List Thread) (since : List Row) (l : ℕ) (c : Content) where
   pub joined-none : since ≡ sinceJoined z ts since l c 0
   unfolding sinceJoined
@@ -84,8 +90,9 @@ module _ (z : Shape) (ts : List Thread) (since : List Row) (l : ℕ) (c : Conten
   joined-length e = tabs.front-size (storedRow z ts since l c) 8 since (omega (arith, e)) ∙ e
 
   -- where no thread is, the rows stay
-  pub joined-still : length since ≡ 8 → 8 ≤ firstWaiting z ts l → (k : ℕ) → k < 8 → getD (sinceJoined z ts since l c 8) k noRow ≡ getD since k noRow
-  unfolding firstWaiting
-  joined-still e h k p =
-      joined-at k p
-      ∙ ap (λ (b : Bool). pick b (joinedRow (getD since k noRow) c false) (getD since k noRow)) (find.least-clear (waitsAt z ts l) 8 0 (omega arith) k (omega arith) (omega arith))
+  pub joined-still : length since ≡ 8 → 8 ≤ firstWaiting z ts l → since ≡ sinceJoined z ts since l c 8
+  unfolding firstWaiting sinceJoined
+  joined-still e h =
+      sym (tabs.front-same (storedRow z ts since l c) (λ k. getD since k noRow) 8 since
+      (λ k p. ap (λ (b : Bool). pick b (joinedRow (getD since k noRow) c false) (getD since k noRow)) (find.least-clear (waitsAt z ts l) 8 0 (omega arith) k (omega arith) (omega arith)))
+      ∙ own since 8 (omega (arith, e)))

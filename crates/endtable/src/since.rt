@@ -62,7 +62,13 @@ pub fn first_waiting(z: Shape, threads: [Thread; 8], l: usize) -> usize
 }
 
 // The rows since the flushes after a store that left line l with the content c.
-pub fn since_joined(z: Shape, threads: [Thread; 8], since: [Row; 8], l: usize, c: Content) -> [Row; 8]
+pub fn since_joined(
+    z: Shape,
+    threads: [Thread; 8],
+    since: [Row; 8],
+    l: usize,
+    c: Content,
+) -> [Row; 8]
     requires { ⌜ headLines z ≤ 8 ⌝ }
     ensures { λ r. ⌜ r ≡ sinceJoined z threads since l c 8 ⌝ }
 {

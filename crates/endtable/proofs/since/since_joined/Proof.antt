@@ -52,7 +52,7 @@ loop-again c =
     let p = c .before .before .before .before .before .before .loop in
     let a = c .before .before .before .before .before .before .before .args in
     let w = laws.waits-row (a .z) (a .t2) (a .t3) (a .l) (a .c) (p .k) (c .before .before .before .fence-row .result) (c .before .before .before .fence-row .ensures) (c .before .if1 .taken)
-        (c .row-joined .result) (c .row-joined .ensures) in
+    (c .row-joined .result) (c .row-joined .ensures) in
     (omega arith, rw (p .inv .1) (laws.joined-next (a .z) (a .t2) (a .t3) (a .l) (a .c) (p .k) (omega arith) (omega arith) _ w))
 
 mul-r-2 : tie.Need-mul-r-2 Inv-loop μ-loop
