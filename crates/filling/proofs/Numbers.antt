@@ -24,9 +24,7 @@ use Rattle.schedule.specs.declared.Opened.{Opened}
 use Rattle.page.specs.Endings.{product}
 use Rattle.page.specs.Refusals.{tableIn, tableAnswer, pageAnswer, endingCount, firstCrowded}
 use Rattle.endtable.specs.Picks.{prod, capped}
-use Rattle.moments.proofs.Moments as moments
 use Rattle.codec.proofs.Accepted as codec
-use Rattle.pageproof.proofs.Even as evens
 use Rattle.pageproof.proofs.Runs as runs
 use Rattle.pageproof.proofs.Holds as holds
 use Rattle.runs.specs.Rows.{countsOf}
@@ -80,8 +78,7 @@ first-shape s = refl
 pub ran-shape : (s : List ℕ) → accepted (ran s .answer) ≡ true → shapeOf (ran s .bench .machine) ≡ scheduleShape s
 unfolding ran
 ran-shape s h =
-    runs.run-size (eventsIn s) 0 (begins (first s)) (record { timed = moments.timed-begins (first s); even = evens.even-start (scheduleIn s .image) (scheduleIn s .t) }) h
-    ∙ first-shape s
+    runs.run-size (eventsIn s) 0 (begins (first s)) h ∙ first-shape s
 
 pub ran-nodes : (s : List ℕ) → accepted (ran s .answer) ≡ true → ran s .bench .machine .n ≡ nodesIn s
 ran-nodes s h = ap (λ (z : Shape). z .n) (ran-shape s h)

@@ -12,4 +12,4 @@ use Rattle.pageproof.proofs.Holds.{back}
 use Rattle.lawproof.proofs.Lawful3.{endings-recover}
 
 pub all-recover : (s : List ℕ) → Bytes s → accepted (scheduleAnswer s) ≡ true → accepted (ran s .answer) ≡ true → (g : Image) → Leaves s g → Recovers s g
-all-recover s y a h g r = let z = back s h g r in subst (Recovers s) (z .2) (endings-recover s y a h (z .0) (z .1))
+all-recover s y a h g r = let z = back s a h g r in subst (Recovers s) (z .2) (endings-recover s y a h (z .0) (z .1))
