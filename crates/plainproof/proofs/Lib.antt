@@ -3,3 +3,5 @@ pub mod ByTimes
 pub mod Line
 pub mod Fan
 pub mod Images
+pub mod Since
+pub mod Plain
