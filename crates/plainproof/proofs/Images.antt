@@ -43,7 +43,7 @@ use Rattle.plainproof.proofs.Fan.{fan, each}
 
 -- ---- equal images
 
-number-tells : Tells eqb
+pub number-tells : Tells eqb
 number-tells = record { equal = eqb-true; self = λ a. eq-eqb a a refl }
 
 abbrev heads-tell : Tells (sameAll eqb)

@@ -167,7 +167,7 @@ module _ {A : Type 0} (same : A → A → Bool) (tells : Tells same) where
   abbrev onceT : List (List A) → List (List A)
   onceT l = gatheredBy (sameAll same) [] l
 
-  each-append : (v : List A) (c : A) (r : List (List A)) → eachOf (v ++ (c ∷ [])) r ≡ eachOf v r ++ map (λ z. c ∷ z) r
+  pub each-append : (v : List A) (c : A) (r : List (List A)) → eachOf (v ++ (c ∷ [])) r ≡ eachOf v r ++ map (λ z. c ∷ z) r
   unfolding eachOf
   each-append [] c r = append-nil (map (λ z. c ∷ z) r)
   each-append (a ∷ v) c r =

@@ -134,6 +134,9 @@ module _ (s : List ℕ) (h : accepted (ran s .answer) ≡ true) where
   pub come-to : (i : ℕ) → i ≤ countIn s → Come (opened (scheduleIn s)) (eventIn s) i
   come-to = come-all (opened (scheduleIn s)) good-open (eventIn s) (countIn s) taken-all
 
+  pub reply-to : (i : ℕ) → i < countIn s → accepted (replyIn (opened (scheduleIn s)) (eventIn s) i) ≡ true
+  reply-to = reply-taken (opened (scheduleIn s)) good-open (eventIn s) (countIn s) taken-all
+
   pub start-within : lastStart s ≤ countIn s
   unfolding lastStart
   start-within = start-le (eventIn s) (countIn s)
