@@ -1,219 +1,161 @@
--- The machine with picks added beside the recorded one, moment by moment: they differ in their persisted copies alone, and each line's is what its pick leaves.
+-- The machine with picks added beside the recorded one, moment by moment: it has gone through the recorded events with write-backs added, each line's at its pick.
 -- Only this file looks at how a line is persisted.
-use Prim.Native.Nat.{ℕ, zero, suc, _+_, max, _≤_, _<_}
+use Prim.Native.Nat.{ℕ, zero, suc, _+_, _≤_, _<_}
 use mathlib.Core.Path.{_≡_, refl, sym, ap, subst, _∙_}
 use mathlib.Core.Bool.{Bool, true, false}
-use mathlib.Core.List.{List, [], _∷_, _++_}
+use mathlib.Core.List.{List, [], _∷_}
 use mathlib.Core.Logic.{_≢_}
 use native.Mathlib.Omega.{arith}
 use native.Mathlib.Decide.{ℕ-discrete, decLt}
-use native.Mathlib.Nat.{max-eq-left, max-eq-right, max-le}
-use lib.ListN.{length, getD, length-append, List·getD-append}
-use lib.Seq.{getD-at}
-use lib.Dec.{eqb}
-use borrow.Author.Tests.{eqb-true, eq-eqb, ne-eqb}
+use lib.ListN.{length, getD, length-append}
+use lib.Dec.{eqb, ltb}
+use borrow.Author.Tests.{eqb-true, eq-eqb, lt-ltb, le-ltb}
 use Rattle.lists.specs.Find.{pick}
 use Rattle.lists.proofs.BoolLaws.{no-way}
 use Rattle.answer.specs.Answers.{accepted}
-use Rattle.image.specs.declared.Content.{Content}
 use Rattle.image.specs.declared.Shape.{Shape}
-use Rattle.machine.specs.Line.{shapeOf, lineCount, lineAt, putLine, sameLine, cachedAt, persistedAt}
-use Rattle.machine.specs.Start.{blankMachine}
-use Rattle.machine.specs.Event.{crashes, deedOf, done, eventAt}
+use Rattle.machine.specs.Line.{shapeOf, lineCount, lineAt}
+use Rattle.machine.specs.Event.{crashes, deedOf, eventAt}
 use Rattle.machine.specs.declared.Line.{Line}
 use Rattle.machine.specs.declared.Machine.{Machine}
 use Rattle.machine.specs.declared.Event.{Event}
 use Rattle.machine.specs.declared.Acted.{Acted}
-use Rattle.machine.specs.declared.Touch.{Touch}
-use Rattle.machine.specs.declared.Touch.the-variants.{Nothing as nothing, Store as aStore, Persist as aPersist}
-use Rattle.machine.proofs.LineLaws.{same-number}
-use Rattle.schedule.specs.Run.{Bench, begins, goesOn, forward, fromAfter, turned}
+use Rattle.machine.proofs.LineLaws.{LineIn, line-in, line-one, put-same, put-other}
+use Rattle.schedule.specs.Run.{Bench, begins, forward, turned}
 use Rattle.lawful.specs.Added.{writeBack}
-use Rattle.moments.specs.Frame.{Even}
-use Rattle.moments.specs.Moments.{Timed}
-use Rattle.moments.proofs.Frame.{persist-cached}
-use Rattle.moments.proofs.Moments as moments
-use Rattle.moments.proofs.Steps as acts
-use Rattle.pageproof.proofs.Alike.{Alike, alike-self, alike-cached, alike-back, alike-size}
-use Rattle.pageproof.proofs.Even.{even-done}
+use Rattle.moments.proofs.Known.{Known, known-event}
+use Rattle.pageproof.proofs.Alike.{Alike, alike-size}
 use Rattle.pageproof.proofs.Events as events
-use Rattle.pageproof.proofs.Events.{persistsLine, hits, no-crash}
+use Rattle.pageproof.proofs.Events.{next, onto}
+use Rattle.pageproof.proofs.Lengthened.{leftWith, left-old, left-larger, Lengthened, lengthened-self, lengthened-keeps, lengthened-back, writes, from-past}
 use Rattle.plainproof.specs.Plain.{played, backed, playedAt}
 use Rattle.plainproof.specs.Times.{Recorded, pickLeaves, ByTimes}
 
 -- ---- the recorded bench at moment r
 
 pub record At (b : Bench) (r : ℕ) : Type 0 where
-  pub timed : Timed b
+  pub known : Known b
   pub long : length (b .past) ≡ suc r
-  pub even : Even (b .machine)
-
-at-begin : (m : Machine) → Even m → At (begins m) 0
-at-begin m e = record { timed = moments.timed-begins m; long = refl; even = e }
 
 -- a line counts from a moment that has been
 pub early : (b : Bench) (r : ℕ) → At b r → (l : Line) → b .from l ≤ r
-early b r a l = omega (arith, a .timed .early l, ap length (a .timed .now), length-append (a .timed .before) (b .machine ∷ []), a .long)
+early b r a l = omega (arith, from-past b (a .known) l, a .long)
 
--- the present moment is the last
-present : (b : Bench) (r : ℕ) → At b r → getD (b .past) r blankMachine ≡ b .machine
-present b r a =
-    ap (λ (l : List Machine). getD l r blankMachine) (a .timed .now)
-    ∙ getD-at (a .timed .before) (b .machine) [] blankMachine r (omega (arith, ap length (a .timed .now), length-append (a .timed .before) (b .machine ∷ []), a .long))
-
-from-is : (w : Touch) (k : ℕ) (f : Line → ℕ) (l : Line) → fromAfter w k f l ≡ pick (persistsLine w l) k (f l)
-unfolding putLine
-from-is nothing k f l = refl
-from-is (aStore x) k f l = refl
-from-is (aPersist x) k f l = refl
+-- written back at its pick, a line is left with what the pick leaves
+leaves : (b : Bench) → Known b → (l : Line) → LineIn (shapeOf (b .machine)) l → (q : ℕ) → leftWith b q l ≡ pickLeaves b l q
+leaves b k l h zero = left-old b 0 l (omega arith)
+leaves b k l h (suc q) = left-larger b k q l h
 
 -- ---- one event
 
-module _ (p : ℕ) (b : Bench) (r : ℕ) (a : At b r) (e : Event) (t : accepted (eventAt p (b .machine) e .answer) ≡ true) (ne : deedOf (e .kind) ≢ crashes) where
-  abbrev w : Touch
-  w = done (b .machine) e (deedOf (e .kind)) .touch
+module _ (p : ℕ) (b : Bench) (e : Event) (t : accepted (eventAt p (b .machine) e .answer) ≡ true) (ne : deedOf (e .kind) ≢ crashes) where
+  forward-onto : forward p b e ≡ onto b e
+  forward-onto = ap (λ (o : Acted). turned b o (deedOf (e .kind))) (events.taken-is p (b .machine) e t)
 
-  abbrev next : Machine
-  next = played (b .machine) e
+  at-next : (r : ℕ) → At b r → At (forward p b e) (suc r)
+  at-next r a = record {
+    known = known-event p b e (a .known) t;
+    long = ap (λ (x : Bench). length (x .past)) (forward-onto ∙ events.onto-goes p b e t ne)
+        ∙ length-append (b .past) (next (b .machine) e ∷ []) ∙ (let z : length (b .past) + 1 ≡ suc (suc r) = omega (arith, a .long) in z);
+  }
 
-  goes : forward p b e ≡ goesOn b next w
-  goes = acts.turned-on p b e t ne ∙ ap (λ (o : Acted). goesOn b (o .machine) (o .touch)) (events.taken-is p (b .machine) e t)
+  size-next : shapeOf (forward p b e .machine) ≡ shapeOf (b .machine)
+  size-next = ap (λ (x : Bench). shapeOf (x .machine)) forward-onto ∙ events.onto-size p b e t ne
 
-  pub at-next : At (forward p b e) (suc r)
-  at-next = subst (λ (x : Bench). At x (suc r)) (sym goes) (record {
-    timed = moments.timed-goes b next w (a .timed);
-    long = length-append (b .past) (next ∷ []) ∙ (let z : length (b .past) + 1 ≡ suc (suc r) = omega (arith, a .long) in z);
-    even = even-done (b .machine) e (deedOf (e .kind)) (a .even);
-  })
+-- ---- line j's pick where it is below k, else nothing
 
-  -- a pick for a moment that has been, or none: what its line is left with behind the event
-  leaves-next : (l : Line) (q : ℕ) → q ≤ suc r → pick (hits (b .machine) e l) (cachedAt next l) (pickLeaves b l q) ≡ pickLeaves (forward p b e) l q
-  leaves-next l q h = by q h (hits (b .machine) e l) refl ∙ ap (λ (x : Bench). pickLeaves x l q) (sym goes)
-    where
-      short : b .from l ≤ r
-      short = early b r a l
+abbrev below : List ℕ → ℕ → ℕ → ℕ
+below π k j = pick (ltb (getD π j 0) k) (getD π j 0) 0
 
-      by : (q : ℕ) → q ≤ suc r → (x : Bool) → hits (b .machine) e l ≡ x → pick x (cachedAt next l) (pickLeaves b l q) ≡ pickLeaves (goesOn b next w) l q
-      by zero h x i = sym (events.persisted-next (b .machine) (a .even) e ne l ∙ ap (λ (y : Bool). pick y (cachedAt next l) (persistedAt (b .machine) l)) i)
-      by (suc q) h true i =
-          let c : max q (fromAfter w (length (b .past)) (b .from) l) ≡ length (b .past) =
-          ap (max q) (from-is w (length (b .past)) (b .from) l ∙ ap (λ (y : Bool). pick y (length (b .past)) (b .from l)) i) ∙ max-eq-right (omega (arith, a .long)) in
-          sym (ap (λ (k : ℕ). cachedAt (getD (b .past ++ (next ∷ [])) k blankMachine) l) c ∙ ap (λ (m : Machine). cachedAt m l) (getD-at (b .past) next [] blankMachine (length (b .past)) refl))
-      by (suc q) h false i =
-          let c : max q (fromAfter w (length (b .past)) (b .from) l) ≡ max q (b .from l) =
-          ap (max q) (from-is w (length (b .past)) (b .from) l ∙ ap (λ (y : Bool). pick y (length (b .past)) (b .from l)) i) in
-          let k : max q (b .from l) ≤ r = max-le (omega arith) short in
-          sym (ap (λ (k : ℕ). cachedAt (getD (b .past ++ (next ∷ [])) k blankMachine) l) c
-          ∙ ap (λ (m : Machine). cachedAt m l) (List·getD-append (b .past) (next ∷ []) blankMachine (max q (b .from l)) (omega (arith, a .long))))
+below-is : (π : List ℕ) (k j : ℕ) → getD π j 0 < k → below π k j ≡ getD π j 0
+below-is π k j h = rw (lt-ltb (getD π j 0) k h) refl
 
-  -- the same of the machine with picks added
-  module _ (m′ : Machine) (k : Alike (b .machine) m′) (ev : Even m′) (l : Line) where
-    kept-next : persistedAt (played m′ e) l ≡ pick (hits (b .machine) e l) (cachedAt next l) (persistedAt m′ l)
-    kept-next =
-        events.persisted-next m′ ev e ne l
-        ∙ ap (λ (y : Bool). pick y (cachedAt (played m′ e) l) (persistedAt m′ l)) (events.alike-hits (b .machine) m′ k e ne l)
-        ∙ ap (λ (y : Content). pick (hits (b .machine) e l) y (persistedAt m′ l)) (alike-cached next (played m′ e) (events.alike-next (b .machine) m′ k e ne) l)
+below-none : (π : List ℕ) (k j : ℕ) → k ≤ getD π j 0 → below π k j ≡ 0
+below-none π k j h = rw (le-ltb (getD π j 0) k h) refl
 
-    recorded-next : persistedAt (forward p b e .machine) l ≡ pick (hits (b .machine) e l) (cachedAt next l) (persistedAt (b .machine) l)
-    recorded-next = ap (λ (x : Bench). persistedAt (x .machine) l) goes ∙ events.persisted-next (b .machine) (a .even) e ne l
+below-more : (π : List ℕ) (k j : ℕ) → getD π j 0 ≢ k → below π k j ≡ below π (suc k) j
+below-more π k j ne = by (decLt (getD π j 0) k)
+  where
+    by : Dec (getD π j 0 < k) → below π k j ≡ below π (suc k) j
+    by (yes h) = below-is π k j h ∙ sym (below-is π (suc k) j (omega arith))
+    by (no h) = below-none π k j (omega arith) ∙ sym (below-none π (suc k) j (by-ne (ℕ-discrete (getD π j 0) k)))
+      where
+        by-ne : Dec (getD π j 0 ≡ k) → suc k ≤ getD π j 0
+        by-ne (yes i) = absurd (ne i)
+        by-ne (no i) = omega arith
 
 -- ---- the machine m′ with picks added, beside the recorded bench b: the picks below k are written
 
 pub record Near (z : Shape) (π : List ℕ) (b : Bench) (k : ℕ) (m′ : Machine) : Type 0 where
-  pub alike : Alike (b .machine) m′
-  pub even : Even m′
-  pub left : (j : ℕ) → j < lineCount z → getD π j 0 < k → persistedAt m′ (lineAt z j) ≡ pickLeaves b (lineAt z j) (getD π j 0)
-  pub rest : (j : ℕ) → j < lineCount z → k ≤ getD π j 0 → persistedAt m′ (lineAt z j) ≡ persistedAt (b .machine) (lineAt z j)
+  pub at : Line → ℕ
+  pub lengthened : Lengthened b at m′
+  pub picks : (j : ℕ) → j < lineCount z → at (lineAt z j) ≡ below π k j
 
-module _ (z : Shape) (π : List ℕ) (p : ℕ) (b : Bench) (r : ℕ) (a : At b r) (e : Event) (t : accepted (eventAt p (b .machine) e .answer) ≡ true) (ne : deedOf (e .kind) ≢ crashes) where
-  near-event : (m′ : Machine) → Near z π b (suc (suc r)) m′ → Near z π (forward p b e) (suc (suc r)) (played m′ e)
-  near-event m′ k = record {
-    alike = subst (λ (x : Bench). Alike (x .machine) (played m′ e)) (sym (goes p b r a e t ne)) (events.alike-next (b .machine) m′ (k .alike) e ne);
-    even = even-done m′ e (deedOf (e .kind)) (k .even);
-    left = λ j h q.
-        let l = lineAt z j in
-        kept-next p b r a e t ne m′ (k .alike) (k .even) l
-        ∙ ap (pick (hits (b .machine) e l) (cachedAt (played (b .machine) e) l)) (k .left j h q) ∙ leaves-next p b r a e t ne l (getD π j 0) (omega arith);
-    rest = λ j h q.
-        let l = lineAt z j in
-        kept-next p b r a e t ne m′ (k .alike) (k .even) l
-        ∙ ap (pick (hits (b .machine) e l) (cachedAt (played (b .machine) e) l)) (k .rest j h q) ∙ sym (recorded-next p b r a e t ne m′ (k .alike) (k .even) l);
-  }
+near-event : (z : Shape) (π : List ℕ) (k p : ℕ) (b : Bench) → Known b → (e : Event) → accepted (eventAt p (b .machine) e .answer) ≡ true → deedOf (e .kind) ≢ crashes
+    → (m′ : Machine) → Near z π b k m′ → Near z π (forward p b e) k (played m′ e)
+near-event z π k p b kn e t ne m′ o = record {
+  at = o .at;
+  lengthened = subst (λ (x : Bench). Lengthened x (o .at) (played m′ e)) (sym (forward-onto p b e t ne)) (lengthened-keeps p b kn (o .at) m′ (o .lengthened) e ne t);
+  picks = o .picks;
+}
 
 -- ---- the write-backs of one moment
 
-module _ (z : Shape) (π : List ℕ) (b : Bench) (r : ℕ) (size : shapeOf (b .machine) ≡ z) (m′ : Machine) (k : Alike (b .machine) m′) (ev : Even m′) where
+module _ (z : Shape) (π : List ℕ) (b : Bench) (r : ℕ) (a : At b r) (size : shapeOf (b .machine) ≡ z) (m′ : Machine) (o : Near z π b (suc r) m′) where
+  -- line n is written back now, and no other
+  here : (w : Line → ℕ) (n : ℕ) → writes b w n (lineAt z n) ≡ suc r
+  unfolding writes
+  here w n = subst (λ (u : Shape). writes b w n (lineAt u n) ≡ suc r) size (put-same w (lineAt (shapeOf (b .machine)) n) (length (b .past)) ∙ a .long)
+
+  elsewhere : (w : Line → ℕ) (n j : ℕ) → j ≢ n → writes b w n (lineAt z j) ≡ w (lineAt z j)
+  unfolding writes
+  elsewhere w n j e =
+      put-other w (lineAt (shapeOf (b .machine)) n) (length (b .past)) (lineAt z j) (λ i. e (line-one z j n (i ∙ ap (λ (u : Shape). lineAt u n) size)))
+
   -- x is m′ with those of the first n lines
   record Backs (n : ℕ) (x : Machine) : Type 0 where
-    pub alike : Alike (b .machine) x
-    pub even : Even x
-    pub done : (j : ℕ) → j < n → getD π j 0 ≡ suc r → persistedAt x (lineAt z j) ≡ cachedAt (b .machine) (lineAt z j)
-    pub same : (j : ℕ) → (j < n → getD π j 0 ≢ suc r) → persistedAt x (lineAt z j) ≡ persistedAt m′ (lineAt z j)
+    pub at : Line → ℕ
+    pub lengthened : Lengthened b at x
+    pub done : (j : ℕ) → j < lineCount z → j < n → at (lineAt z j) ≡ below π (suc (suc r)) j
+    pub rest : (j : ℕ) → j < lineCount z → n ≤ j → at (lineAt z j) ≡ below π (suc r) j
 
-  back-kept : (x : Machine) → Alike (b .machine) x → Even x → (n j : ℕ)
-      → persistedAt (played x (writeBack n)) (lineAt z j) ≡ pick (eqb j n) (cachedAt (b .machine) (lineAt z j)) (persistedAt x (lineAt z j))
-  back-kept x y e n j =
-      events.persisted-next x e (writeBack n) (no-crash n) (lineAt z j)
-      ∙ ap (λ (h : Bool). pick h (cachedAt (played x (writeBack n)) (lineAt z j)) (persistedAt x (lineAt z j)))
-      (ap (λ (s : Shape). sameLine (lineAt z j) (lineAt s n)) (alike-size (b .machine) x y ∙ size) ∙ same-number z j n)
-      ∙ ap (λ (c : Content). pick (eqb j n) c (persistedAt x (lineAt z j))) (persist-cached x (lineAt (shapeOf x) n) (lineAt z j) ∙ alike-cached (b .machine) x y (lineAt z j))
-
-  backs : (n : ℕ) → Backs n (backed π r m′ n)
+  backs : (n : ℕ) → n ≤ lineCount z → Backs n (backed π r m′ n)
   unfolding backed
-  backs zero = record { alike = k; even = ev; done = λ j h q. absurd (omega arith); same = λ j h. refl }
-  backs (suc n) = by (backs n) (eqb (getD π n 0) (suc r)) refl
+  backs zero h = record { at = o .at; lengthened = o .lengthened; done = λ j i q. absurd (omega arith); rest = λ j i q. o .picks j i }
+  backs (suc n) h = by (backs n (omega arith)) (eqb (getD π n 0) (suc r)) refl
     where
-      by : Backs n (backed π r m′ n) → (h : Bool) → eqb (getD π n 0) (suc r) ≡ h → Backs (suc n) (pick h (played (backed π r m′ n) (writeBack n)) (backed π r m′ n))
-      by o false h = record {
-        alike = o .alike;
-        even = o .even;
-        done = λ j lt q. at j lt q (ℕ-discrete j n);
-        same = λ j f. o .same j (λ lt. f (omega arith));
+      by : Backs n (backed π r m′ n) → (x : Bool) → eqb (getD π n 0) (suc r) ≡ x → Backs (suc n) (pick x (played (backed π r m′ n) (writeBack n)) (backed π r m′ n))
+      by y false x = record {
+        at = y .at;
+        lengthened = y .lengthened;
+        done = λ j i q. at-line j i (ℕ-discrete j n) (omega arith);
+        rest = λ j i q. y .rest j i (omega arith);
       }
         where
-          at : (j : ℕ) → j < suc n → getD π j 0 ≡ suc r → Dec (j ≡ n) → persistedAt (backed π r m′ n) (lineAt z j) ≡ cachedAt (b .machine) (lineAt z j)
-          at j lt q (yes i) = no-way (sym (eq-eqb (getD π n 0) (suc r) (ap (λ (y : ℕ). getD π y 0) (sym i) ∙ q)) ∙ h)
-          at j lt q (no i) = o .done j (omega arith) q
-      by o true h = record {
-        alike = alike-back (b .machine) (backed π r m′ n) (o .alike) (lineAt (shapeOf (backed π r m′ n)) n);
-        even = even-done (backed π r m′ n) (writeBack n) (deedOf 4) (o .even);
-        done = λ j lt q. at j lt q (ℕ-discrete j n);
-        same = λ j f. back-kept (backed π r m′ n) (o .alike) (o .even) n j
-            ∙ ap (λ (y : Bool). pick y (cachedAt (b .machine) (lineAt z j)) (persistedAt (backed π r m′ n) (lineAt z j)))
-            (ne-eqb j n (λ i. f (omega (arith, i)) (ap (λ (y : ℕ). getD π y 0) i ∙ eqb-true (getD π n 0) (suc r) h)))
-            ∙ o .same j (λ lt. f (omega arith));
+          other : getD π n 0 ≢ suc r
+          other i = no-way (sym (eq-eqb (getD π n 0) (suc r) i) ∙ x)
+
+          at-line : (j : ℕ) → j < lineCount z → Dec (j ≡ n) → j ≤ n → y .at (lineAt z j) ≡ below π (suc (suc r)) j
+          at-line j i (yes e) q = y .rest j i (omega arith) ∙ below-more π (suc r) j (subst (λ (u : ℕ). getD π u 0 ≢ suc r) (sym e) other)
+          at-line j i (no e) q = y .done j i (omega arith)
+      by y true x = record {
+        at = writes b (y .at) n;
+        lengthened = lengthened-back b (a .known) (y .at) (backed π r m′ n) (y .lengthened) n (subst (λ (u : Shape). n < lineCount u) (sym size) (omega arith));
+        done = λ j i q. at-line j i (ℕ-discrete j n) (omega arith);
+        rest = λ j i q. elsewhere (y .at) n j (λ e. omega arith) ∙ y .rest j i (omega arith);
       }
         where
-          at : (j : ℕ) → j < suc n → getD π j 0 ≡ suc r → Dec (j ≡ n)
-              → persistedAt (played (backed π r m′ n) (writeBack n)) (lineAt z j) ≡ cachedAt (b .machine) (lineAt z j)
-          at j lt q (yes i) =
-              back-kept (backed π r m′ n) (o .alike) (o .even) n j
-              ∙ ap (λ (y : Bool). pick y (cachedAt (b .machine) (lineAt z j)) (persistedAt (backed π r m′ n) (lineAt z j))) (eq-eqb j n i)
-          at j lt q (no i) =
-              back-kept (backed π r m′ n) (o .alike) (o .even) n j
-              ∙ ap (λ (y : Bool). pick y (cachedAt (b .machine) (lineAt z j)) (persistedAt (backed π r m′ n) (lineAt z j))) (ne-eqb j n i)
-              ∙ o .done j (omega arith) q
+          is : getD π n 0 ≡ suc r
+          is = eqb-true (getD π n 0) (suc r) x
 
-near-backs : (z : Shape) (π : List ℕ) (b : Bench) (r : ℕ) → At b r → shapeOf (b .machine) ≡ z → (m′ : Machine) → Near z π b (suc r) m′
-    → Near z π b (suc (suc r)) (backed π r m′ (lineCount z))
-near-backs z π b r a size m′ k = record {
-  alike = o .alike;
-  even = o .even;
-  left = λ j h q. by j h q (ℕ-discrete (getD π j 0) (suc r));
-  rest = λ j h q. o .same j (λ lt i. omega arith) ∙ k .rest j h (omega arith);
-}
-  where
-    o : Backs z π b r size m′ (k .alike) (k .even) (lineCount z) (backed π r m′ (lineCount z))
-    o = backs z π b r size m′ (k .alike) (k .even) (lineCount z)
+          at-line : (j : ℕ) → j < lineCount z → Dec (j ≡ n) → j ≤ n → writes b (y .at) n (lineAt z j) ≡ below π (suc (suc r)) j
+          at-line j i (yes e) q =
+              subst (λ (u : ℕ). writes b (y .at) n (lineAt z u) ≡ below π (suc (suc r)) u) (sym e)
+              (here (y .at) n ∙ sym is ∙ sym (below-is π (suc (suc r)) n (omega (arith, is))))
+          at-line j i (no e) q = elsewhere (y .at) n j e ∙ y .done j i (omega arith)
 
-    -- the present content is that of the present moment
-    here : (l : Line) → cachedAt (b .machine) l ≡ pickLeaves b l (suc r)
-    here l = sym (ap (λ (i : ℕ). cachedAt (getD (b .past) i blankMachine) l) (max-eq-left (early b r a l)) ∙ ap (λ (m : Machine). cachedAt m l) (present b r a))
-
-    by : (j : ℕ) → j < lineCount z → getD π j 0 < suc (suc r) → Dec (getD π j 0 ≡ suc r)
-        → persistedAt (backed π r m′ (lineCount z)) (lineAt z j) ≡ pickLeaves b (lineAt z j) (getD π j 0)
-    by j h q (yes i) = o .done j h i ∙ here (lineAt z j) ∙ ap (pickLeaves b (lineAt z j)) (sym i)
-    by j h q (no i) = o .same j (λ lt. i) ∙ k .left j h (omega arith)
+  near-backs : Near z π b (suc (suc r)) (backed π r m′ (lineCount z))
+  near-backs = let y = backs (lineCount z) (omega arith) in record { at = y .at; lengthened = y .lengthened; picks = λ j i. y .done j i i }
 
 -- ---- the run
 
@@ -225,22 +167,20 @@ module _ (m : Machine) (f : ℕ → Event) (e : ℕ) (B : ℕ → Bench) (c : Re
   M r = playedAt π (lineCount z) m f r
 
   pub at-moment : (r : ℕ) → r ≤ e → At (B r) r × (shapeOf (B r .machine) ≡ z)
-  at-moment zero h = rw (c .first) (at-begin m (c .even), refl)
+  at-moment zero h = rw (c .first) (record { known = c .known; long = refl }, refl)
   at-moment (suc r) h =
       let q : r < e = omega arith in
       let o = at-moment r (omega arith) in
       let n = c .next r q in
-      (subst (λ (x : Bench). At x (suc r)) (sym (n .2)) (at-next (n .0) (B r) r (o .0) (f r) (n .1) (c .free r q)),
-      ap (λ (x : Bench). shapeOf (x .machine)) (n .2 ∙ goes (n .0) (B r) r (o .0) (f r) (n .1) (c .free r q))
-      ∙ acts.frame-done (B r .machine) (f r) (deedOf (f r .kind)) (o .0 .even) (c .free r q) .shape ∙ o .1)
+      (subst (λ (x : Bench). At x (suc r)) (sym (n .2)) (at-next (n .0) (B r) (f r) (n .1) (c .free r q) r (o .0)),
+      ap (λ (x : Bench). shapeOf (x .machine)) (n .2) ∙ size-next (n .0) (B r) (f r) (n .1) (c .free r q) ∙ o .1)
 
   near-start : Near z π (B 0) 1 m
-  near-start = rw (c .first) (record {
-    alike = alike-self m;
-    even = c .even;
-    left = λ j h q. ap (pickLeaves (begins m) (lineAt z j)) (let i : 0 ≡ getD π j 0 = omega arith in i);
-    rest = λ j h q. refl;
-  })
+  near-start = rw (c .first) (record { at = λ l. 0; lengthened = lengthened-self (begins m) (c .known); picks = λ j h. sym (none j (decLt (getD π j 0) 1)) })
+    where
+      none : (j : ℕ) → Dec (getD π j 0 < 1) → below π 1 j ≡ 0
+      none j (yes q) = below-is π 1 j q ∙ omega arith
+      none j (no q) = below-none π 1 j (omega arith)
 
   pub near-moment : (r : ℕ) → r ≤ e → Near z π (B r) (suc (suc r)) (M r)
   unfolding playedAt
@@ -252,14 +192,22 @@ module _ (m : Machine) (f : ℕ → Event) (e : ℕ) (B : ℕ → Bench) (c : Re
       let o′ = at-moment (suc r) h in
       let n = c .next r q in
       near-backs z π (B (suc r)) (suc r) (o′ .0) (o′ .1) (played (M r) (f r))
-      (subst (λ (x : Bench). Near z π x (suc (suc r)) (played (M r) (f r))) (sym (n .2)) (near-event z π (n .0) (B r) r (o .0) (f r) (n .1) (c .free r q) (M r) (near-moment r i)))
+      (subst (λ (x : Bench). Near z π x (suc (suc r)) (played (M r) (f r))) (sym (n .2))
+      (near-event z π (suc (suc r)) (n .0) (B r) (o .0 .known) (f r) (n .1) (c .free r q) (M r) (near-moment r i)))
 
   -- as far as steps and sizes go the machine is the recorded one
   pub alike-moment : (r : ℕ) → r ≤ e → Alike (B r .machine) (M r)
-  alike-moment r h = near-moment r h .alike
+  alike-moment r h = near-moment r h .lengthened .alike
 
   pub size-moment : (r : ℕ) → r ≤ e → shapeOf (M r) ≡ z
   size-moment r h = alike-size (B r .machine) (M r) (alike-moment r h) ∙ at-moment r h .1
 
 pub by-times : ByTimes
-by-times m f e B c π j h q = near-moment m f e B c π e (omega arith) .left j h (omega arith)
+by-times m f e B c π j h q =
+    let i : e ≤ e = omega arith in
+    let o = near-moment m f e B c π e i in
+    let a = at-moment m f e B c π e i in
+    let l = lineAt (shapeOf m) j in
+    let there : LineIn (shapeOf (B e .machine)) l = subst (λ (x : Shape). LineIn x l) (sym (a .1)) (line-in (shapeOf m) j h) in
+    o .lengthened .kept l there ∙ ap (λ (k : ℕ). leftWith (B e) k l) (o .picks j h ∙ below-is π (suc (suc e)) j (omega arith))
+    ∙ leaves (B e) (a .0 .known) l there (getD π j 0)

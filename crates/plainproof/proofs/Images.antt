@@ -1,7 +1,7 @@
 -- From a start: the images of all picks, repeats after the first dropped, are the endings.
-use Prim.Native.Nat.{ℕ, zero, suc, _+_, _≤_, _<_}
-use mathlib.Core.Path.{_≡_, refl, sym, ap, ap₂, subst, _∙_}
-use mathlib.Core.Bool.{Bool, true, false}
+use Prim.Native.Nat.{ℕ, zero, suc, _<_}
+use mathlib.Core.Path.{_≡_, refl, sym, ap, subst, _∙_}
+use mathlib.Core.Bool.{true}
 use mathlib.Core.List.{List, [], _∷_, map}
 use mathlib.Core.Logic.{_⊎_, inl, inr}
 use native.Mathlib.Omega.{arith}
@@ -11,13 +11,13 @@ use lib.Dec.{eqb}
 use borrow.Author.Tests.{eqb-true, eq-eqb}
 use Rattle.lists.specs.Find.{both}
 use Rattle.lists.specs.Tab.{tab}
-use Rattle.lists.proofs.BoolLaws.{both-true, both-of}
+use Rattle.lists.proofs.BoolLaws.{both-true}
 use Rattle.image.specs.Layout.{contentAt, sameContent}
 use Rattle.image.specs.Form.{headLines}
 use Rattle.image.specs.declared.Content.{Content}
 use Rattle.image.specs.declared.Image.{Image}
 use Rattle.image.specs.declared.Shape.{Shape}
-use Rattle.machine.specs.Line.{shapeOf, lineCount, lineAt, persistedAt}
+use Rattle.machine.specs.Line.{shapeOf, lineCount, lineAt}
 use Rattle.machine.specs.declared.Line.{Line}
 use Rattle.machine.specs.declared.Line.the-variants.{OfHead as ofHead}
 use Rattle.machine.specs.declared.Machine.{Machine}
@@ -31,7 +31,7 @@ use Rattle.moments.proofs.Moments as moments
 use Rattle.moments.proofs.Distinct as distinct
 use Rattle.moments.proofs.Distinct.{OfHead}
 use Rattle.pageproof.proofs.Page.{image-is}
-use Rattle.plainproof.specs.Once.{gatheredBy, once, choicesOf, sameAll, sameImage}
+use Rattle.plainproof.specs.Once.{once, choicesOf, sameAll, sameImage}
 use Rattle.plainproof.specs.Plain.{picksOf, playedAt}
 use Rattle.plainproof.specs.Times.{Recorded, pickLeaves}
 use Rattle.plainproof.proofs.OnceLaws as laws

@@ -1,9 +1,9 @@
 -- A schedule's run since its last start.
 use Prim.Native.Nat.{ℕ, zero, suc, _+_, _-_, _≤_, _<_}
-use mathlib.Core.Path.{_≡_, refl, sym, ap, ap₂, subst, _∙_}
+use mathlib.Core.Path.{_≡_, refl, sym, ap, subst, _∙_}
 use mathlib.Core.Bool.{Bool, true, false}
-use mathlib.Core.List.{List, [], _∷_, _++_}
-use mathlib.Core.Logic.{_⊎_, inl, inr, _≢_}
+use mathlib.Core.List.{List, [], _∷_}
+use mathlib.Core.Logic.{_≢_}
 use native.Mathlib.Omega.{arith}
 use native.Mathlib.Decide.{ℕ-discrete}
 use lib.ListN.{length}
@@ -11,23 +11,21 @@ use lib.Dec.{eqb}
 use borrow.Author.Tests.{eqb-true}
 use Rattle.lists.specs.Find.{pick}
 use Rattle.lists.specs.Tab.{tab}
-use Rattle.lists.proofs.BoolLaws.{no-way, false-true}
 use Rattle.lists.proofs.TabLaws as tabs
 use Rattle.answer.specs.Answers.{accepted}
 use Rattle.image.specs.Layout.{shapeIn, imageIn}
+use Rattle.image.proofs.ShapeLaws.{threads-range, nodes-range}
 use Rattle.machine.specs.Line.{shapeOf}
 use Rattle.machine.specs.Start.{startOf, startWith}
 use Rattle.machine.specs.Event.{Deed, crashes, deedOf, eventAt}
 use Rattle.machine.specs.declared.Machine.{Machine}
 use Rattle.machine.specs.declared.Event.{Event}
 use Rattle.machine.specs.declared.Acted.{Acted}
-use Rattle.schedule.specs.Layout.{countIn, eventIn, eventsIn, scheduleIn, scheduleShape}
-use Rattle.schedule.specs.Run.{Bench, Ran, run, ran, opened, begins, forward, turned, benchAt}
+use Rattle.schedule.specs.Layout.{countIn, eventIn, eventsIn, threadsIn, nodesIn, scheduleIn, scheduleShape, scheduleAnswer}
+use Rattle.schedule.specs.Run.{Bench, Ran, run, ran, opened, begins, turned, benchAt}
 use Rattle.schedule.specs.Running.{benchTo}
-use Rattle.moments.specs.Frame.{Even}
-use Rattle.moments.proofs.Moments as moments
-use Rattle.pageproof.proofs.Even.{even-start}
-use Rattle.pageproof.proofs.Events.{Good}
+use Rattle.codec.proofs.Accepted as codec
+use Rattle.moments.proofs.Known.{Known, known-start, known-run}
 use Rattle.pageproof.proofs.Runs as runs
 use Rattle.onward.proofs.Come.{Come, replyIn, come-none, come-next}
 use Rattle.plainproof.specs.Plain.{startAt, lastStart, startMachine, sinceCount, eventSince}
@@ -87,7 +85,7 @@ module _ (f : ℕ → Event) where
 
 -- ---- events that are all taken
 
-module _ (b₀ : Bench) (g : Good b₀) (f : ℕ → Event) (c : ℕ) (h : runs.Accepts 0 b₀ (tab f c)) where
+module _ (b₀ : Bench) (f : ℕ → Event) (c : ℕ) (h : runs.Accepts 0 b₀ (tab f c)) where
   taken-front : (n i : ℕ) → i ≤ n → runs.Accepts 0 b₀ (tab f n) → runs.Accepts 0 b₀ (tab f i)
   unfolding tab
   taken-front zero i q a = subst (λ (k : ℕ). runs.Accepts 0 b₀ (tab f k)) (let z : 0 ≡ i = omega arith in z) a
@@ -115,41 +113,50 @@ module _ (b₀ : Bench) (g : Good b₀) (f : ℕ → Event) (c : ℕ) (h : runs.
   pub reply-taken : (i : ℕ) → i < c → accepted (replyIn b₀ f i) ≡ true
   reply-taken i q = taken-next i q (come-all i (omega arith))
 
-  pub good-all : (i : ℕ) → i ≤ c → Good (benchAt b₀ f i)
-  good-all i q = subst Good (come-all i q .come) (runs.good-run (tab f i) 0 b₀ g (come-all i q .taken))
+  pub known-all : Known b₀ → (i : ℕ) → i ≤ c → Known (benchAt b₀ f i)
+  known-all k i q = subst Known (come-all i q .come) (known-run (tab f i) 0 b₀ k)
 
   pub shape-all : (i : ℕ) → i ≤ c → shapeOf (benchAt b₀ f i .machine) ≡ shapeOf (b₀ .machine)
-  shape-all i q = ap (λ (b : Bench). shapeOf (b .machine)) (sym (come-all i q .come)) ∙ runs.run-size (tab f i) 0 b₀ g (come-all i q .taken)
+  shape-all i q = ap (λ (b : Bench). shapeOf (b .machine)) (sym (come-all i q .come)) ∙ runs.run-size (tab f i) 0 b₀ (come-all i q .taken)
 
 -- ---- a schedule whose events are all taken
 
-module _ (s : List ℕ) (h : accepted (ran s .answer) ≡ true) where
-  good-open : Good (opened (scheduleIn s))
-  good-open = record { timed = moments.timed-begins _; even = even-start (scheduleIn s .image) (scheduleIn s .t) }
+-- T and N as acceptance has them
+open-known : (s : List ℕ) → accepted (scheduleAnswer s) ≡ true → Known (opened (scheduleIn s))
+unfolding scheduleIn imageIn shapeIn
+open-known s a =
+    let t = codec.schedule-taken s a in
+    known-start (scheduleIn s .image) (scheduleIn s .t) (threads-range (threadsIn s) (t .threads) .1) (nodes-range (nodesIn s) (t .part .nodes) .1)
 
+module _ (s : List ℕ) (h : accepted (ran s .answer) ≡ true) where
   taken-all : runs.Accepts 0 (opened (scheduleIn s)) (tab (eventIn s) (countIn s))
   unfolding ran eventsIn
   taken-all = h
 
   pub come-to : (i : ℕ) → i ≤ countIn s → Come (opened (scheduleIn s)) (eventIn s) i
-  come-to = come-all (opened (scheduleIn s)) good-open (eventIn s) (countIn s) taken-all
+  come-to = come-all (opened (scheduleIn s)) (eventIn s) (countIn s) taken-all
 
   pub reply-to : (i : ℕ) → i < countIn s → accepted (replyIn (opened (scheduleIn s)) (eventIn s) i) ≡ true
-  reply-to = reply-taken (opened (scheduleIn s)) good-open (eventIn s) (countIn s) taken-all
+  reply-to = reply-taken (opened (scheduleIn s)) (eventIn s) (countIn s) taken-all
 
   pub start-within : lastStart s ≤ countIn s
   unfolding lastStart
   start-within = start-le (eventIn s) (countIn s)
 
-  pub since-recorded : Recorded (startMachine s) (eventSince s) (sinceCount s) (λ r. benchTo s (r + lastStart s))
+  -- there the bench begins
+  begun : benchTo s (lastStart s) ≡ begins (startMachine s)
+  unfolding startMachine lastStart
+  begun = start-begins (eventIn s) (startOf (scheduleIn s .image) (scheduleIn s .t)) (countIn s)
+
+  pub since-recorded : accepted (scheduleAnswer s) ≡ true → Recorded (startMachine s) (eventSince s) (sinceCount s) (λ r. benchTo s (r + lastStart s))
   unfolding startMachine sinceCount lastStart benchAt
-  since-recorded = record {
-    even = good-all (opened (scheduleIn s)) good-open (eventIn s) (countIn s) taken-all (lastStart s) start-within .even;
-    first = ap (benchTo s) (let z : 0 + lastStart s ≡ lastStart s = omega arith in z) ∙ start-begins (eventIn s) (startOf (scheduleIn s .image) (scheduleIn s .t)) (countIn s);
+  since-recorded a = record {
+    known = subst Known begun (known-all (opened (scheduleIn s)) (eventIn s) (countIn s) taken-all (open-known s a) (lastStart s) start-within);
+    first = ap (benchTo s) (let z : 0 + lastStart s ≡ lastStart s = omega arith in z) ∙ begun;
     free = λ r q. start-free (eventIn s) (countIn s) (r + lastStart s) (omega arith) (omega arith);
     next = λ r q. (
       r + lastStart s,
-      reply-taken (opened (scheduleIn s)) good-open (eventIn s) (countIn s) taken-all (r + lastStart s) (omega arith),
+      reply-taken (opened (scheduleIn s)) (eventIn s) (countIn s) taken-all (r + lastStart s) (omega arith),
       ap (benchTo s) (let z : suc r + lastStart s ≡ suc (r + lastStart s) = omega arith in z),
     );
   }
@@ -162,4 +169,4 @@ module _ (s : List ℕ) (h : accepted (ran s .answer) ≡ true) where
   -- the shape stays
   pub start-shape : shapeOf (startMachine s) ≡ scheduleShape s
   unfolding startMachine scheduleIn imageIn shapeIn startWith
-  start-shape = shape-all (opened (scheduleIn s)) good-open (eventIn s) (countIn s) taken-all (lastStart s) start-within
+  start-shape = shape-all (opened (scheduleIn s)) (eventIn s) (countIn s) taken-all (lastStart s) start-within

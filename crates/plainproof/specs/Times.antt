@@ -15,12 +15,12 @@ use Rattle.machine.specs.declared.Machine.{Machine}
 use Rattle.machine.specs.declared.Event.{Event}
 use Rattle.machine.specs.declared.Acted.{Acted}
 use Rattle.schedule.specs.Run.{Bench, begins, forward}
-use Rattle.moments.specs.Frame.{Even}
+use Rattle.moments.proofs.Known.{Known}
 use Rattle.plainproof.specs.Plain.{playedAt}
 
 -- a recorded run of e events from a start, none of them a crash, each of them taken: B r is the bench at moment r, f r the event behind it
 pub record Recorded (m : Machine) (f : ℕ → Event) (e : ℕ) (B : ℕ → Bench) : Type 0 where
-  pub even : Even m
+  pub known : Known (begins m)
   pub first : B 0 ≡ begins m
   pub free : (r : ℕ) → r < e → deedOf (f r .kind) ≢ crashes
   pub next : (r : ℕ) → r < e → (p : ℕ) × (accepted (eventAt p (B r .machine) (f r) .answer) ≡ true) × (B (suc r) ≡ forward p (B r) (f r))
