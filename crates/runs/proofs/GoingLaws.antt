@@ -264,7 +264,7 @@ module _ (s : List ℕ) (g : Running) (rows since : List Row) (w : Going s (g .p
   pub going-on : not t ≡ false → (x y : List Row) → Next rows since g r x y → Going s (r .place) (r .machine) x y
   going-on h =
       let n = going-next s (g .place) (g .machine) rows since w lt (subst (λ (z : Running). accepted (z .answer) ≡ true) is (sym told ∙ taken-of t h))
-          (going-even s (g .place) (g .machine) rows since w) in
+      (going-even s (g .place) (g .machine) rows since w) in
       subst (λ (z : Running). (x y : List Row) → Next rows since g z x y → Going s (z .place) (z .machine) x y) (sym is)
       (λ x y q. subst (λ x. Going s (g .place + 1) (eventAt (g .place) (g .machine) (eventIn s (g .place)) .machine) x y) (sym (q .0))
       (subst (Going s (g .place + 1) (eventAt (g .place) (g .machine) (eventIn s (g .place)) .machine) _) (sym (q .1)) n))
