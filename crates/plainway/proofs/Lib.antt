@@ -1,0 +1,5 @@
+pub mod EndingBytes
+pub mod ListLaws
+pub mod ByteLaws
+pub mod NoteLaws
+pub mod WayLaws
