@@ -19,14 +19,19 @@ loop-holds c = (omega arith, laws.noted-none _ _ _)
 
 mul-is-at : tie.Need-mul-is-at Inv-loop μ-loop
 mul-is-at c =
-    let a = c .before .before .args in
+    let a = c .before .before .before .before .args in
     omega (arith, suc-mul (c .before .loop .i) (a .n), mul-le-mul-right (a .n) (c .loop-test .taken))
 
 is-at-requires : tie.Need-is-at-requires Inv-loop μ-loop
-is-at-requires c κs = ?
+is-at-requires c κs =
+    let z = c .before .before .before .before in
+    (omega (arith, suc-mul (c .before .loop .i) (z .args .n), mul-le-mul-right (z .args .n) (c .loop-test .taken)), z .pre .1)
 
 returns : tie.Need-returns Inv-loop μ-loop
-returns c = ?
+returns c =
+    let a = c .before .before .before .before .before .before .args in
+    let p = c .before .before .before .loop in
+    laws.noted-here (a .b .now) (a .x .now) (a .n) (a .c) (p .i) (c .before .before .loop-test .taken) (sym (c .before .is-at .ensures) ∙ c .if1 .taken)
 
 add-i : tie.Need-add-i Inv-loop μ-loop
 add-i c = omega arith
@@ -35,11 +40,14 @@ loop-less : tie.Need-loop-less Inv-loop μ-loop
 loop-less c = omega arith
 
 loop-again : tie.Need-loop-again Inv-loop μ-loop
-loop-again c = ?
+loop-again c =
+    let a = c .before .before .before .before .before .before .args in
+    let p = c .before .before .before .loop in
+    (omega (arith, c .before .before .loop-test .taken), laws.noted-more (a .b .now) (a .x .now) (a .n) (p .i) (p .inv .1) (sym (c .before .is-at .ensures) ∙ c .if1 .left))
 
 returns-2 : tie.Need-returns-2 Inv-loop μ-loop
 returns-2 c =
-    let a = c .before .before .args in
+    let a = c .before .before .before .before .args in
     let p = c .before .loop in
     sym (ap (λ k. isNoted (a .b .now) k (a .x .now) (a .n)) (let e : a .c ≡ p .i = omega arith in e) ∙ p .inv .1)
 
