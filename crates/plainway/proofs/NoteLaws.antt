@@ -79,7 +79,7 @@ unfolding imagesTo tab
 images-next s k = lists.once-more sameImage image-tells (tab (imageAt s) k) (imageAt s k)
 
 -- no more than there are in all
-images-few : (s : List ℕ) (k : ℕ) → k ≤ runsIn s → length (imagesTo s k) ≤ length (plainImages s)
+pub images-few : (s : List ℕ) (k : ℕ) → k ≤ runsIn s → length (imagesTo s k) ≤ length (plainImages s)
 unfolding imagesTo
 images-few s k h =
     let e : runsIn s ≡ k + (runsIn s - k) = omega arith in
