@@ -170,3 +170,9 @@ module _ (s : List ℕ) (h : accepted (ran s .answer) ≡ true) where
   pub start-shape : shapeOf (startMachine s) ≡ scheduleShape s
   unfolding startMachine scheduleIn imageIn shapeIn startWith
   start-shape = shape-all (opened (scheduleIn s)) (eventIn s) (countIn s) taken-all (lastStart s) start-within
+
+  pub ran-shape : shapeOf (ran s .bench .machine) ≡ scheduleShape s
+  unfolding ran eventsIn scheduleIn imageIn shapeIn startWith
+  ran-shape =
+      ap (λ (b : Bench). shapeOf (b .machine)) (come-to (countIn s) (omega arith) .come)
+      ∙ shape-all (opened (scheduleIn s)) (eventIn s) (countIn s) taken-all (countIn s) (omega arith)

@@ -225,3 +225,18 @@ run-next π f m x n n′ i q e =
 
 pub event-since : (s : List ℕ) (z : Shape) (at i : ℕ) → z ≡ scheduleShape s → at ≡ lastStart s → eventFrom s (eventPlace z (i + at)) ≡ eventSince s i
 event-since s z at i e q = ap₂ (λ (x : Shape) (k : ℕ). eventFrom s (eventPlace x (i + k))) e q
+
+-- ---- only the picks of the lines that there are count
+
+module _ (π ρ : List ℕ) (n : ℕ) (same : (j : ℕ) → j < n → getD π j 0 ≡ getD ρ j 0) where
+  backed-same : (r : ℕ) (m : Machine) (k : ℕ) → k ≤ n → backed π r m k ≡ backed ρ r m k
+  unfolding backed
+  backed-same r m zero q = refl
+  backed-same r m (suc k) q =
+      ap₂ (λ (p : ℕ) (x : Machine). pick (eqb p (suc r)) (played x (writeBack k)) x) (same k (omega arith)) (backed-same r m k (omega arith))
+
+  pub played-same : (m : Machine) (f : ℕ → Event) (r : ℕ) → playedAt π n m f r ≡ playedAt ρ n m f r
+  unfolding playedAt
+  played-same m f zero = backed-same 0 m n (omega arith)
+  played-same m f (suc r) =
+      ap (λ (x : Machine). backed π (suc r) (played x (f r)) n) (played-same m f r) ∙ backed-same (suc r) (played (playedAt ρ n m f r) (f r)) n (omega arith)

@@ -48,7 +48,7 @@ turn-begin b n k = ap (λ (i : ℕ). over noPicks 0 (turnOf b i k)) (let z : n �
 
 -- ---- in the order of the choices
 
-tab-append : {A : Type 0} (h : ℕ → A) (a p : ℕ) → tab h (a + p) ≡ tab h a ++ tab (λ i. h (a + i)) p
+pub tab-append : {A : Type 0} (h : ℕ → A) (a p : ℕ) → tab h (a + p) ≡ tab h a ++ tab (λ i. h (a + i)) p
 unfolding tab
 tab-append h a zero = ap (tab h) (let z : a + 0 ≡ a = omega arith in z) ∙ sym (append-nil (tab h a))
 tab-append {A} h a (suc p) =
