@@ -1,9 +1,10 @@
 // The machine one event at a time: calls on a machine record that is handed in. Each tests 18 before all else.
-// Public calls: on_event, apply, save, count_places. act is for the crates above.
+// Public calls: on_event, apply, save, count_places. act and kept_image are for the crates above.
 mod arms;
 mod clean;
 
 pub use arms::act;
+pub use arms::kept_image;
 ghost use mathlib.Core.Path.{_≡_};
 ghost use lib.ListN.{length};
 ghost use Rattle.answer.specs.Answers.{told};
@@ -12,7 +13,6 @@ ghost use Rattle.machine.specs.Place.{countPlaces};
 ghost use Rattle.machine.specs.Saved.{saveAnswer, saved};
 ghost use Rattle.events.specs.Applied.{Applied};
 use answer::Answer;
-use arms::kept_image;
 use machine::Counted;
 use machine::Event;
 use machine::Machine;

@@ -1,0 +1,7 @@
+pub mod EndingBytes
+pub mod ListLaws
+pub mod ByteLaws
+pub mod NoteLaws
+pub mod WayLaws
+pub mod RunLaws
+pub mod Unique
