@@ -34,7 +34,7 @@ pub p1-words : wordsOf P1 ≡ text "nodes 2\nthreads 1\nhead 0\n0 enqueue 7\n0 s
 unfolding P1 p1 four enqueue step zeroNodes schedule text decimal digitsOf joined least linesOn nodeLine eventLine nodeEntry follows runEnd eventEntry entryOf wordsOf atW threadsLine versionLine headLine headAt perDesk formIn marked headLines imageSize nodePlace headerSize nodeSize headsAt widthOf
 p1-words = refl
 
-pub p6-words : wordsOf P6 ≡ text "nodes 3\nthreads 2\nhead 0\n0 enqueue 5\n0 step 8\n1 enqueue 6\n1 step 14\n"
+pub p6-words : wordsOf P6 ≡ text "nodes 3\nthreads 2\nhead 0\n0 enqueue 5\n0 step 8\n1 enqueue 6\n1 step 15\n"
 unfolding P6 p6 four enqueue step zeroNodes schedule text decimal digitsOf joined least linesOn nodeLine eventLine nodeEntry follows runEnd eventEntry entryOf wordsOf atW threadsLine versionLine headLine headAt perDesk formIn marked headLines imageSize nodePlace headerSize nodeSize headsAt widthOf
 p6-words = refl
 
@@ -47,7 +47,7 @@ pub p1-read : fileOf (text "# P1\r\n\n  nodes\t2 # two of them\r\n0 enqueue 007\
 unfolding P1 p1 four enqueue step zeroNodes schedule text joined over digitMore letterMore grown ended lineByte wordOn keyOf grade graded keyIn shapeOf saidBy said actsFrom actsOf indexSaid topOf versionForm nodesSaid versionSaid desksSaid threadsSaid headsSaid headNamed perDesk eventsSaid behindNodes surveyed surveyFrom surveyOf markBytes headLines nodePlace headerSize nodeSize headsAt widthOf headOf blankFile times putBy reachBy putAll fileOf
 p1-read = refl
 
-pub p6-read : fileOf (text "nodes 3\nthreads 2\n0 enqueue 5\n0 step 8\nevent 1 1 6\n1 step 14\n") ≡ P6
+pub p6-read : fileOf (text "nodes 3\nthreads 2\n0 enqueue 5\n0 step 8\nevent 1 1 6\n1 step 15\n") ≡ P6
 unfolding P6 p6 four enqueue step zeroNodes schedule text joined over digitMore letterMore grown ended lineByte wordOn keyOf grade graded keyIn shapeOf saidBy said actsFrom actsOf indexSaid topOf versionForm nodesSaid versionSaid desksSaid threadsSaid headsSaid headNamed perDesk eventsSaid behindNodes surveyed surveyFrom surveyOf markBytes headLines nodePlace headerSize nodeSize headsAt widthOf headOf blankFile times putBy reachBy putAll fileOf
 p6-read = refl
 
@@ -132,12 +132,12 @@ wide-short = refl
 unfoldable pub desks2 : List ℕ
 desks2 = schedule 2 (deskNodes 2 (0 ∷ 3 ∷ [])) (byOne 5)
 
-pub desks-words : wordsOf desks2 ≡ text "nodes 2\ndesks 2\nhead 0 0\nhead 1 3\n0 enqueue 7\n0 step 11\n1 dequeue\n1 step 5\n"
+pub desks-words : wordsOf desks2 ≡ text "nodes 2\ndesks 2\nhead 0 0\nhead 1 3\n0 enqueue 7\n0 step 12\n1 dequeue\n1 step 5\n"
 unfolding desks2 fours deskNodes byOne p1 four enqueue dequeue step schedule text decimal digitsOf joined least linesOn nodeLine eventLine nodeEntry follows runEnd eventEntry entryOf wordsOf atW threadsLine versionLine headLine headAt perDesk formIn marked headLines imageSize nodePlace headerSize nodeSize headsAt widthOf
 desks-words = refl
 
 -- an index that no line says is 0, the last one counts; `threads` may stand before `desks`
-pub desks-read : fileOf (text "nodes 2\nthreads 5\n0 enqueue 7\ndesks 2\nhead 1 9\n0 step 11\n1 dequeue\nhead 1 3\n1 step 5") ≡ desks2
+pub desks-read : fileOf (text "nodes 2\nthreads 5\n0 enqueue 7\ndesks 2\nhead 1 9\n0 step 12\n1 dequeue\nhead 1 3\n1 step 5") ≡ desks2
 unfolding desks2 fours deskNodes byOne p1 four enqueue dequeue step schedule text joined over digitMore letterMore grown ended lineByte wordOn keyOf grade graded keyIn shapeOf saidBy said actsFrom actsOf indexSaid topOf versionForm nodesSaid versionSaid desksSaid threadsSaid headsSaid headNamed perDesk eventsSaid behindNodes surveyed surveyFrom surveyOf markBytes headLines nodePlace headerSize nodeSize headsAt widthOf headOf blankFile times putBy reachBy putAll fileOf
 desks-read = refl
 
