@@ -10,7 +10,7 @@ use Rattle.schedule.specs.Layout.{scheduleShape, countIn}
 use Rattle.lawful.specs.Demand3.{Bytes}
 use Rattle.plainproof.specs.Plain.{lastStart, startMachine, sinceCount, eventSince, linesIn, played, playedAt}
 use Rattle.plainproof.proofs.Since as since
-use Rattle.pageproof.proofs.Holds.{page-ran}
+use Rattle.pageproof.proofs.Holds.{page-ran, page-schedule}
 use Rattle.codec.proofs.Accepted as codec
 use Rattle.onward.proofs.Reached as reached
 use Rattle.plainruns.specs.Playable.{Small, Playable, Planned}
@@ -48,7 +48,7 @@ add-event-at c =
     let k = z .pre .0 in
     let p = c .before .before .before .loop in
     let y : Bytes s = λ j. omega (arith, c .before .before .before .before .before .before .shared-slice-known .given j) in
-    omega (arith, k .at, k .since, c .before .if1 .taken, laws.since-end s y (k .taken) (z .args .picks) (p .i) (omega (arith, k .since, c .before .if1 .taken)), codec.schedule-taken s (laws.page-schedule s (k .taken)) .count)
+    omega (arith, k .at, k .since, c .before .if1 .taken, laws.since-end s y (k .taken) (z .args .picks) (p .i) (omega (arith, k .since, c .before .if1 .taken)), codec.schedule-taken s (page-schedule s (k .taken)) .count)
 
 event-at-requires : tie.Need-event-at-requires Inv-loop μ-loop
 event-at-requires c κs =
@@ -57,7 +57,7 @@ event-at-requires c κs =
     let k = z .pre .0 in
     let p = c .before .before .before .loop in
     let y : Bytes s = λ j. omega (arith, c .before .before .before .before .before .before .shared-slice-known .given j) in
-    reached.event-lies s _ (p .i + z .args .p .at) (p .inv .0) (laws.page-schedule s (k .taken))
+    reached.event-lies s _ (p .i + z .args .p .at) (p .inv .0) (page-schedule s (k .taken))
     (omega (arith, k .at, laws.since-end s y (k .taken) (z .args .picks) (p .i) (omega (arith, k .since, c .before .if1 .taken))))
 
 play-requires : tie.Need-play-requires Inv-loop μ-loop

@@ -13,7 +13,7 @@ line-at-requires c κs = search needs
 persist-line-requires : tie.Need-persist-line-requires
 persist-line-requires c κs =
     let z = c .before in
-    laws.there (z .args .m) _ (z .args .j) (z .pre .0) (z .pre .1) (c .line-at .ensures)
+    (z .pre .0 .threads, laws.there (z .args .m) _ (z .args .j) (z .pre .0) (z .pre .1) (c .line-at .ensures))
 
 returns : tie.Need-returns
 returns c = let z = c .before .before in
