@@ -2,11 +2,11 @@
 use Prim.Native.Nat.{ℕ, zero, suc, _+_, _≤_, _<_}
 use mathlib.Core.Path.{_≡_, refl, sym, ap, ap₂, subst, _∙_}
 use mathlib.Core.Bool.{Bool, true, false, not}
-use mathlib.Core.List.{List, [], _∷_}
+use mathlib.Core.List.{List}
 use native.Mathlib.Omega.{arith}
 use native.Mathlib.Numerals.{add-one}
-use lib.ListN.{length, getD}
-use lib.Dec.{eqb, leb}
+use lib.ListN.{getD}
+use lib.Dec.{eqb}
 use borrow.Author.Tests.{leb-false}
 use Rattle.lists.specs.Find.{pick}
 use Rattle.lists.specs.Tab.{tab}
@@ -20,16 +20,16 @@ use Rattle.machine.specs.Line.{shapeOf, lineCount, lineAt}
 use Rattle.machine.specs.Stage.{busy}
 use Rattle.machine.specs.Retire.{quiet}
 use Rattle.machine.specs.Range.{inRange}
-use Rattle.machine.specs.Event.{Deed, enqueues, dequeues, steps, writesBack, deedOf, threadTooLarge, itemNotZero, eventAnswer, done, eventAt}
+use Rattle.machine.specs.Event.{Deed, enqueues, dequeues, steps, deedOf, threadTooLarge, itemNotZero, eventAnswer, done, eventAt}
 use Rattle.machine.specs.declared.Line.{Line}
 use Rattle.machine.specs.declared.Machine.{Machine}
 use Rattle.machine.specs.declared.Event.{Event}
 use Rattle.machine.specs.declared.Acted.{Acted}
 use Rattle.machine.proofs.LineLaws.{line-in}
-use Rattle.schedule.specs.Layout.{scheduleAnswer, scheduleIn, eventFrom, eventPlace, eventIn, countIn, scheduleShape}
-use Rattle.schedule.specs.Run.{Bench, Ran, ran}
+use Rattle.schedule.specs.Layout.{eventFrom, eventPlace, eventIn, countIn, scheduleShape}
+use Rattle.schedule.specs.Run.{Bench, ran}
 use Rattle.schedule.specs.Running.{benchTo}
-use Rattle.page.specs.Refusals.{tableIn, tableAnswer, pageAnswer}
+use Rattle.page.specs.Refusals.{pageAnswer}
 use Rattle.lawful.specs.Added.{writeBack}
 use Rattle.lawful.specs.Demand3.{Bytes}
 use Rattle.moments.proofs.Frame.{frame-persist}

@@ -11,7 +11,7 @@ use Rattle.machine.specs.declared.Machine.{Machine}
 use Rattle.machine.specs.declared.Event.{Event}
 use Rattle.page.specs.Refusals.{pageAnswer}
 use Rattle.steps.specs.Ready.{Ready}
-use Rattle.plainproof.specs.Plain.{lastStart, startMachine, sinceCount, linesIn}
+use Rattle.plainproof.specs.Plain.{lastStart, startMachine, sinceCount}
 use Rattle.plainruns.specs.declared.Plan.{Plan}
 
 -- the machine's tables have places for all its lines, its sets for all its threads

@@ -1,19 +1,17 @@
-use Prim.Native.Nat.{ℕ, _+_, _-_, _<_, _≤_}
-use mathlib.Core.Path.{_≡_, refl, sym, ap, ap₂, subst, _∙_}
+use Prim.Native.Nat.{_+_, _-_, _<_, _≤_}
+use mathlib.Core.Path.{_≡_, sym, ap, ap₂, subst, _∙_}
 use native.Mathlib.Omega.{arith}
-use borrow.Author.Needs.{needs}
-use Rattle.image.specs.declared.Shape.{Shape}
 use Rattle.machine.specs.Line.{shapeOf, lineCount}
 use Rattle.machine.specs.declared.Machine.{Machine}
 use Rattle.machine.specs.declared.Event.{Event}
-use Rattle.schedule.specs.Layout.{scheduleShape, countIn}
+use Rattle.schedule.specs.Layout.{scheduleShape}
 use Rattle.lawful.specs.Demand3.{Bytes}
-use Rattle.plainproof.specs.Plain.{lastStart, startMachine, sinceCount, eventSince, linesIn, played, playedAt}
+use Rattle.plainproof.specs.Plain.{startMachine, sinceCount, eventSince, linesIn, played, playedAt}
 use Rattle.plainproof.proofs.Since as since
 use Rattle.pageproof.proofs.Holds.{page-ran, page-schedule}
 use Rattle.codec.proofs.Accepted as codec
 use Rattle.onward.proofs.Reached as reached
-use Rattle.plainruns.specs.Playable.{Small, Playable, Planned}
+use Rattle.plainruns.specs.Playable.{Small, Playable}
 use Rattle.plainruns.proofs.PlayLaws as laws
 use Rattle.plainruns.proofs.playing.run_picked.Statement.{statement}
 use Rattle.plainruns.proofs.playing.run_picked.Tie as tie
