@@ -2,7 +2,7 @@
 #include "second.h"
 
 static u8 *out_at;
-static u32 version_said; /* by the text at hand, so that its indices can be as large as they may be */
+static u32 version_said; /* by the text at hand, so that its indices can be as large as they may be; DESKS where it said `desks` */
 
 static void add_byte(u32 byte)
 {
@@ -94,6 +94,7 @@ static void add_damage(void)
         "nodes", "nodes 2", "node 0 1 2", "Crash", "crash 1", "0 steps", "0 enqueue", "0 dequeue 1", "write back 1", "write-back", "-1 step",
         "0 step -1", "event 1 2", "event 1 2 3 4", "0x1 step", "step 0", "1 2 3 4 5 6", "a b c d e f g", "write-backs 1", "0", "~", "0 step9",
         "abcdefghijk", "threads", "head a", "enqueue 0 1", "version", "version 1 2", "version two", "version -1", "versions 2", "Version 2", "2 version", "version2",
+        "desks", "desks 1 2", "desk 2", "2 desks", "head 0 1 2", "head 0 a", "head a 0", "heads 0 1",
     };
     if (chance(80))
         add_word(wrong[below(sizeof wrong / sizeof wrong[0])]);
@@ -117,13 +118,23 @@ enum { INDICES = 2 }; /* the first lines of the list are those with an index */
 
 static void add_line(u32 nodes, u32 strange, u32 from)
 {
-    static const char *const lines[] = {
-        "head ^", "node % % ^ %", "threads %", "% enqueue %", "% dequeue", "% step", "% step %", "% step %", "write-back %", "crash", "event % % %",
+    /* A text that said `desks` names the desk of a head index; seldom the other way round. */
+    const char *head = (version_said == DESKS) != chance(2) ? "head % ^" : "head ^", *threads = version_said == DESKS && !chance(3) ? "% step" : "threads %";
+    const char *const lines[] = {
+        head, "node % % ^ %", threads, "% enqueue %", "% dequeue", "% step", "% step %", "% step %", "write-back %", "crash", "event % % %",
     };
     if (chance(8))
         add_blanks();
     if (chance(90))
         add_pattern(lines[from + below(sizeof lines / sizeof lines[0] - from)], nodes ? nodes : 1, strange);
+    end_line();
+}
+
+/* T at once with the form. */
+static void add_desks(u32 strange)
+{
+    version_said = DESKS;
+    add_pattern("desks %", 9, strange);
     end_line();
 }
 
@@ -151,8 +162,10 @@ static void add_too_early(void)
 {
     if (chance(40)) {
         add_version(40);
+    } else if (chance(15)) {
+        add_desks(20);
     } else if (chance(50)) {
-        add_pattern(chance(50) ? "head ^" : "node % % ^ %", 3, 60);
+        add_pattern(chance(40) ? "head ^" : chance(40) ? "head % ^" : "node % % ^ %", 3, 60);
         end_line();
     } else {
         add_line(3, 40, 0);
@@ -160,12 +173,15 @@ static void add_too_early(void)
     version_said = NARROW;
 }
 
-/* The version's line, at once or behind lines without an index. */
+/* The line of the version or of the desks, at once or behind lines without an index. */
 static void add_version_in_time(u32 nodes, u32 strange)
 {
     for (u32 n = chance(60) ? 0 : below(6); n > 0; n--)
         add_line(nodes, strange, INDICES);
-    add_version(6);
+    if (chance(40))
+        add_desks(6);
+    else
+        add_version(6);
 }
 
 u64 generate_text(u64 seed, u64 number, u8 *to)
@@ -174,7 +190,7 @@ u64 generate_text(u64 seed, u64 number, u8 *to)
     out_at = to;
     version_said = NARROW;
     u32 nodes = chance(90) ? 2 + below(6) : below(256), strange = chance(50) ? 0 : chance(80) ? 1 : 8, damaged = chance(75) ? 0 : 4;
-    u32 again = chance(85) ? 0 : 10; /* for `version` a second time, or behind an index */
+    u32 again = chance(85) ? 0 : 10; /* for `version` or `desks` a second time, or behind an index */
     while (chance(15))
         end_line();
     if (chance(4))
@@ -195,7 +211,10 @@ u64 generate_text(u64 seed, u64 number, u8 *to)
             add_damage();
             end_line();
         } else if (chance(again)) {
-            add_version(30);
+            if (chance(30))
+                add_desks(20);
+            else
+                add_version(30);
         } else {
             add_line(nodes, strange, 0);
         }

@@ -1,7 +1,7 @@
 /* Schedules in words, both ways, from docs/WORDS.md. A line is cut into words first, then held against one pattern after another. */
 #include "second.h"
 
-enum { MOST_WORDS = 5, MOST_EVENTS = 65535, MOST_NODES = 255 };
+enum { MOST_WORDS = 5, MOST_EVENTS = 65535, MOST_NODES = 255, MOST_DESKS = 255 };
 enum { GOOD = 0, NOT_UNDERSTOOD = 1, NUMBER_TOO_BIG = 2, EVENTS_TOO_MANY = 3, NO_ROOM_FOR_IT = 4 };
 
 typedef struct Piece {
@@ -17,11 +17,11 @@ typedef struct Cut_line {
 /* What has been said so far. */
 typedef struct Telling {
     int named;     /* `nodes` has stood */
-    int versioned; /* `version` has stood */
+    int versioned; /* `version` or `desks` has stood */
     int indexed;   /* a `head` or `node` has stood */
     u32 n, t;
-    u32 version; /* NARROW or WIDE, by the same numbers */
-    u64 head;
+    u32 form;              /* NARROW or WIDE, by the version's number, or DESKS */
+    u64 heads[MOST_DESKS]; /* one of each desk, or the first one alone */
     Content nodes[MOST_NODES];
     Event events[MOST_EVENTS];
     u32 event_count;
@@ -95,7 +95,7 @@ typedef struct Pattern {
     u32 what; /* a kind of event, or one of those below */
 } Pattern;
 
-enum { ANY_KIND = 100, NODES, THREADS, VERSION, HEAD, NODE };
+enum { ANY_KIND = 100, NODES, THREADS, DESKS_LINE, VERSION, HEAD, HEAD_OF_DESK, NODE };
 
 #define BYTE 255u
 #define WORD 4294967295u
@@ -104,8 +104,10 @@ enum { ANY_KIND = 100, NODES, THREADS, VERSION, HEAD, NODE };
 static const Pattern patterns[] = {
     {{"nodes", "%"}, {0, BITS_64}, 2, NODES},
     {{"threads", "%"}, {0, BYTE}, 2, THREADS},
+    {{"desks", "%"}, {0, BYTE}, 2, DESKS_LINE},
     {{"version", "%"}, {0, BITS_64}, 2, VERSION},
     {{"head", "^"}, {0}, 2, HEAD},
+    {{"head", "%", "^"}, {0, BITS_64, 0}, 3, HEAD_OF_DESK},
     {{"node", "%", "%", "^", "%"}, {0, BITS_64, BYTE, 0, WORD}, 5, NODE},
     {{"%", "enqueue", "%"}, {BYTE, 0, WORD}, 3, BEGIN_ENQUEUE},
     {{"%", "dequeue"}, {BYTE}, 2, BEGIN_DEQUEUE},
@@ -121,10 +123,10 @@ static int is_place(const char *word)
     return word[0] == '%' || word[0] == '^';
 }
 
-/* "H and INDEX are held against the version that was said, and against version 1 where none was." */
+/* "H and INDEX are held against the form that was said, and against version 1 where none was." */
 static u64 most_at(const Pattern *p, u32 i)
 {
-    return p->words[i][0] == '^' ? largest_index(telling.version) : p->most[i];
+    return p->words[i][0] == '^' ? largest_index(telling.form) : p->most[i];
 }
 
 /* Whether all words of the pattern that are no numbers stand there; then its numbers, and the worst that is wrong with one. */
@@ -170,20 +172,56 @@ static u32 say_nodes(u64 n)
     return GOOD;
 }
 
-/* "only once, and in front of every `head` and `node`" */
-static u32 say_version(u64 version)
+/* `version` or `desks`: "one of the two, only once, and in front of every `head` and `node`" */
+static u32 say_form(u32 form)
 {
-    if (telling.versioned || telling.indexed || (version != NARROW && version != WIDE))
+    if (telling.versioned || telling.indexed)
         return NOT_UNDERSTOOD;
     telling.versioned = 1;
-    telling.version = (u32)version;
+    telling.form = form;
+    return GOOD;
+}
+
+static u32 say_version(u64 version)
+{
+    return version == NARROW || version == WIDE ? say_form((u32)version) : NOT_UNDERSTOOD;
+}
+
+static u32 say_desks(u64 t)
+{
+    if (say_form(DESKS) != GOOD)
+        return NOT_UNDERSTOOD;
+    telling.t = (u32)t;
+    return GOOD;
+}
+
+/* "not behind `desks`" */
+static u32 say_threads(u64 t)
+{
+    if (telling.form == DESKS)
+        return NOT_UNDERSTOOD;
+    telling.t = (u32)t;
     return GOOD;
 }
 
 static u32 say_head(u64 index)
 {
+    if (telling.form == DESKS)
+        return NOT_UNDERSTOOD;
     telling.indexed = 1;
-    telling.head = index;
+    telling.heads[0] = index;
+    return GOOD;
+}
+
+/* "behind `desks` alone": K is below T */
+static u32 say_head_of_desk(u64 desk, u64 index)
+{
+    if (telling.form != DESKS)
+        return NOT_UNDERSTOOD;
+    if (desk >= telling.t)
+        return NUMBER_TOO_BIG;
+    telling.indexed = 1;
+    telling.heads[desk] = index;
     return GOOD;
 }
 
@@ -204,9 +242,11 @@ static u32 say(const Pattern *p, const u64 *numbers)
     if (!telling.named)
         return NOT_UNDERSTOOD;
     switch (p->what) {
-    case THREADS: telling.t = (u32)numbers[0]; return GOOD;
+    case THREADS: return say_threads(numbers[0]);
+    case DESKS_LINE: return say_desks(numbers[0]);
     case VERSION: return say_version(numbers[0]);
     case HEAD: return say_head(numbers[0]);
+    case HEAD_OF_DESK: return say_head_of_desk(numbers[0], numbers[1]);
     case NODE: return say_node(numbers);
     case BEGIN_ENQUEUE: return say_events(BEGIN_ENQUEUE, numbers[0], numbers[1], 1);
     case STEP: return say_events(STEP, numbers[0], 0, p->count == 3 ? numbers[1] : 1);
@@ -235,9 +275,10 @@ static u32 listen(const u8 *text, u64 length, u64 *at_line)
     Content blank = {0, 0, 0, 0};
     telling.named = telling.versioned = telling.indexed = 0;
     telling.t = 1;
-    telling.version = NARROW;
+    telling.form = NARROW;
     telling.n = telling.event_count = 0;
-    telling.head = 0;
+    for (u32 i = 0; i < MOST_DESKS; i++)
+        telling.heads[i] = 0;
     for (u32 i = 0; i < MOST_NODES; i++)
         telling.nodes[i] = blank;
     for (*at_line = 0;; ++*at_line) {
@@ -266,15 +307,18 @@ static void put_mark(u8 *to, u8 letter, u32 version)
 static u64 told_bytes(u8 *to)
 {
     u8 *at = to;
-    u32 form = telling.version;
+    u32 form = telling.form;
     put_mark(at, 'S', 1);
     at[5] = (u8)telling.t;
     put2(at + 6, telling.event_count);
     at += SCHEDULE_HEAD;
-    put_mark(at, 'I', form);
+    put_mark(at, form == DESKS ? 'P' : 'I', form == DESKS ? 1 : form);
     at[5] = (u8)telling.n;
-    put_index(form, at + 6, telling.head);
-    at += image_head(form);
+    at += 6;
+    if (form == DESKS)
+        *at++ = (u8)telling.t;
+    for (u32 i = 0; i < head_lines(form, telling.t); i++, at += index_bytes(form))
+        put_index(form, at, telling.heads[i]);
     for (u32 i = 0; i < telling.n; i++, at += image_node(form)) {
         at[0] = (u8)telling.nodes[i].linked;
         put_index(form, at + 1, telling.nodes[i].index);
@@ -285,7 +329,7 @@ static u64 told_bytes(u8 *to)
     return (u64)(at - to);
 }
 
-/* 396,547 bytes: the image of version 2 is the longer one. */
+/* 396,547 bytes: the image of version 2 is the longest. */
 static u8 made[SCHEDULE_HEAD + 14 + 13 * MOST_NODES + EVENT_BYTES * MOST_EVENTS];
 
 /* A line: what is wrong, its line, and the bytes in hex. */
@@ -338,58 +382,81 @@ static void put_event_line(const Schedule *s, u32 i, u32 times)
     put_text("\n");
 }
 
-/* "entry 2 is the head's with the version's before it where it has one" */
-static void put_first_lines(const Schedule *s, u32 k)
+static u32 lines_of(const Schedule *s)
 {
-    if (k == 2 && s->image.form != NARROW) {
-        put_blank_number("version ", s->image.form);
-        put_text("\n");
+    return head_lines(s->image.form, s->t);
+}
+
+/* "of "UQI" one, with the version's before it where it has one; of "UQP" one for each desk" */
+static void put_head_entry(const Schedule *s, u32 k)
+{
+    if (s->image.form == DESKS) {
+        put_blank_number("head ", k);
+        put_blank_number(" ", s->image.desks[k]);
+    } else {
+        if (s->image.form != NARROW) {
+            put_blank_number("version ", s->image.form);
+            put_text("\n");
+        }
+        put_blank_number("head ", s->image.head_index);
     }
-    put_blank_number(k == 0 ? "nodes " : k == 1 ? "threads " : "head ", k == 0 ? s->image.n : k == 1 ? s->t : s->image.head_index);
     put_text("\n");
 }
 
-/* Entry k: one of the first three, a node, or an event. */
+static void put_node_entry(const Schedule *s, u32 i)
+{
+    Content c = s->image.nodes[i];
+    if (c.linked == 0 && c.index == 0 && c.item == 0)
+        return;
+    put_blank_number("node ", i);
+    put_blank_number(" ", c.linked);
+    put_blank_number(" ", c.index);
+    put_blank_number(" ", c.item);
+    put_text("\n");
+}
+
+static void put_event_entry(const Schedule *s, u32 i)
+{
+    u32 times = 1;
+    Event e = event_at(s, i);
+    if (is_step(e)) {
+        if (i > 0 && is_step(event_at(s, i - 1)) && event_at(s, i - 1).number == e.number)
+            return;
+        while (i + times < s->event_count && is_step(event_at(s, i + times)) && event_at(s, i + times).number == e.number)
+            times++;
+    }
+    put_event_line(s, i, times);
+}
+
+/* Entry k: N, T, a head line, a node, or an event. */
 static void put_entry(const Schedule *s, u32 k)
 {
-    if (k < 3) {
-        put_first_lines(s, k);
-    } else if (k < 3 + s->image.n) {
-        Content c = s->image.nodes[k - 3];
-        if (c.linked == 0 && c.index == 0 && c.item == 0)
-            return;
-        put_blank_number("node ", k - 3);
-        put_blank_number(" ", c.linked);
-        put_blank_number(" ", c.index);
-        put_blank_number(" ", c.item);
+    u32 heads = 2 + lines_of(s), nodes = heads + s->image.n;
+    if (k < 2) {
+        put_blank_number(k == 0 ? "nodes " : s->image.form == DESKS ? "desks " : "threads ", k == 0 ? s->image.n : s->t);
         put_text("\n");
+    } else if (k < heads) {
+        put_head_entry(s, k - 2);
+    } else if (k < nodes) {
+        put_node_entry(s, k - heads);
     } else {
-        u32 i = k - 3 - s->image.n, times = 1;
-        Event e = event_at(s, i);
-        if (is_step(e)) {
-            if (i > 0 && is_step(event_at(s, i - 1)) && event_at(s, i - 1).number == e.number)
-                return;
-            while (i + times < s->event_count && is_step(event_at(s, i + times)) && event_at(s, i + times).number == e.number)
-                times++;
-        }
-        put_event_line(s, i, times);
+        put_event_entry(s, k - nodes);
     }
 }
 
 static u32 entry_count(const Schedule *s)
 {
-    return 3 + s->image.n + s->event_count;
+    return 2 + lines_of(s) + s->image.n + s->event_count;
 }
 
-/* The words know "UQI" versions 1 and 2 alone: a schedule on "UQP" is read as any other, and 2 where it is taken up to its events. The form that request
-   113 brings is a wrong one here, also where it is on. */
+/* The form that request 113 brings has no words yet: it is a wrong one here, also where it is on. */
 static Verdict read_spoken(const u8 *bytes, u64 length, Schedule *s)
 {
     int queues = on(QUEUES_TOO);
     set(QUEUES_TOO, 0);
     Verdict v = read_schedule(bytes, length, s);
     set(QUEUES_TOO, (u32)queues);
-    return v.number == TAKEN && s->image.form == DESKS ? verdict(WRONG_MARK, 0) : v;
+    return v;
 }
 
 static void print_words(const u8 *bytes, u64 length)

@@ -27,7 +27,7 @@ fn put_part(out: &mut [u8; 65536], at: usize, s: &[u8], n: usize) -> usize {
 }
 
 fn answer_words(s: &[u8], out: &mut [u8; 65536], at: usize) -> usize {
-    let mut lent = [0u8; 266432];
+    let mut lent = [0u8; 266880];
     let w = desk::spell_lines(s, 0, &mut lent);
     let a = w.answer;
     let t = told_of(a);

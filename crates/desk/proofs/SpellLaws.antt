@@ -1,7 +1,7 @@
 -- What the call gives, by the tests that a schedule, an entry's number and a buffer pass.
-use Prim.Native.Nat.{ℕ, _+_, _-_, _≤_, _<_}
-use mathlib.Core.Path.{_≡_, refl, sym, ap, subst, _∙_}
-use mathlib.Core.Bool.{Bool, true, false, not}
+use Prim.Native.Nat.{ℕ, _-_, _≤_, _<_}
+use mathlib.Core.Path.{_≡_, refl, sym, ap, _∙_}
+use mathlib.Core.Bool.{true, false}
 use mathlib.Core.List.{List, []}
 use native.Mathlib.Omega.{arith}
 use native.Mathlib.Decide.{decLt}
@@ -10,12 +10,11 @@ use lib.ListN.{length}
 use Rattle.lists.specs.Tab.{over}
 use Rattle.answer.specs.Answers.{told, accepted}
 use Rattle.answer.specs.declared.Answer.{Answer}
-use Rattle.answer.specs.declared.Answer.the-variants.{Taken, Mark, NoEnding, Room}
-use Rattle.image.specs.Form.{perDesk}
+use Rattle.answer.specs.declared.Answer.the-variants.{Taken, NoEnding, Room}
 use Rattle.schedule.specs.Layout.{scheduleAnswer}
 use Rattle.page.specs.Filled.{linesOn, fitting}
 use Rattle.printing.proofs.Fittings as fits
-use Rattle.spelling.specs.Writing.{imageForm, entryOf, entriesIn, spellAnswer, spellTaken, spellBytes, spellWritten}
+use Rattle.spelling.specs.Writing.{entryOf, entriesIn, spellAnswer, spellTaken, spellBytes, spellWritten}
 
 module _ (s : List ℕ) (k : ℕ) (b : List ℕ) where
   abbrev pub Gives : Answer → ℕ → ℕ → List ℕ → Type 0
@@ -29,23 +28,18 @@ module _ (s : List ℕ) (k : ℕ) (b : List ℕ) where
   unfolding spellAnswer
   refused h = rw (h, spellAnswer) refl
 
-  pub no-words : accepted (scheduleAnswer s) ≡ true → imageForm s ≡ 4 → spellAnswer s k (length b) ≡ Mark
-  unfolding spellAnswer perDesk
-  no-words h f = rw (h, spellAnswer) (rw f refl)
-
-  -- where there are words
-  module _ (h : accepted (scheduleAnswer s) ≡ true) (w : perDesk (imageForm s) ≡ false) where
+  module _ (h : accepted (scheduleAnswer s) ≡ true) where
     pub beyond : entriesIn s ≤ k → spellAnswer s k (length b) ≡ NoEnding
     unfolding spellAnswer
-    beyond p = rw (h, spellAnswer) (rw (w, le-ltb k (entriesIn s) p) refl)
+    beyond p = rw (h, spellAnswer) (rw (le-ltb k (entriesIn s) p) refl)
 
     pub no-room : k < entriesIn s → length b < length (entryOf s k) → spellAnswer s k (length b) ≡ Room
     unfolding spellAnswer
-    no-room p q = rw (h, spellAnswer) (rw (w, lt-ltb k (entriesIn s) p, lt-ltb (length b) (length (entryOf s k)) q) refl)
+    no-room p q = rw (h, spellAnswer) (rw (lt-ltb k (entriesIn s) p, lt-ltb (length b) (length (entryOf s k)) q) refl)
 
     pub some : k < entriesIn s → length (entryOf s k) ≤ length b → spellAnswer s k (length b) ≡ Taken
     unfolding spellAnswer
-    some p q = rw (h, spellAnswer) (rw (w, lt-ltb k (entriesIn s) p, le-ltb (length b) (length (entryOf s k)) q) refl)
+    some p q = rw (h, spellAnswer) (rw (lt-ltb k (entriesIn s) p, le-ltb (length b) (length (entryOf s k)) q) refl)
 
   -- ---- what is written
 

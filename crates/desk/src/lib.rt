@@ -7,11 +7,14 @@ ghost use Rattle.spelling.specs.Reading.{tells, readAnswer, readBytes, readWrit
 use answer::Answer;
 use answer::is_taken;
 use codec::open_schedule;
+use image::Shape;
+use image::head_lines;
 use spelling::Said;
 use spelling::Spelled;
 use spelling::Spelt;
 use wordreader::layout::EVENT;
 use wordreader::layout::node_start;
+use wordreader::layout::shape_said;
 use wordreader::put_blank;
 use wordreader::put_text;
 use wordreader::survey_of;
@@ -27,9 +30,8 @@ fn no_entries(a: Answer) -> Spelled
     }
 }
 
-// As many entries of the words of a schedule as fit into the lent buffer, from entry k on; the bytes behind them stay. 2 where the image is "UQP",
-// which has no words; 16 where there is no entry k, 17 where not even that one fits, which a buffer of 64 bytes never meets. On a refusal nothing
-// is written.
+// As many entries of the words of a schedule as fit into the lent buffer, from entry k on; the bytes behind them stay. 16 where there is no entry k,
+// 17 where not even that one fits, which a buffer of 64 bytes never meets. On a refusal nothing is written.
 pub fn spell_lines(s: &[u8], k: u64, b: &mut [u8]) -> Spelled
     ensures answers { λ r. ⌜ told (r .answer) ≡ told (spellAnswer (now (s .entry)) k (length (now (b .entry)))) ⌝ }
     ensures entries { λ r. ⌜ r .entries ≡ spellTaken (now (s .entry)) k (length (now (b .entry))) ⌝ }
@@ -43,10 +45,12 @@ pub fn spell_lines(s: &[u8], k: u64, b: &mut [u8]) -> Spelled
     }
     let d = o.schedule;
     let g = d.image;
-    if g.form == 4 {
-        return no_entries(Answer::Mark);
-    }
-    let to = 3 + (g.n as usize) + (d.count as usize);
+    let lines = head_lines(Shape {
+        form: g.form,
+        n: g.n,
+        t: d.t,
+    });
+    let to = 2 + lines + (g.n as usize) + (d.count as usize);
     if (to as u64) <= k {
         return no_entries(Answer::NoEnding);
     }
@@ -94,13 +98,14 @@ pub fn read_words(t: &[u8], b: &mut [u8]) -> Spelt
         return not_spelt(Said::Strange(s.last));
     }
     let count = v.count as usize;
-    let from = node_start(v.form, v.n as usize);
+    let g = shape_said(v);
+    let from = node_start(g, g.n as usize);
     let z = from + count * EVENT;
     if b.len() < z {
         return not_spelt(Said::Room);
     }
     put_blank(b, v);
-    put_text(t, b, v.form, z, from);
+    put_text(t, b, g, z, from);
     Spelt {
         answer: Said::Taken,
         bytes: z,

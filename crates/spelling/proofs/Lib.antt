@@ -1,1 +1,1 @@
-pub mod WordedLaws
+pub mod PlaceLaws

@@ -1,7 +1,7 @@
 -- What a line says. A kind of line is one entry of `saidBy`: its word, where that stands, how many words there are, and the bounds of its numbers.
 use Prim.Native.Nat.{ℕ, _+_, _*_, _%_}
 use Prim.Native.String.{String}
-use mathlib.Core.Bool.{Bool, true, false}
+use mathlib.Core.Bool.{true, false}
 use mathlib.Core.List.{List, [], _∷_}
 use lib.ListN.{getD}
 use lib.Dec.{eqb, ltb, leb}
@@ -57,7 +57,7 @@ saidBy shape u v w x y =
     pick (eqb shape 0) (act 0 0 0 0 0)
     (pick (eqb shape (firstIs "nodes" 2)) (graded (grade v wide) (act 1 (v .value) 0 0 0))
     (pick (eqb shape (firstIs "threads" 2)) (graded (grade v byte) (act 2 (v .value) 0 0 0))
-    (pick (eqb shape (firstIs "head" 2)) (graded (grade v wide) (act 3 (v .value) 0 0 0))
+    (pick (eqb shape (firstIs "head" 2)) (graded (grade v wide) (act 3 0 (v .value) 0 0))
     (pick (eqb shape (firstIs "node" 5))
     (graded (worse (worse (grade v wide) (grade w byte)) (worse (grade x wide) (grade y word))) (act 4 (v .value) (w .value) (x .value) (y .value)))
     (pick (eqb shape (secondIs "enqueue" 3)) (graded (worse (grade u byte) (grade w word)) (act 5 1 (u .value) (w .value) 1))
@@ -69,7 +69,9 @@ saidBy shape u v w x y =
     (pick (eqb shape (firstIs "event" 4))
     (graded (worse (grade v byte) (worse (grade w byte) (grade x word))) (act 5 (v .value) (w .value) (x .value) 1))
     (pick (eqb shape (firstIs "version" 2)) (graded (grade v wide) (act 6 (v .value) 0 0 0))
-    (act 8 0 0 0 0)))))))))))))
+    (pick (eqb shape (firstIs "desks" 2)) (graded (grade v byte) (act 7 (v .value) 0 0 0))
+    (pick (eqb shape (firstIs "head" 3)) (graded (worse (grade v wide) (grade w wide)) (act 3 (v .value) (w .value) 1 0))
+    (act 8 0 0 0 0)))))))))))))))
 
 abbrev pub wordAt : Line → ℕ → Word
 wordAt l i = getD (l .words) i noWord

@@ -1,6 +1,6 @@
--- A schedule in words. Entry by entry: N, T, version and head index, each node, each event. Version 1 has no line, nor has an all-zero node, nor a
--- step like the one before it.
-use Prim.Native.Nat.{ℕ, suc, _+_, _-_}
+-- A schedule in words. Entry by entry: N, T, each head line, each node, each event. The form is said where it differs: the version before the head
+-- index, one head index per desk with T. An all-zero node has no line, nor has a step like the one before it.
+use Prim.Native.Nat.{ℕ, _+_, _-_, _*_}
 use mathlib.Core.Bool.{Bool, true, false, not}
 use mathlib.Core.List.{List, [], _++_}
 use lib.ListN.{length}
@@ -10,25 +10,31 @@ use Rattle.lists.specs.Tab.{over}
 use Rattle.lists.specs.Text.{text, decimal}
 use Rattle.answer.specs.Answers.{check, accepted}
 use Rattle.answer.specs.declared.Answer.{Answer}
-use Rattle.answer.specs.declared.Answer.the-variants.{Taken, Mark, NoEnding, Room}
+use Rattle.answer.specs.declared.Answer.the-variants.{Taken, NoEnding, Room}
 use Rattle.image.specs.Bytes.{atW}
-use Rattle.image.specs.Form.{widthOf, headsAt, nodePlace, perDesk}
+use Rattle.image.specs.Form.{widthOf, headsAt, headLines, nodePlace, perDesk}
 use Rattle.image.specs.Layout.{formIn, readContent}
 use Rattle.image.specs.declared.Content.{Content}
 use Rattle.machine.specs.declared.Event.{Event}
-use Rattle.schedule.specs.Layout.{threadsIn, countIn, nodesIn, imagePart, eventIn, scheduleAnswer}
+use Rattle.schedule.specs.Layout.{threadsIn, countIn, nodesIn, imagePart, scheduleShape, eventIn, scheduleAnswer}
 use Rattle.page.specs.Printed.{newline}
-use Rattle.spelling.specs.Layout.{spelledShape}
 use Rattle.page.specs.Filled.{linesOn, fitting}
 
 -- ---- lines
+
+-- T; #101: `desks` where each of them has a head index
+unfoldable pub threadsLine : ℕ → ℕ → List ℕ
+threadsLine f t = pick (perDesk f) (text "desks " ++ decimal t ++ newline) (text "threads " ++ decimal t ++ newline)
 
 -- the version of "UQI" is its form's number
 unfoldable pub versionLine : ℕ → List ℕ
 versionLine f = pick (eqb f 1) [] (text "version " ++ decimal f ++ newline)
 
-unfoldable pub headLine : ℕ → ℕ → List ℕ
-headLine f x = versionLine f ++ (text "head " ++ decimal x ++ newline)
+-- head line k, which a form with several of them names
+unfoldable pub headLine : ℕ → ℕ → ℕ → List ℕ
+headLine f k x =
+    pick (perDesk f) (text "head " ++ decimal k ++ text " " ++ decimal x ++ newline)
+    (versionLine f ++ (text "head " ++ decimal x ++ newline))
 
 unfoldable pub nodeLine : ℕ → Content → List ℕ
 nodeLine i v = text "node " ++ decimal i ++ text " " ++ decimal (v .linked) ++ text " " ++ decimal (v .index) ++ text " " ++ decimal (v .item) ++ newline
@@ -48,11 +54,15 @@ eventLine e r =
 abbrev pub imageForm : List ℕ → ℕ
 imageForm s = formIn (imagePart s)
 
-unfoldable pub headIndex : List ℕ → ℕ
-headIndex s = atW (widthOf (imageForm s)) (imagePart s) (headsAt (imageForm s))
+-- how many head lines there are
+abbrev pub headsIn : List ℕ → ℕ
+headsIn s = headLines (scheduleShape s)
+
+unfoldable pub headAt : List ℕ → ℕ → ℕ
+headAt s k = atW (widthOf (imageForm s)) (imagePart s) (headsAt (imageForm s) + k * widthOf (imageForm s))
 
 abbrev pub nodeAt : List ℕ → ℕ → Content
-nodeAt s i = readContent (imageForm s) (imagePart s) (nodePlace (spelledShape (imageForm s) 0) i)
+nodeAt s i = readContent (imageForm s) (imagePart s) (nodePlace (scheduleShape s) i)
 
 abbrev pub isBlankNode : Content → Bool
 isBlankNode v = both (eqb (v .linked) 0) (both (eqb (v .index) 0) (eqb (v .item) 0))
@@ -77,12 +87,12 @@ eventEntry s j = pick (follows s j) [] (eventLine (eventIn s j) (runEnd s j - j)
 unfoldable pub entryOf : List ℕ → ℕ → List ℕ
 entryOf s k =
     pick (eqb k 0) (text "nodes " ++ decimal (nodesIn s) ++ newline)
-    (pick (eqb k 1) (text "threads " ++ decimal (threadsIn s) ++ newline)
-    (pick (eqb k 2) (headLine (imageForm s) (headIndex s))
-    (pick (ltb k (3 + nodesIn s)) (nodeEntry s (k - 3)) (eventEntry s (k - 3 - nodesIn s)))))
+    (pick (eqb k 1) (threadsLine (imageForm s) (threadsIn s))
+    (pick (ltb k (2 + headsIn s)) (headLine (imageForm s) (k - 2) (headAt s (k - 2)))
+    (pick (ltb k (2 + headsIn s + nodesIn s)) (nodeEntry s (k - 2 - headsIn s)) (eventEntry s (k - 2 - headsIn s - nodesIn s)))))
 
 abbrev pub entriesIn : List ℕ → ℕ
-entriesIn s = 3 + nodesIn s + countIn s
+entriesIn s = 2 + headsIn s + nodesIn s + countIn s
 
 -- the words of a schedule
 unfoldable pub wordsOf : List ℕ → List ℕ
@@ -90,10 +100,10 @@ wordsOf s = linesOn (entryOf s) 0 (entriesIn s)
 
 -- ---- as many entries as fit from entry k on, into a lent buffer of `room` bytes
 
--- the schedule's refusals up to its events; 2 where its image is "UQP", which has no words; then 16 where there is no entry k, 17 where entry k does not fit
+-- the schedule's refusals up to its events; then 16 where there is no entry k, 17 where entry k does not fit
 unfoldable pub spellAnswer : List ℕ → ℕ → ℕ → Answer
 spellAnswer s k room = elim (accepted (scheduleAnswer s)) [
-  | true ↦ check (perDesk (imageForm s)) Mark (check (not (ltb k (entriesIn s))) NoEnding (check (ltb room (length (entryOf s k))) Room Taken))
+  | true ↦ check (not (ltb k (entriesIn s))) NoEnding (check (ltb room (length (entryOf s k))) Room Taken)
   | false ↦ scheduleAnswer s
 ]
 

@@ -16,7 +16,8 @@ pub struct Line {
     pub word: Word,
 }
 
-// What a line says: 0 nothing, 1 nodes, 2 threads, 3 head, 4 node, 5 events, 6 version, 8 not understood, 9 a number too large; and its numbers.
+// What a line says: 0 nothing, 1 nodes, 2 threads, 3 head, 4 node, 5 events, 6 version, 7 desks, 8 not understood, 9 a number too large; and its
+// numbers.
 pub struct Act {
     pub tag: u8,
     pub a: u64,
@@ -26,7 +27,7 @@ pub struct Act {
 }
 
 // What the lines said so far: the first fault (0 none, 1 strange, 2 large, 3 many) with its line; whether `nodes` stood; whether the image's form can
-// no longer be said; the form, N, T, head index and event count.
+// no longer be said; the form, N, T and event count.
 pub struct Survey {
     pub fault: u8,
     pub line: u64,
@@ -35,7 +36,6 @@ pub struct Survey {
     pub form: u8,
     pub n: u64,
     pub t: u64,
-    pub head: u64,
     pub count: u64,
 }
 

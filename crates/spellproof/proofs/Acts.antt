@@ -1,37 +1,31 @@
 -- The words of a schedule, read back line by line.
 use Prim.Native.Nat.{ℕ, zero, suc, _+_, _-_, _*_, _≤_, _<_}
 use mathlib.Core.Path.{_≡_, refl, sym, ap, ap₂, subst₂, _∙_}
-use mathlib.Core.Bool.{Bool, true, false, not}
+use mathlib.Core.Bool.{Bool, true, false}
 use mathlib.Core.List.{List, [], _∷_, _++_, append-assoc, append-nil}
 use native.Mathlib.Omega.{arith}
 use native.Mathlib.Nat.{zero-add}
 use borrow.Author.Tests.{eqb-true, ne-eqb, lt-ltb, le-ltb}
-use lib.ListN.{length, getD, drop}
 use lib.Seq.{getD-drop}
-use lib.Dec.{eqb, ltb}
+use lib.Dec.{eqb}
 use Rattle.lists.specs.Find.{pick, both}
 use Rattle.lists.specs.Tab.{joined}
 use Rattle.lists.specs.Text.{text, decimal}
-use Rattle.lists.proofs.BoolLaws.{both-true, no-way, false-true}
-use Rattle.answer.specs.Answers.{accepted}
+use Rattle.lists.proofs.BoolLaws.{both-true}
 use Rattle.image.specs.Bytes.{at4, atW}
-use Rattle.image.specs.Form.{widthOf, topOf, headsAt, nodePlace}
+use Rattle.image.specs.Form.{perDesk, widthOf, topOf, headsAt, nodePlace}
 use Rattle.image.specs.Layout.{marked, formIn}
-use Rattle.image.specs.declared.Content.{Content}
 use Rattle.machine.specs.declared.Event.{Event}
-use Rattle.image.specs.Refusals.{threadsFit}
-use Rattle.schedule.specs.Layout.{threadsIn, countIn, nodesIn, imagePart, scheduleShape, eventIn, eventPlace, scheduleAnswer}
+use Rattle.schedule.specs.Layout.{threadsIn, countIn, nodesIn, imagePart, scheduleShape, eventIn, eventPlace}
 use Rattle.page.specs.Filled.{linesOn}
 use Rattle.page.specs.Printed.{newline}
 use Rattle.printing.proofs.Fittings as fits
 use Rattle.image.proofs.ByteLaws as num
 use Rattle.image.proofs.FormLaws as forms
-use Rattle.codec.proofs.Accepted as acc
 use Rattle.spelling.specs.declared.Act.{Act}
-use Rattle.spelling.specs.Layout.{spelledShape}
 use Rattle.spelling.specs.Words.{noLine, ended, wordOn, keyOf, grown, letterMore}
 use Rattle.spelling.specs.Lines.{act, keyIn, shapeOf, saidBy, said, actsFrom, actsOf}
-use Rattle.spelling.specs.Writing.{versionLine, headLine, nodeLine, eventLine, imageForm, headIndex, nodeAt, isBlankNode, nodeEntry, isStep, follows, runEnd, eventEntry, entryOf, entriesIn, wordsOf}
+use Rattle.spelling.specs.Writing.{threadsLine, versionLine, headLine, nodeLine, eventLine, imageForm, headsIn, headAt, nodeAt, isBlankNode, nodeEntry, isStep, follows, runEnd, eventEntry, entryOf, wordsOf}
 use Rattle.spellproof.proofs.ReadBack as back
 use Rattle.spellproof.proofs.Runs as runs
 
@@ -142,8 +136,26 @@ eventActs s j = pick (follows s j) [] (act 5 (eventIn s j .kind) (eventIn s j .n
 abbrev pub versionActs : ℕ → List Act
 versionActs f = pick (eqb f 1) [] (act 6 f 0 0 0 ∷ [])
 
-abbrev pub headActs : List ℕ → List Act
-headActs s = act 1 (nodesIn s) 0 0 0 ∷ act 2 (threadsIn s) 0 0 0 ∷ (versionActs (imageForm s) ++ (act 3 (headIndex s) 0 0 0 ∷ []))
+abbrev pub threadActs : ℕ → ℕ → List Act
+threadActs f t = pick (perDesk f) (act 7 t 0 0 0 ∷ []) (act 2 t 0 0 0 ∷ [])
+
+-- head line k, with the index x k
+abbrev pub lineActs : ℕ → (ℕ → ℕ) → ℕ → List Act
+lineActs f x k = pick (perDesk f) (act 3 k (x k) 1 0 ∷ []) (versionActs f ++ (act 3 0 (x k) 0 0 ∷ []))
+
+abbrev pub openActs : List ℕ → List Act
+openActs s = act 1 (nodesIn s) 0 0 0 ∷ threadActs (imageForm s) (threadsIn s)
+
+abbrev pub headActs : List ℕ → ℕ → List Act
+headActs s = lineActs (imageForm s) (headAt s)
+
+threads-say : (f t : ℕ) → t ≤ 255 → Says (threadsLine f t) (threadActs f t)
+unfolding threadsLine
+threads-say f t h = by (perDesk f)
+  where
+    by : (b : Bool) → Says (pick b (text "desks " ++ decimal t ++ newline) (text "threads " ++ decimal t ++ newline)) (pick b (act 7 t 0 0 0 ∷ []) (act 2 t 0 0 0 ∷ []))
+    by true = record { on = λ r. back.desks-said t r h }
+    by false = record { on = λ r. back.threads-said t r h }
 
 version-says : (f : ℕ) → f ≤ 255 → Says (versionLine f) (versionActs f)
 unfolding versionLine
@@ -153,7 +165,16 @@ version-says f h = by (eqb f 1)
     by true = says-none
     by false = record { on = λ r. back.version-said f r (omega arith) }
 
-module _ (s : List ℕ) (bs : num.Bytes s) (few : nodesIn s ≤ 64) (short : countIn s ≤ 4096) where
+head-says : (f k : ℕ) (x : ℕ → ℕ) → f ≤ 255 → k ≤ 255 → x k ≤ 18446744073709551615 → Says (headLine f k (x k)) (lineActs f x k)
+unfolding headLine
+head-says f k x hf hk hx = by (perDesk f)
+  where
+    by : (b : Bool) → Says (pick b (text "head " ++ decimal k ++ text " " ++ decimal (x k) ++ newline) (versionLine f ++ (text "head " ++ decimal (x k) ++ newline)))
+        (pick b (act 3 k (x k) 1 0 ∷ []) (versionActs f ++ (act 3 0 (x k) 0 0 ∷ [])))
+    by true = record { on = λ r. back.named-said k (x k) r hk hx }
+    by false = says-also (version-says f hf) (record { on = λ r. back.head-said (x k) r hx })
+
+module _ (s : List ℕ) (bs : num.Bytes s) (lines : headsIn s ≤ 8) (few : nodesIn s ≤ 64) (short : countIn s ≤ 4096) where
   pub form-small : imageForm s ≤ 255
   unfolding formIn
   form-small = by (marked 85 81 73 1 (imagePart s)) (marked 85 81 73 2 (imagePart s)) (marked 85 81 80 1 (imagePart s))
@@ -164,9 +185,9 @@ module _ (s : List ℕ) (bs : num.Bytes s) (few : nodesIn s ≤ 64) (short : cou
       by false false true = omega arith
       by false false false = omega arith
 
-  pub head-wide : headIndex s ≤ 18446744073709551615
-  unfolding headIndex
-  head-wide = index-wide (imageForm s) (imagePart s) (headsAt (imageForm s)) (part-bytes s bs)
+  pub head-wide : (k : ℕ) → headAt s k ≤ 18446744073709551615
+  unfolding headAt
+  head-wide k = index-wide (imageForm s) (imagePart s) (headsAt (imageForm s) + k * widthOf (imageForm s)) (part-bytes s bs)
 
   node-says : (i : ℕ) → i < nodesIn s → Says (nodeEntry s i) (nodeActs s i)
   unfolding nodeEntry nodeLine
@@ -179,7 +200,7 @@ module _ (s : List ℕ) (bs : num.Bytes s) (few : nodesIn s ≤ 64) (short : cou
           (record {
             on = λ r.
                 let f = imageForm s in
-                let p = nodePlace (spelledShape f 0) i in
+                let p = nodePlace (scheduleShape s) i in
                 back.node-said i (nodeAt s i .linked) (nodeAt s i .index) (nodeAt s i .item) r (omega arith) (omega (arith, part-bytes s bs p))
                 (index-wide f (imagePart s) (p + 1) (part-bytes s bs)) (small4 (imagePart s) (p + 1 + widthOf f) (part-bytes s bs));
           })
@@ -195,61 +216,78 @@ module _ (s : List ℕ) (bs : num.Bytes s) (few : nodesIn s ≤ 64) (short : cou
           (line-says (eventIn s j) (runEnd s j - j) (omega (arith, bs (eventPlace (scheduleShape s) j))) (omega (arith, bs (eventPlace (scheduleShape s) j + 1)))
           (small4 s (eventPlace (scheduleShape s) j + 2) bs) (omega (arith, runs.run-le s j h)) (λ q. omega (arith, runs.run-one s j h q)))
 
-  nodes-at : (i : ℕ) → i < nodesIn s → entryOf s (3 + i) ≡ nodeEntry s i
+  heads-at : (k : ℕ) → k < headsIn s → entryOf s (2 + k) ≡ headLine (imageForm s) k (headAt s k)
+  unfolding entryOf
+  heads-at k h =
+      let e : 2 + k - 2 ≡ k = omega arith in
+      rw (ne-eqb (2 + k) 0 (λ q. omega arith), ne-eqb (2 + k) 1 (λ q. omega arith), lt-ltb (2 + k) (2 + headsIn s) (omega arith))
+      (ap (λ k. headLine (imageForm s) k (headAt s k)) e)
+
+  nodes-at : (i : ℕ) → i < nodesIn s → entryOf s (2 + headsIn s + i) ≡ nodeEntry s i
   unfolding entryOf
   nodes-at i h =
-      let e : 3 + i - 3 ≡ i = omega arith in
-      rw (ne-eqb (3 + i) 0 (λ q. omega arith), ne-eqb (3 + i) 1 (λ q. omega arith), ne-eqb (3 + i) 2 (λ q. omega arith), lt-ltb (3 + i) (3 + nodesIn s) (omega arith))
+      let k = 2 + headsIn s + i in
+      let e : 2 + headsIn s + i - 2 - headsIn s ≡ i = omega arith in
+      rw (ne-eqb k 0 (λ q. omega arith), ne-eqb k 1 (λ q. omega arith), le-ltb k (2 + headsIn s) (omega arith), lt-ltb k (2 + headsIn s + nodesIn s) (omega arith))
       (ap (nodeEntry s) e)
 
-  events-at : (j : ℕ) → entryOf s (3 + nodesIn s + j) ≡ eventEntry s j
+  events-at : (j : ℕ) → entryOf s (2 + headsIn s + nodesIn s + j) ≡ eventEntry s j
   unfolding entryOf
   events-at j =
-      let k = 3 + nodesIn s + j in
-      let e : 3 + nodesIn s + j - 3 - nodesIn s ≡ j = omega arith in
-      rw (ne-eqb k 0 (λ q. omega arith), ne-eqb k 1 (λ q. omega arith), ne-eqb k 2 (λ q. omega arith), le-ltb k (3 + nodesIn s) (omega arith))
+      let k = 2 + headsIn s + nodesIn s + j in
+      let e : 2 + headsIn s + nodesIn s + j - 2 - headsIn s - nodesIn s ≡ j = omega arith in
+      rw (ne-eqb k 0 (λ q. omega arith), ne-eqb k 1 (λ q. omega arith), le-ltb k (2 + headsIn s) (omega arith), le-ltb k (2 + headsIn s + nodesIn s) (omega arith))
       (ap (eventEntry s) e)
 
   says-0 : Says (text "nodes " ++ decimal (nodesIn s) ++ newline) (act 1 (nodesIn s) 0 0 0 ∷ [])
   says-0 = record { on = λ r. back.nodes-said (nodesIn s) r (omega arith) }
 
-  says-1 : Says (text "threads " ++ decimal (threadsIn s) ++ newline) (act 2 (threadsIn s) 0 0 0 ∷ [])
-  says-1 = record { on = λ r. back.threads-said (threadsIn s) r (omega (arith, bs 5)) }
-
-  says-2 : Says (headLine (imageForm s) (headIndex s)) (versionActs (imageForm s) ++ (act 3 (headIndex s) 0 0 0 ∷ []))
-  unfolding headLine
-  says-2 = says-also (version-says (imageForm s) form-small) (record { on = λ r. back.head-said (headIndex s) r head-wide })
-
-  first-says : Says (linesOn (entryOf s) 0 3) (headActs s)
+  first-says : Says (linesOn (entryOf s) 0 2) (openActs s)
   unfolding linesOn joined entryOf
-  first-says = says-also (says-also (says-also says-none says-0) says-1) says-2
+  first-says = says-also (says-also says-none says-0) (threads-say (imageForm s) (threadsIn s) (omega (arith, bs 5)))
 
-  middle-says : Says (linesOn (entryOf s) 3 (nodesIn s)) (joined (nodeActs s) (nodesIn s))
+  heads-say : Says (linesOn (entryOf s) 2 (headsIn s)) (joined (headActs s) (headsIn s))
+  unfolding linesOn
+  heads-say =
+      says-joined (λ k. entryOf s (2 + k)) (headActs s) (headsIn s)
+      (λ k h. subst₂ (λ a l. Says a l) (sym (heads-at k h)) refl (head-says (imageForm s) k (headAt s) form-small (omega arith) (head-wide k)))
+
+  middle-says : Says (linesOn (entryOf s) (2 + headsIn s) (nodesIn s)) (joined (nodeActs s) (nodesIn s))
   unfolding linesOn
   middle-says =
-      says-joined (λ i. entryOf s (3 + i)) (nodeActs s) (nodesIn s)
+      says-joined (λ i. entryOf s (2 + headsIn s + i)) (nodeActs s) (nodesIn s)
       (λ i h. subst₂ (λ a k. Says a k) (sym (nodes-at i h)) refl (node-says i h))
 
-  last-says : Says (linesOn (entryOf s) (3 + nodesIn s) (countIn s)) (joined (eventActs s) (countIn s))
+  last-says : Says (linesOn (entryOf s) (2 + headsIn s + nodesIn s) (countIn s)) (joined (eventActs s) (countIn s))
   unfolding linesOn
   last-says =
-      says-joined (λ j. entryOf s (3 + nodesIn s + j)) (eventActs s) (countIn s)
+      says-joined (λ j. entryOf s (2 + headsIn s + nodesIn s + j)) (eventActs s) (countIn s)
       (λ j h. subst₂ (λ a k. Says a k) (sym (events-at j)) refl (event-says j h))
 
-  parts : wordsOf s ≡ linesOn (entryOf s) 0 3 ++ linesOn (entryOf s) 3 (nodesIn s) ++ linesOn (entryOf s) (3 + nodesIn s) (countIn s)
+  abbrev on : ℕ → ℕ → List ℕ
+  on = linesOn (entryOf s)
+
+  parts : wordsOf s ≡ on 0 2 ++ on 2 (headsIn s) ++ on (2 + headsIn s) (nodesIn s) ++ on (2 + headsIn s + nodesIn s) (countIn s)
   unfolding wordsOf
   parts =
-      fits.on-join (entryOf s) 0 (3 + nodesIn s) (countIn s)
-      ∙ ap₂ (λ a k. a ++ linesOn (entryOf s) k (countIn s)) (fits.on-join (entryOf s) 0 3 (nodesIn s)) (zero-add (3 + nodesIn s))
+      let h = headsIn s in
+      let n = nodesIn s in
+      fits.on-join (entryOf s) 0 (2 + h + n) (countIn s)
+      ∙ ap₂ (λ a k. a ++ on k (countIn s))
+      (fits.on-join (entryOf s) 0 (2 + h) n ∙ ap₂ (λ a k. a ++ on k n) (fits.on-join (entryOf s) 0 2 h) (zero-add (2 + h)))
+      (zero-add (2 + h + n))
 
   last-line : actsFrom noLine [] ≡ act 0 0 0 0 0 ∷ []
   unfolding actsFrom said ended keyIn shapeOf saidBy keyOf wordOn text grown letterMore
   last-line = refl
 
   -- what the words of a schedule say, line by line
-  pub words-acts : actsOf (wordsOf s) ≡ headActs s ++ joined (nodeActs s) (nodesIn s) ++ joined (eventActs s) (countIn s) ++ (act 0 0 0 0 0 ∷ [])
+  abbrev pub allActs : List Act
+  allActs = openActs s ++ joined (headActs s) (headsIn s) ++ joined (nodeActs s) (nodesIn s) ++ joined (eventActs s) (countIn s)
+
+  pub words-acts : actsOf (wordsOf s) ≡ allActs ++ (act 0 0 0 0 0 ∷ [])
   unfolding actsOf
   words-acts =
       ap (actsFrom noLine) (sym (append-nil (wordsOf s)) ∙ ap (λ a. a ++ []) parts)
-      ∙ says-also (says-also first-says middle-says) last-says .on []
-      ∙ ap (λ z. headActs s ++ joined (nodeActs s) (nodesIn s) ++ joined (eventActs s) (countIn s) ++ z) last-line
+      ∙ says-also (says-also (says-also first-says heads-say) middle-says) last-says .on []
+      ∙ ap (λ z. allActs ++ z) last-line

@@ -5,6 +5,7 @@ pub mod ReadBack
 pub mod Acts
 pub mod Parts
 pub mod Surveys
+pub mod Opening
 pub mod RoundTrip
 pub mod Keys
 pub mod Whole

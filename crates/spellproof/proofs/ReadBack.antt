@@ -43,6 +43,10 @@ threads-word : Feeds (noLine) (text "threads ") (line 1 (begins (letters (keyOf 
 unfolding text digitMore letterMore grown ended lineByte wordOn keyOf actsFrom
 threads-word = record { on = λ r. refl }
 
+desks-word : Feeds (noLine) (text "desks ") (line 1 (begins (letters (keyOf "desks"))) noWord)
+unfolding text digitMore letterMore grown ended lineByte wordOn keyOf actsFrom
+desks-word = record { on = λ r. refl }
+
 head-word : Feeds (noLine) (text "head ") (line 1 (begins (letters (keyOf "head"))) noWord)
 unfolding text digitMore letterMore grown ended lineByte wordOn keyOf actsFrom
 head-word = record { on = λ r. refl }
@@ -110,10 +114,23 @@ pub version-said : (x : ℕ) (r : List ℕ) → x ≤ 18446744073709551615
 unfolding said ended keyIn shapeOf saidBy keyOf wordOn text grown letterMore graded
 version-said x r h = ends (also version-word (numbered 1 (begins (letters (keyOf "version"))) x (omega arith))) r ∙ rw (graded-good x 18446744073709551615 h)
 
+pub desks-said : (x : ℕ) (r : List ℕ) → x ≤ 255
+    → actsFrom noLine (text "desks " ++ decimal x ++ newline ++ r) ≡ act 7 x 0 0 0 ∷ actsFrom noLine r
+unfolding said ended keyIn shapeOf saidBy keyOf wordOn text grown letterMore graded
+desks-said x r h = ends (also desks-word (numbered 1 (begins (letters (keyOf "desks"))) x (omega arith))) r ∙ rw (graded-good x 255 h)
+
 pub head-said : (x : ℕ) (r : List ℕ) → x ≤ 18446744073709551615
-    → actsFrom noLine (text "head " ++ decimal x ++ newline ++ r) ≡ act 3 x 0 0 0 ∷ actsFrom noLine r
+    → actsFrom noLine (text "head " ++ decimal x ++ newline ++ r) ≡ act 3 0 x 0 0 ∷ actsFrom noLine r
 unfolding said ended keyIn shapeOf saidBy keyOf wordOn text grown letterMore graded
 head-said x r h = ends (also head-word (numbered 1 (begins (letters (keyOf "head"))) x (omega arith))) r ∙ rw (graded-good x 18446744073709551615 h)
+
+pub named-said : (k x : ℕ) (r : List ℕ) → k ≤ 255 → x ≤ 18446744073709551615
+    → actsFrom noLine (text "head " ++ decimal k ++ text " " ++ decimal x ++ newline ++ r) ≡ act 3 k x 1 0 ∷ actsFrom noLine r
+unfolding said ended keyIn shapeOf saidBy keyOf wordOn text grown letterMore graded
+named-said k x r hk hx =
+    let u = letters (keyOf "head") in
+    ends (also (also (also head-word (numbered 1 (begins u) k (omega arith))) (blank-1 u k)) (numbered 2 (two u (number k)) x (omega arith))) r
+    ∙ rw (graded-good k 18446744073709551615 (omega arith), graded-good x 18446744073709551615 hx)
 
 pub node-said : (i l x v : ℕ) (r : List ℕ) → i ≤ 255 → l ≤ 255 → x ≤ 18446744073709551615 → v ≤ 4294967295
     → actsFrom noLine (text "node " ++ decimal i ++ text " " ++ decimal l ++ text " " ++ decimal x ++ text " " ++ decimal v ++ newline ++ r) ≡ act 4 i l x v ∷ actsFrom noLine r

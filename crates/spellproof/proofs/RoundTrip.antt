@@ -1,26 +1,24 @@
 -- The words of a schedule, read, are the schedule.
-use Prim.Native.Nat.{ℕ, zero, suc, _+_, _-_, _*_, _/_, _%_, _≤_, _<_}
-use mathlib.Core.Path.{_≡_, refl, sym, ap, ap₂, subst, _∙_}
-use mathlib.Core.Bool.{Bool, true, false, not}
-use mathlib.Core.List.{List, [], _∷_, _++_, append-assoc}
+use Prim.Native.Nat.{ℕ, zero, suc, _+_, _-_, _*_, _%_, _≤_, _<_}
+use mathlib.Core.Path.{_≡_, refl, sym, ap, ap₂, _∙_}
+use mathlib.Core.Bool.{Bool, true, false}
+use mathlib.Core.List.{List, [], _∷_, _++_}
 use native.Mathlib.Omega.{arith}
-use native.Mathlib.Nat.{add-zero, add-assoc, suc-mul, zero-mul}
 use native.Mathlib.Numerals.{add-one}
 use borrow.Author.Tests.{eqb-true, le-ltb, lt-ltb, le-leb}
-use lib.ListN.{length, getD, take, drop, replicate, length-drop, length-append}
-use lib.Seq.{drop-drop, take-add, take-all}
-use lib.Dec.{eqb, ltb}
-use Rattle.lists.specs.Find.{pick, both}
-use Rattle.lists.specs.Tab.{tab, joined, over}
+use lib.ListN.{length, take, drop, replicate, length-drop}
+use lib.Seq.{drop-drop, take-all}
+use lib.Dec.{eqb}
+use Rattle.lists.specs.Tab.{joined, over}
 use Rattle.lists.proofs.BoolLaws.{both-true}
 use Rattle.lists.proofs.TabLaws as tabs
 use Rattle.answer.specs.Answers.{accepted}
-use Rattle.image.specs.Bytes.{le4, atW}
-use Rattle.image.specs.Form.{known, widthOf, topOf, headsAt, nodeSize, headerSize, nodePlace, imageSize}
-use Rattle.image.specs.Layout.{nodeBytes, shapeIn, headBytes}
+use Rattle.image.specs.Bytes.{le4}
+use Rattle.image.specs.Form.{known, widthOf, nodeSize, nodePlace}
+use Rattle.image.specs.Layout.{nodeBytes}
 use Rattle.image.specs.declared.Shape.{Shape}
 use Rattle.machine.specs.declared.Event.{Event}
-use Rattle.schedule.specs.Layout.{threadsIn, countIn, nodesIn, imagePart, isSchedule, scheduleShape, eventIn, eventPlace, scheduleAnswer}
+use Rattle.schedule.specs.Layout.{countIn, nodesIn, imagePart, scheduleShape, eventIn, eventPlace, scheduleAnswer}
 use Rattle.image.proofs.ByteLaws as num
 use Rattle.image.proofs.FormLaws as forms
 use Rattle.codec.proofs.Accepted as acc
@@ -29,136 +27,51 @@ use Rattle.spelling.specs.declared.Act.{Act}
 use Rattle.spelling.specs.declared.Survey.{Survey}
 use Rattle.spelling.specs.declared.Said.the-variants.{Taken}
 use Rattle.spelling.specs.Lines.{act, actsOf}
-use Rattle.spelling.specs.Layout.{worded, spelledShape, nodeStart, eventsPlace, sizeOf, headOf, nodeSaid}
-use Rattle.spelling.specs.Reading.{noSurvey, versionForm, indexSaid, nodesSaid, versionSaid, eventsSaid, behindNodes, surveyed, surveyFrom, surveyOf, blankFile, times, putBy, reachBy, putAll, fileOf, readAnswer}
-use Rattle.spelling.specs.Writing.{imageForm, headIndex, nodeAt, isBlankNode, follows, runEnd, wordsOf}
-use Rattle.spelling.proofs.WordedLaws.{worded-known, lines-worded, shape-spelled, place-same}
+use Rattle.spelling.specs.Layout.{saidShape, nodeStart, eventsStart, eventsPlace, sizeOf, nodeSaid}
+use Rattle.spelling.specs.Reading.{blankFile, times, putBy, reachBy, putAll, fileOf, readAnswer}
+use Rattle.spelling.specs.Writing.{imageForm, headsIn, nodeAt, isBlankNode, follows, runEnd, wordsOf}
 use Rattle.spellproof.proofs.Acts as acts
-use Rattle.spellproof.proofs.Parts.{byte2, six, marks-of}
+use Rattle.spellproof.proofs.Parts.{six}
+use Rattle.spellproof.proofs.Opening as opening
+use Rattle.spellproof.proofs.Opening.{reachAll, put-also, reach-also, reach-joined}
 use Rattle.spellproof.proofs.Runs as runs
 use Rattle.spellproof.proofs.Surveys as saying
 use Rattle.spellproof.proofs.Zeroed as zeroed
-
--- ---- lines one after the other
-
-unfoldable pub reachAll : ℕ → ℕ → List Act → ℕ
-reachAll z p [] = p
-reachAll z p (a ∷ l) = reachAll z (reachBy z p a) l
-
-put-also : (f z : ℕ) (x : List ℕ) (p : ℕ) (a b : List Act) → putAll f z x p (a ++ b) ≡ putAll f z (putAll f z x p a) (reachAll z p a) b
-unfolding putAll reachAll
-put-also f z x p [] b = refl
-put-also f z x p (y ∷ a) b = put-also f z (putBy f z x p y) (reachBy z p y) a b
-
-reach-also : (z p : ℕ) (a b : List Act) → reachAll z p (a ++ b) ≡ reachAll z (reachAll z p a) b
-unfolding reachAll
-reach-also z p [] b = refl
-reach-also z p (y ∷ a) b = reach-also z (reachBy z p y) a b
 
 -- a blank node's bytes
 blank-node : (f : ℕ) → known f ≡ true → nodeBytes f (record { linked = 0; index = 0; item = 0 }) ≡ replicate (nodeSize f) 0
 unfolding widthOf nodeSize
 blank-node f h = forms.by-form (λ f. nodeBytes f (record { linked = 0; index = 0; item = 0 }) ≡ replicate (nodeSize f) 0) f h refl refl refl
 
-module _ (s : List ℕ) (bs : num.Bytes s) (h : accepted (scheduleAnswer s) ≡ true) (w : worded (imageForm s) ≡ true) where
+module _ (s : List ℕ) (bs : num.Bytes s) (h : accepted (scheduleAnswer s) ≡ true) where
   abbrev taken : acc.ScheduleTaken s
   taken = acc.schedule-taken s h
 
-  -- the image's form and shape, and where its nodes stand in the schedule
   abbrev F : ℕ
   F = imageForm s
 
-  kf : known F ≡ true
-  kf = worded-known F w
-
-  abbrev S : Shape
-  S = spelledShape F (nodesIn s)
-
-  -- where its nodes stand in it goes by the form alone
-  abbrev S₀ : Shape
-  S₀ = spelledShape F 0
-
-  shape-is : shapeIn (imagePart s) ≡ S
-  shape-is = shape-spelled (imagePart s) w
-
-  shape-size : imageSize (shapeIn (imagePart s)) ≡ nodePlace S₀ (nodesIn s)
-  shape-size = ap imageSize shape-is ∙ sym (forms.size-at S) ∙ place-same S (nodesIn s) w
-
-  shape-header : headerSize S ≡ nodePlace S₀ 0
-  shape-header = sym (forms.place-zero S) ∙ place-same S 0 w
+  abbrev G : Shape
+  G = scheduleShape s
 
   abbrev at : ℕ → ℕ
-  at i = nodeStart F i
+  at i = nodeStart G i
 
-  size : length s ≡ at (nodesIn s) + countIn s * 6
-  size = omega (arith, taken .long, taken .part .size, shape-size, length-drop 8 s)
-
-  -- ---- the bytes
-
-  eight : 85 ∷ 81 ∷ 83 ∷ 1 ∷ 0 ∷ threadsIn s % 256 ∷ countIn s % 256 ∷ countIn s / 256 % 256 ∷ [] ≡ take 8 s
-  unfolding tab
-  eight =
-      let m = marks-of s 83 (taken .mark) in
-      let t : threadsIn s % 256 ≡ getD s 5 0 = omega (arith, bs 5) in
-      let c = byte2 s 6 bs (omega (arith, taken .long)) in
-      let c0 : countIn s % 256 ≡ getD s 6 0 = ap (λ l. getD l 0 0) c in
-      let c1 : countIn s / 256 % 256 ≡ getD s 7 0 = ap (λ l. getD l 1 0) c in
-      rw (t, c0, c1) (sym (rw (m .m0, m .m1, m .m2, m .m3, m .m4) at (tabs.take-drop-tab s 0 0 8 (omega (arith, taken .long)))))
-
-  -- the image's bytes before its nodes
-  image-head : headBytes (spelledShape F (nodesIn s % 256)) (λ k. headIndex s) ≡ take (headerSize S) (imagePart s)
-  unfolding headIndex
-  image-head =
-      let p = imagePart s in
-      let n : nodesIn s % 256 ≡ nodesIn s = omega (arith, saying.few s bs h w) in
-      let e : headsAt F + 0 * widthOf F ≡ headsAt F = omega (arith, zero-mul (widthOf F)) in
-      let l : headerSize S ≤ length p = omega (arith, size, taken .long, length-drop 8 s, shape-header, forms.place-from S₀ (nodesIn s), forms.place-zero S₀) in
-      ap (λ n. headBytes (spelledShape F n) (λ k. headIndex s)) n
-      ∙ again.heads-there S (λ k. headIndex s) (λ k. atW (widthOf F) p (headsAt F + k * widthOf F))
-      (λ k q.
-      let z : k ≡ 0 = omega (arith, q, lines-worded S w) in
-      ap (atW (widthOf F) p) (sym (ap (λ k. headsAt F + k * widthOf F) z ∙ e)))
-      ∙ subst
-      (λ (z : Shape). headerSize z ≤ length p → headBytes z (λ k. atW (widthOf (z .form)) p (headsAt (z .form) + k * widthOf (z .form))) ≡ take (headerSize z) p)
-      shape-is (again.head-there p (acts.part-bytes s bs) kf) l
-
-  head-there : headOf (saying.surveys s bs h w (countIn s)) ≡ take (at 0) s
-  unfolding headOf
-  head-there =
-      ap₂ (λ (a b : List ℕ). a ++ b) eight image-head
-      ∙ sym (take-add 8 (headerSize S) s)
-      ∙ ap (λ k. take (8 + k) s) shape-header
-
-  blank-there : blankFile (saying.surveys s bs h w (countIn s)) ≡ zeroed.file s (at 0)
-  unfolding blankFile
-  blank-there =
-      let e : nodesIn s * nodeSize F + countIn s * 6 ≡ length s - at 0 = omega (arith, size, forms.place-from S₀ (nodesIn s), forms.place-zero S₀) in
-      ap₂ (λ a n. a ++ zeroed.zero n) head-there e
-
-  -- the size
   abbrev Z : ℕ
   Z = at (nodesIn s) + countIn s * 6
 
-  heads-put : (x : List ℕ) (p : ℕ) → putAll F Z x p (acts.headActs s) ≡ x
-  unfolding putAll putBy reachBy
-  heads-put x p = by (eqb F 1)
-    where
-      by : (b : Bool) → putAll F Z x p (act 1 (nodesIn s) 0 0 0 ∷ act 2 (threadsIn s) 0 0 0 ∷ (pick b [] (act 6 F 0 0 0 ∷ []) ++ (act 3 (headIndex s) 0 0 0 ∷ []))) ≡ x
-      by true = refl
-      by false = refl
+  kf : known F ≡ true
+  kf = opening.kf s bs h
 
-  heads-reach : (p : ℕ) → reachAll Z p (acts.headActs s) ≡ p
-  unfolding reachAll reachBy
-  heads-reach p = by (eqb F 1)
-    where
-      by : (b : Bool) → reachAll Z p (act 1 (nodesIn s) 0 0 0 ∷ act 2 (threadsIn s) 0 0 0 ∷ (pick b [] (act 6 F 0 0 0 ∷ []) ++ (act 3 (headIndex s) 0 0 0 ∷ []))) ≡ p
-      by true = refl
-      by false = refl
+  size : length s ≡ Z
+  size = opening.size s bs h
+
+  none-put : (x : List ℕ) (p : ℕ) → putAll G Z x p [] ≡ x
+  none-put = opening.none-put s bs h
 
   -- ---- nodes
 
   node-place : (i : ℕ) → i < nodesIn s → at i + nodeSize F ≤ length s
-  node-place i p = omega (arith, size, forms.place-within S₀ i (nodesIn s) p)
+  node-place i p = omega (arith, size, forms.place-within G i (nodesIn s) p)
 
   abbrev said : ℕ → Act
   said i = act 4 i (nodeAt s i .linked) (nodeAt s i .index) (nodeAt s i .item)
@@ -166,11 +79,11 @@ module _ (s : List ℕ) (bs : num.Bytes s) (h : accepted (scheduleAnswer s) ≡ 
   node-bytes : (i : ℕ) → i < nodesIn s → nodeSaid F (said i) ≡ take (nodeSize F) (drop (at i) s)
   node-bytes i p =
       let b = acts.part-bytes s bs in
-      let x : nodeAt s i .linked % 256 ≡ nodeAt s i .linked = omega (arith, b (nodePlace S₀ i)) in
-      let y : nodeAt s i .item % 4294967296 ≡ nodeAt s i .item = omega (arith, acts.small4 (imagePart s) (nodePlace S₀ i + 1 + widthOf F) b) in
+      let x : nodeAt s i .linked % 256 ≡ nodeAt s i .linked = omega (arith, b (nodePlace G i)) in
+      let y : nodeAt s i .item % 4294967296 ≡ nodeAt s i .item = omega (arith, acts.small4 (imagePart s) (nodePlace G i + 1 + widthOf F) b) in
       ap₂ (λ l v. nodeBytes F (record { linked = l; index = nodeAt s i .index; item = v })) x y
-      ∙ again.node-there F (imagePart s) (nodePlace S₀ i) b kf (omega (arith, node-place i p, length-drop 8 s))
-      ∙ ap (take (nodeSize F)) (drop-drop (nodePlace S₀ i) 8 s)
+      ∙ again.node-there F (imagePart s) (nodePlace G i) b kf (omega (arith, node-place i p, length-drop 8 s))
+      ∙ ap (take (nodeSize F)) (drop-drop (nodePlace G i) 8 s)
 
   blank-bytes : (i : ℕ) → i < nodesIn s → isBlankNode (nodeAt s i) ≡ true → take (nodeSize F) (drop (at i) s) ≡ replicate (nodeSize F) 0
   blank-bytes i p e =
@@ -179,22 +92,18 @@ module _ (s : List ℕ) (bs : num.Bytes s) (h : accepted (scheduleAnswer s) ≡ 
       sym (node-bytes i p)
       ∙ rw (eqb-true (nodeAt s i .linked) 0 (a .0), eqb-true (nodeAt s i .index) 0 (b .0), eqb-true (nodeAt s i .item) 0 (b .1)) (blank-node F kf)
 
-  one-node : (x : List ℕ) (p i : ℕ) → at i + nodeSize F ≤ Z → putAll F Z x p (said i ∷ []) ≡ over x (at i) (nodeSaid F (said i))
+  one-node : (x : List ℕ) (p i : ℕ) → i < nodesIn s → putAll G Z x p (said i ∷ []) ≡ over x (at i) (nodeSaid F (said i))
   unfolding putAll putBy reachBy
-  one-node x p i h = rw (le-leb (at i + nodeSize F) Z h)
+  one-node x p i h = rw (lt-ltb i (nodesIn s) h)
 
-  none-put : (x : List ℕ) (p : ℕ) → putAll F Z x p [] ≡ x
-  unfolding putAll
-  none-put x p = refl
-
-  node-puts : (q i : ℕ) → i < nodesIn s → putAll F Z (zeroed.file s (at i)) q (acts.nodeActs s i) ≡ zeroed.file s (at i + nodeSize F)
+  node-puts : (q i : ℕ) → i < nodesIn s → putAll G Z (zeroed.file s (at i)) q (acts.nodeActs s i) ≡ zeroed.file s (at i + nodeSize F)
   node-puts q i p = by (isBlankNode (nodeAt s i)) refl
     where
-      by : (b : Bool) → isBlankNode (nodeAt s i) ≡ b → putAll F Z (zeroed.file s (at i)) q (acts.nodeActs s i) ≡ zeroed.file s (at i + nodeSize F)
+      by : (b : Bool) → isBlankNode (nodeAt s i) ≡ b → putAll G Z (zeroed.file s (at i)) q (acts.nodeActs s i) ≡ zeroed.file s (at i + nodeSize F)
       by true e = rw e (none-put (zeroed.file s (at i)) q ∙ zeroed.put-none s (at i) (nodeSize F) (node-place i p) (blank-bytes i p e))
       by false e =
           rw e
-          (one-node (zeroed.file s (at i)) q i (omega (arith, node-place i p, size))
+          (one-node (zeroed.file s (at i)) q i p
           ∙ ap (over (zeroed.file s (at i)) (at i)) (node-bytes i p)
           ∙ zeroed.put-next s (at i) (nodeSize F) (node-place i p))
 
@@ -207,19 +116,15 @@ module _ (s : List ℕ) (bs : num.Bytes s) (h : accepted (scheduleAnswer s) ≡ 
       by false e = rw e refl
 
   nodes-reach : (q m : ℕ) → reachAll Z q (joined (acts.nodeActs s) m) ≡ q
-  unfolding joined reachAll
-  nodes-reach q zero = refl
-  nodes-reach q (suc m) =
-      reach-also Z q (joined (acts.nodeActs s) m) (acts.nodeActs s m)
-      ∙ ap (λ z. reachAll Z z (acts.nodeActs s m)) (nodes-reach q m) ∙ node-reaches q m
+  nodes-reach q m = reach-joined Z q (acts.nodeActs s) m (node-reaches q)
 
-  nodes-put : (q m : ℕ) → m ≤ nodesIn s → putAll F Z (zeroed.file s (at 0)) q (joined (acts.nodeActs s) m) ≡ zeroed.file s (at m)
+  nodes-put : (q m : ℕ) → m ≤ nodesIn s → putAll G Z (zeroed.file s (at 0)) q (joined (acts.nodeActs s) m) ≡ zeroed.file s (at m)
   unfolding joined putAll
   nodes-put q zero p = refl
   nodes-put q (suc m) p =
-      let e : at m + nodeSize F ≡ at (suc m) = omega (arith, forms.place-next S₀ m, ap (nodePlace S₀) (add-one m)) in
-      put-also F Z (zeroed.file s (at 0)) q (joined (acts.nodeActs s) m) (acts.nodeActs s m)
-      ∙ ap₂ (λ x z. putAll F Z x z (acts.nodeActs s m)) (nodes-put q m (omega arith)) (nodes-reach q m)
+      let e : at m + nodeSize F ≡ at (suc m) = omega (arith, forms.place-next G m, ap (nodePlace G) (add-one m)) in
+      put-also G Z (zeroed.file s (at 0)) q (joined (acts.nodeActs s) m) (acts.nodeActs s m)
+      ∙ ap₂ (λ x z. putAll G Z x z (acts.nodeActs s m)) (nodes-put q m (omega arith)) (nodes-reach q m)
       ∙ node-puts q m (omega arith)
       ∙ ap (zeroed.file s) e
 
@@ -230,7 +135,7 @@ module _ (s : List ℕ) (bs : num.Bytes s) (h : accepted (scheduleAnswer s) ≡ 
 
   event-six : (j : ℕ) → j < countIn s → eventIn s j .kind % 256 ∷ eventIn s j .number % 256 ∷ le4 (eventIn s j .item) ≡ take 6 (drop (place j) s)
   event-six j p =
-      let e : eventPlace (scheduleShape s) j ≡ place j = omega (arith, acc.schedule-size s h, shape-size) in
+      let e : eventPlace (scheduleShape s) j ≡ place j = omega (arith, forms.size-at G) in
       six s (eventPlace (scheduleShape s) j) bs (omega (arith, size, e)) ∙ ap (λ q. take 6 (drop q s)) e
 
   abbrev sixOf : Event → List ℕ
@@ -249,7 +154,7 @@ module _ (s : List ℕ) (bs : num.Bytes s) (h : accepted (scheduleAnswer s) ≡ 
       ∙ ap (take 6) (sym (drop-drop (i * 6) (place j) s)))
       ∙ tabs.joined-parts (drop (place j) s) 6 d
 
-  one-put : (x : List ℕ) (q a b c d : ℕ) → q + d * 6 ≤ Z → putAll F Z x q (act 5 a b c d ∷ []) ≡ over x q (times d (a % 256 ∷ b % 256 ∷ le4 c))
+  one-put : (x : List ℕ) (q a b c d : ℕ) → q + d * 6 ≤ Z → putAll G Z x q (act 5 a b c d ∷ []) ≡ over x q (times d (a % 256 ∷ b % 256 ∷ le4 c))
   unfolding putAll putBy reachBy
   one-put x q a b c d h = rw (le-leb (q + d * 6) Z h)
 
@@ -262,21 +167,21 @@ module _ (s : List ℕ) (bs : num.Bytes s) (h : accepted (scheduleAnswer s) ≡ 
   none-reach q = refl
 
   event-puts : (j : ℕ) → j < countIn s
-      → putAll F Z (zeroed.file s (place (runs.upto s j))) (place (runs.upto s j)) (acts.eventActs s j) ≡ zeroed.file s (place (runs.upto s (suc j)))
+      → putAll G Z (zeroed.file s (place (runs.upto s j))) (place (runs.upto s j)) (acts.eventActs s j) ≡ zeroed.file s (place (runs.upto s (suc j)))
   event-puts j p = by (follows s j) refl
     where
       by : (b : Bool) → follows s j ≡ b
-          → putAll F Z (zeroed.file s (place (runs.upto s j))) (place (runs.upto s j)) (acts.eventActs s j) ≡ zeroed.file s (place (runs.upto s (suc j)))
+          → putAll G Z (zeroed.file s (place (runs.upto s j))) (place (runs.upto s j)) (acts.eventActs s j) ≡ zeroed.file s (place (runs.upto s (suc j)))
       by true e =
-          ap (putAll F Z (zeroed.file s (place (runs.upto s j))) (place (runs.upto s j))) (saying.joins s bs h w j e)
+          ap (putAll G Z (zeroed.file s (place (runs.upto s j))) (place (runs.upto s j))) (saying.joins s bs h j e)
           ∙ none-put (zeroed.file s (place (runs.upto s j))) (place (runs.upto s j))
-          ∙ ap (λ u. zeroed.file s (place u)) (runs.upto-follows s j p e ∙ sym (saying.next s bs h w j p))
+          ∙ ap (λ u. zeroed.file s (place u)) (runs.upto-follows s j p e ∙ sym (saying.next s bs h j p))
       by false e =
           let g = runs.run-ge s j in
           let l = runs.run-le s j p in
-          let d : place j + (runEnd s j - j) * 6 ≡ place (runs.upto s (suc j)) = omega (arith, saying.next s bs h w j p, g) in
-          ap (λ u. putAll F Z (zeroed.file s (place u)) (place u) (acts.eventActs s j)) (runs.upto-leads s j p e)
-          ∙ ap (putAll F Z (zeroed.file s (place j)) (place j)) (saying.leads s bs h w j e)
+          let d : place j + (runEnd s j - j) * 6 ≡ place (runs.upto s (suc j)) = omega (arith, saying.next s bs h j p, g) in
+          ap (λ u. putAll G Z (zeroed.file s (place u)) (place u) (acts.eventActs s j)) (runs.upto-leads s j p e)
+          ∙ ap (putAll G Z (zeroed.file s (place j)) (place j)) (saying.leads s bs h j e)
           ∙ one-put (zeroed.file s (place j)) (place j) (eventIn s j .kind) (eventIn s j .number) (eventIn s j .item) (runEnd s j - j) (omega (arith, g, l))
           ∙ ap (over (zeroed.file s (place j)) (place j)) (run-bytes j (runEnd s j - j) (omega (arith, g)) p)
           ∙ zeroed.put-next s (place j) ((runEnd s j - j) * 6) (omega (arith, size, g, l))
@@ -287,12 +192,12 @@ module _ (s : List ℕ) (bs : num.Bytes s) (h : accepted (scheduleAnswer s) ≡ 
     where
       by : (b : Bool) → follows s j ≡ b → reachAll Z (place (runs.upto s j)) (acts.eventActs s j) ≡ place (runs.upto s (suc j))
       by true e =
-          ap (reachAll Z (place (runs.upto s j))) (saying.joins s bs h w j e) ∙ none-reach (place (runs.upto s j))
-          ∙ ap place (runs.upto-follows s j p e ∙ sym (saying.next s bs h w j p))
+          ap (reachAll Z (place (runs.upto s j))) (saying.joins s bs h j e) ∙ none-reach (place (runs.upto s j))
+          ∙ ap place (runs.upto-follows s j p e ∙ sym (saying.next s bs h j p))
       by false e =
-          let d : place j + (runEnd s j - j) * 6 ≡ place (runs.upto s (suc j)) = omega (arith, saying.next s bs h w j p, runs.run-ge s j) in
+          let d : place j + (runEnd s j - j) * 6 ≡ place (runs.upto s (suc j)) = omega (arith, saying.next s bs h j p, runs.run-ge s j) in
           ap (λ u. reachAll Z (place u) (acts.eventActs s j)) (runs.upto-leads s j p e)
-          ∙ ap (reachAll Z (place j)) (saying.leads s bs h w j e)
+          ∙ ap (reachAll Z (place j)) (saying.leads s bs h j e)
           ∙ one-reach (place j) (eventIn s j .kind) (eventIn s j .number) (eventIn s j .item) (runEnd s j - j) (omega (arith, runs.run-ge s j, runs.run-le s j p))
           ∙ d
 
@@ -308,15 +213,15 @@ module _ (s : List ℕ) (bs : num.Bytes s) (h : accepted (scheduleAnswer s) ≡ 
       ∙ event-reaches m (omega arith)
 
   events-put : (m : ℕ) → m ≤ countIn s
-      → putAll F Z (zeroed.file s (at (nodesIn s))) (at (nodesIn s)) (joined (acts.eventActs s) m) ≡ zeroed.file s (place (runs.upto s m))
+      → putAll G Z (zeroed.file s (at (nodesIn s))) (at (nodesIn s)) (joined (acts.eventActs s) m) ≡ zeroed.file s (place (runs.upto s m))
   unfolding joined putAll
   events-put zero p = ap (zeroed.file s) start
   events-put (suc m) p =
-      put-also F Z (zeroed.file s (at (nodesIn s))) (at (nodesIn s)) (joined (acts.eventActs s) m) (acts.eventActs s m)
-      ∙ ap₂ (λ x z. putAll F Z x z (acts.eventActs s m)) (events-put m (omega arith)) (events-reach m (omega arith))
+      put-also G Z (zeroed.file s (at (nodesIn s))) (at (nodesIn s)) (joined (acts.eventActs s) m) (acts.eventActs s m)
+      ∙ ap₂ (λ x z. putAll G Z x z (acts.eventActs s m)) (events-put m (omega arith)) (events-reach m (omega arith))
       ∙ event-puts m (omega arith)
 
-  last-puts : (x : List ℕ) (q : ℕ) → putAll F Z x q (act 0 0 0 0 0 ∷ []) ≡ x
+  last-puts : (x : List ℕ) (q : ℕ) → putAll G Z x q (act 0 0 0 0 0 ∷ []) ≡ x
   unfolding putAll putBy reachBy
   last-puts x q = refl
 
@@ -329,29 +234,36 @@ module _ (s : List ℕ) (bs : num.Bytes s) (h : accepted (scheduleAnswer s) ≡ 
       nothing [] = refl
       nothing (x ∷ l) = ap (λ z. x ∷ z) (nothing l)
 
-  -- the words of a schedule that is taken up to its events and whose form has words, read, are that schedule
+  -- the words of a schedule that is taken up to its events, read, are that schedule
   pub words-back : fileOf (wordsOf s) ≡ s
   unfolding fileOf
   words-back =
-      let a = acts.headActs s in
+      let a = acts.openActs s in
+      let d = joined (acts.headActs s) (headsIn s) in
       let b = joined (acts.nodeActs s) (nodesIn s) in
       let c = joined (acts.eventActs s) (countIn s) in
       let z = act 0 0 0 0 0 ∷ [] in
       let p = at (nodesIn s) in
-      let f = zeroed.file s (at 0) in
-      let r : reachAll Z p (a ++ b) ≡ p = reach-also Z p a b ∙ ap (λ q. reachAll Z q b) (heads-reach p) ∙ nodes-reach p (nodesIn s) in
-      let ab : putAll F Z f p (a ++ b) ≡ zeroed.file s p =
-      put-also F Z f p a b ∙ ap₂ (λ x q. putAll F Z x q b) (heads-put f p) (heads-reach p) ∙ nodes-put p (nodesIn s) (omega arith) in
-      let abc : putAll F Z f p (a ++ b ++ c) ≡ s =
-      put-also F Z f p (a ++ b) c ∙ ap₂ (λ x q. putAll F Z x q c) ab r ∙ events-put (countIn s) (omega arith)
+      let f = zeroed.file s (opening.first s bs h) in
+      let rd : reachAll Z p (a ++ d) ≡ p = reach-also Z p a d ∙ ap (λ q. reachAll Z q d) (opening.open-reach s bs h p) ∙ reach-joined Z p (acts.headActs s) (headsIn s) (opening.head-reach s bs h p) in
+      let r : reachAll Z p (a ++ d ++ b) ≡ p = reach-also Z p (a ++ d) b ∙ ap (λ q. reachAll Z q b) rd ∙ nodes-reach p (nodesIn s) in
+      let ad : putAll G Z f p (a ++ d) ≡ zeroed.file s (at 0) =
+      put-also G Z f p a d ∙ ap₂ (λ x q. putAll G Z x q d) (opening.open-put s bs h f p) (opening.open-reach s bs h p) ∙ opening.heads-put s bs h p (headsIn s) (omega arith) ∙ ap (zeroed.file s) (opening.lines-end s bs h) in
+      let ab : putAll G Z f p (a ++ d ++ b) ≡ zeroed.file s p =
+      put-also G Z f p (a ++ d) b ∙ ap₂ (λ x q. putAll G Z x q b) ad rd ∙ nodes-put p (nodesIn s) (omega arith) in
+      let abc : putAll G Z f p (a ++ d ++ b ++ c) ≡ s =
+      put-also G Z f p (a ++ d ++ b) c ∙ ap₂ (λ x q. putAll G Z x q c) ab r ∙ events-put (countIn s) (omega arith)
       ∙ ap (λ u. zeroed.file s (place u)) (runs.upto-all s) ∙ all-there in
-      ap (λ (v : Survey). putAll (v .form) (sizeOf v) (blankFile v) (eventsPlace v) (actsOf (wordsOf s))) (saying.words-survey s bs h w)
-      ∙ ap₂ (λ x l. putAll F Z x p l) blank-there (acts.words-acts s bs (saying.few s bs h w) (taken .count))
-      ∙ put-also F Z f p (a ++ b ++ c) z
-      ∙ last-puts (putAll F Z f p (a ++ b ++ c)) (reachAll Z p (a ++ b ++ c))
+      ap (λ (v : Survey). putAll (saidShape v) (sizeOf v) (blankFile v) (eventsPlace v) (actsOf (wordsOf s))) (saying.words-survey s bs h)
+      ∙ ap (λ (g : Shape). putAll g (eventsStart g + countIn s * 6) (blankFile (saying.surveys s bs h (countIn s))) (eventsStart g) (actsOf (wordsOf s))) (opening.shape-said s bs h (countIn s))
+      ∙ ap₂ (λ x l. putAll G Z x p l) (opening.blank-there s bs h) (acts.words-acts s bs (saying.heads-few s bs h) (saying.few s bs h) (taken .count))
+      ∙ put-also G Z f p (a ++ d ++ b ++ c) z
+      ∙ last-puts (putAll G Z f p (a ++ d ++ b ++ c)) (reachAll Z p (a ++ d ++ b ++ c))
       ∙ abc
 
   -- and they are taken, where there is room for it
   pub words-taken : (room : ℕ) → length s ≤ room → readAnswer (wordsOf s) room ≡ Taken
   unfolding readAnswer
-  words-taken room q = rw (saying.words-survey s bs h w) (rw (le-ltb room (Z) (omega (arith, size))))
+  words-taken room q =
+      let e = ap (λ (g : Shape). eventsStart g) (opening.shape-said s bs h (countIn s)) in
+      rw (saying.words-survey s bs h) (rw (le-ltb room (sizeOf (saying.surveys s bs h (countIn s))) (omega (arith, size, e))))

@@ -1,80 +1,109 @@
 -- Bytes put one behind the other, and a file in the front of a longer buffer.
-use Prim.Native.Nat.{ℕ, zero, suc, _+_, _-_, _*_, _%_, _/_, _≤_, _<_}
+use Prim.Native.Nat.{ℕ, suc, _+_, _-_, _*_, _%_, _/_, _≤_, _<_}
 use mathlib.Core.Path.{_≡_, refl, sym, ap, ap₂, _∙_}
-use mathlib.Core.Bool.{Bool, true, false}
-use mathlib.Core.Logic.{_≢_, _⊎_, inl, inr}
+use mathlib.Core.Bool.{true}
+use mathlib.Core.Logic.{_≢_}
 use mathlib.Core.List.{List, [], _∷_, _++_}
 use native.Mathlib.Omega.{arith}
 use native.Mathlib.Numerals.{add-one, add-two}
-use native.Mathlib.Nat.{zero-add}
+use native.Mathlib.Nat.{zero-add, zero-mul}
 use native.Mathlib.Decide.{decLt, ℕ-discrete}
-use borrow.Author.Tests.{eq-eqb, ne-eqb, le-leb, lt-leb}
+use borrow.Author.Tests.{eq-eqb, ne-eqb, lt-ltb, le-ltb, le-leb, lt-leb}
 use lib.ListN.{length, set, drop, replicate, length-append, length-set, length-replicate, replicate-append-replicate}
-use lib.Seq.{set-append-left, sets, length-sets}
-use Rattle.lists.specs.Find.{pick}
+use lib.Seq.{set-append-left, sets}
 use Rattle.lists.specs.Tab.{joined, over}
 use Rattle.lists.proofs.TabLaws as tabs
-use Rattle.image.specs.Bytes.{le, le4}
-use Rattle.image.specs.Form.{widthOf, nodeSize, headLines}
-use Rattle.image.specs.Layout.{markBytes, headBytes}
+use Rattle.image.specs.Bytes.{le4}
+use Rattle.image.specs.Form.{Form, plain, wide, pair, desks, formOf, headCount, known, widthOf, nodeSize, headLines}
+use Rattle.image.specs.Layout.{markBytes}
+use Rattle.image.specs.declared.Content.{Content}
+use Rattle.image.specs.declared.Shape.{Shape}
+use Rattle.image.proofs.ByteLaws.{length-le}
 use Rattle.image.proofs.FormLaws as forms
 use Rattle.codec.proofs.Laws as image
 use Rattle.codec.proofs.ReadWrite as again
+use Rattle.codec.proofs.Shapes as shapes
 use Rattle.printing.proofs.Written as written
 use Rattle.spelling.specs.declared.Act.{Act}
 use Rattle.spelling.specs.declared.Survey.{Survey}
-use Rattle.spelling.proofs.WordedLaws as worded
-use Rattle.spelling.specs.Layout.{worded, spelledShape, nodeStart, sizeOf, restOf, headOf, nodeSaid, eventSaid}
+use Rattle.spelling.specs.Layout.{saidShape, headStart, nodeStart, eventsStart, sizeOf, restOf, headOf, headSaid, nodeSaid, eventSaid}
 use Rattle.spelling.specs.Reading.{blankFile, times, putBy, reachBy, putAll}
 
 pub event-over : (b : List ℕ) (at x y z : ℕ) → over (set (set b at x) (at + 1) y) (at + 2) (le4 z) ≡ over b at (x ∷ y ∷ le4 z)
 unfolding over
 event-over b at x y z = simp (add-one, add-two)
 
-pub header-over : (b : List ℕ) (v : Survey) → worded (v .form) ≡ true
-    → over (over (over (over (over (over (over b 0 (85 ∷ 81 ∷ 83 ∷ 1 ∷ 0 ∷ [])) 5 (v .t % 256 ∷ [])) 6 (v .count % 256 ∷ [])) 7 (v .count / 256 % 256 ∷ []))
-    8 (85 ∷ 81 ∷ 73 ∷ v .form ∷ 0 ∷ [])) 13 (v .n % 256 ∷ [])) 14 (le (widthOf (v .form)) (v .head)) ≡ over b 0 (headOf v)
-unfolding over headOf headBytes markBytes headLines joined
-header-over b v h = by (worded.worded-is (v .form) h)
-  where
-    by : (v .form ≡ 1) ⊎ (v .form ≡ 2)
-        → over (over (over (over (over (over (over b 0 (85 ∷ 81 ∷ 83 ∷ 1 ∷ 0 ∷ [])) 5 (v .t % 256 ∷ [])) 6 (v .count % 256 ∷ [])) 7 (v .count / 256 % 256 ∷ []))
-        8 (85 ∷ 81 ∷ 73 ∷ v .form ∷ 0 ∷ [])) 13 (v .n % 256 ∷ [])) 14 (le (widthOf (v .form)) (v .head)) ≡ over b 0 (headOf v)
-    by (inl e) = rw e
-    by (inr e) = rw e
+-- ---- what stands before the head lines
 
-pub length-head : (v : Survey) → worded (v .form) ≡ true → length (headOf v) ≡ nodeStart (v .form) 0
+pub desks-over : (b : List ℕ) (g : Shape) → g .form ≡ 4 → set (set (over b 8 (85 ∷ 81 ∷ 80 ∷ 1 ∷ 0 ∷ [])) 13 (g .n)) 14 (g .t) ≡ over b 8 (markBytes g)
+unfolding over
+desks-over b g e = rw (shapes.mark-desks g e)
+
+pub plain-over : (b : List ℕ) (g : Shape) → known (g .form) ≡ true → g .form ≢ 4
+    → set (over b 8 (85 ∷ 81 ∷ 73 ∷ g .form ∷ 0 ∷ [])) 13 (g .n) ≡ over b 8 (markBytes g)
+unfolding over
+plain-over b g h e = rw (shapes.mark-plain g h e)
+
+pub header-over : (b : List ℕ) (v : Survey) (g : Shape) → g ≡ saidShape v
+    → over (over (over (over (over b 0 (85 ∷ 81 ∷ 83 ∷ 1 ∷ 0 ∷ [])) 5 (v .t % 256 ∷ [])) 6 (v .count % 256 ∷ [])) 7 (v .count / 256 % 256 ∷ [])) 8 (markBytes g)
+    ≡ over b 0 (headOf v)
+unfolding over headOf
+header-over b v g e =
+    ap (λ (g : Shape). over (over (over (over (over b 0 (85 ∷ 81 ∷ 83 ∷ 1 ∷ 0 ∷ [])) 5 (v .t % 256 ∷ [])) 6 (v .count % 256 ∷ [])) 7 (v .count / 256 % 256 ∷ [])) 8 (markBytes g)) e
+
+pub length-head : (v : Survey) → known (v .form) ≡ true → length (headOf v) ≡ headStart (v .form) 0
 unfolding headOf
-length-head v h =
-    let z = spelledShape (v .form) (v .n % 256) in
-    omega (arith, image.head-length z (λ k. v .head) (worded.worded-known (v .form) h), forms.place-zero z, worded.place-same z 0 h)
+length-head v h = omega (arith, shapes.mark-length (saidShape v) h, zero-mul (widthOf (v .form)))
 
--- ---- the places of nodes, in a schedule
+-- ---- the places of head lines and nodes, in a schedule
 
-pub span-wide : (f : ℕ) → f ≡ 2 → 13 ≡ nodeSize f
-unfolding nodeSize widthOf
-span-wide f e = rw e
+pub head-wide : (f k : ℕ) → f ≡ 2 → 14 + k * 8 ≡ headStart f k
+head-wide f k e = omega (arith, shapes.line-wide f k e)
 
-pub span-plain : (f : ℕ) → worded f ≡ true → f ≢ 2 → 9 ≡ nodeSize f
-unfolding nodeSize widthOf
-span-plain f h e = rw (worded.worded-plain f h e)
+pub head-desks : (f k : ℕ) → f ≡ 4 → 15 + k * 4 ≡ headStart f k
+head-desks f k e = omega (arith, shapes.line-desks f k e)
 
-start-one : (i : ℕ) → 18 + i * 9 ≡ nodeStart 1 i
-unfolding worded
-start-one i = worded.start-plain 1 i refl (λ e. omega (arith, e))
+pub head-plain : (f k : ℕ) → known f ≡ true → f ≢ 2 → f ≢ 4 → 14 + k * 4 ≡ headStart f k
+head-plain f k h a b = omega (arith, shapes.line-plain f k h a b)
 
-pub start-big : (f i : ℕ) → worded f ≡ true → 65535 < i → 500000 < nodeStart f i
-start-big f i h l = worded.by-worded (λ f. 500000 < nodeStart f i) f h (omega (arith, start-one i)) (omega (arith, worded.start-wide 2 i refl))
+-- the mark before them has at most seven bytes
+pub head-first : (f : ℕ) → (14 ≤ headStart f 0) × (headStart f 0 ≤ 15)
+head-first f = (omega (arith, zero-mul (widthOf f), forms.heads-few f .0), omega (arith, zero-mul (widthOf f), forms.heads-few f .1))
 
-pub start-most : (f i : ℕ) → worded f ≡ true → i ≤ 65535 → nodeStart f i ≤ 851977
-start-most f i h l = worded.by-worded (λ f. nodeStart f i ≤ 851977) f h (omega (arith, start-one i)) (omega (arith, worded.start-wide 2 i refl))
+pub lines-few : (g : Shape) → g .t ≤ 255 → headLines g ≤ 255
+unfolding headLines
+lines-few g h = by (formOf (g .form))
+  where
+    by : (f : Form) → headCount f (g .t) ≤ 255
+    by plain = omega arith
+    by wide = omega arith
+    by pair = omega arith
+    by desks = h
+
+pub head-within : (g : Shape) (k : ℕ) → k < headLines g → headStart (g .form) k + widthOf (g .form) ≤ nodeStart g 0
+head-within g k h = omega (arith, shapes.line-within g k h, forms.place-zero g)
 
 -- so a schedule has fewer than 500,000 bytes
-pub start-few : (f i : ℕ) → worded f ≡ true → i ≤ 255 → nodeStart f i ≤ 3337
-start-few f i h l = worded.by-worded (λ f. nodeStart f i ≤ 3337) f h (omega (arith, start-one i)) (omega (arith, worded.start-wide 2 i refl))
+abbrev pub Starts : Shape → ℕ → ℕ → Type 0
+Starts g i r = (r ≡ nodeStart g i) × (r ≤ 3337)
 
-pub span-most : (f : ℕ) → worded f ≡ true → nodeSize f ≤ 13
-span-most f h = let k = worded.worded-known f h in omega (arith, forms.size-is f k, forms.width-few f k .1)
+pub start-wide : (g : Shape) (i : ℕ) → i ≤ 255 → g .form ≡ 2 → Starts g i (22 + i * 13)
+start-wide g i l e = (omega (arith, forms.place-wide g i e), omega arith)
+
+pub start-desks : (g : Shape) (i : ℕ) → i ≤ 255 → g .t ≤ 255 → g .form ≡ 4 → Starts g i (15 + g .t * 4 + i * 9)
+start-desks g i l t e = (omega (arith, forms.place-desks g i e), omega arith)
+
+pub start-plain : (g : Shape) (i : ℕ) → i ≤ 255 → known (g .form) ≡ true → g .form ≢ 2 → g .form ≢ 4 → Starts g i (18 + i * 9)
+start-plain g i l h a b = (omega (arith, forms.place-plain g i h a b), omega arith)
+
+pub node-within : (g : Shape) (i : ℕ) → i < g .n → nodeStart g i + nodeSize (g .form) ≤ eventsStart g
+node-within g i h = omega (arith, forms.place-within g i (g .n) h)
+
+pub nodes-behind : (g : Shape) → nodeStart g 0 ≤ eventsStart g
+nodes-behind g = omega (arith, forms.place-zero g, forms.place-from g (g .n))
+
+pub first-behind : (g : Shape) → headStart (g .form) 0 ≤ eventsStart g
+first-behind g = omega (arith, zero-mul (widthOf (g .form)), forms.header-is g, forms.place-from g (g .n))
 
 -- ---- an event d times
 
@@ -109,11 +138,11 @@ zeros-next b at i =
     ∙ written.byte-more b at (replicate i 0) 0
     ∙ ap (over b at) (replicate-append-replicate {A = ℕ} i 1 0)
 
-rest-is : (v : Survey) → nodeStart (v .form) (v .n) + v .count * 6 - nodeStart (v .form) 0 ≡ restOf v
-rest-is v = let z = spelledShape (v .form) 0 in omega (arith, forms.place-from z (v .n), forms.place-zero z)
+rest-is : (v : Survey) → sizeOf v - headStart (v .form) 0 ≡ restOf v
+rest-is v = let g = saidShape v in omega (arith, zero-mul (widthOf (v .form)), forms.header-is g, forms.place-from g (g .n))
 
-pub blank-over : (b : List ℕ) (v : Survey) → worded (v .form) ≡ true
-    → over (over b 0 (headOf v)) (nodeStart (v .form) 0) (replicate (nodeStart (v .form) (v .n) + v .count * 6 - nodeStart (v .form) 0) 0) ≡ over b 0 (blankFile v)
+pub blank-over : (b : List ℕ) (v : Survey) → known (v .form) ≡ true
+    → over (over b 0 (headOf v)) (headStart (v .form) 0) (replicate (sizeOf v - headStart (v .form) 0) 0) ≡ over b 0 (blankFile v)
 unfolding blankFile
 blank-over b v h =
     ap₂ (λ k n. over (over b 0 (headOf v)) k (replicate n 0)) (sym (length-head v h) ∙ sym (zero-add (length (headOf v)))) (rest-is v)
@@ -121,31 +150,43 @@ blank-over b v h =
 
 -- ---- what a line puts
 
-module _ (f z : ℕ) (x : List ℕ) (p : ℕ) (a : Act) where
-  pub put-node : a .tag ≡ 4 → nodeStart f (a .a) + nodeSize f ≤ z → putBy f z x p a ≡ over x (nodeStart f (a .a)) (nodeSaid f a)
+module _ (g : Shape) (z : ℕ) (x : List ℕ) (p : ℕ) (a : Act) where
+  pub put-head : a .tag ≡ 3 → a .a < headLines g → putBy g z x p a ≡ over x (headStart (g .form) (a .a)) (headSaid (g .form) a)
   unfolding putBy
-  put-node k h = rw (eq-eqb (a .tag) 4 k, le-leb (nodeStart f (a .a) + nodeSize f) z h)
+  put-head k h = rw (eq-eqb (a .tag) 3 k, lt-ltb (a .a) (headLines g) h)
 
-  pub put-no-node : a .tag ≡ 4 → z < nodeStart f (a .a) + nodeSize f → putBy f z x p a ≡ x
+  pub put-no-head : a .tag ≡ 3 → headLines g ≤ a .a → putBy g z x p a ≡ x
   unfolding putBy
-  put-no-node k h = rw (eq-eqb (a .tag) 4 k, lt-leb (nodeStart f (a .a) + nodeSize f) z h)
+  put-no-head k h = rw (eq-eqb (a .tag) 3 k, le-ltb (a .a) (headLines g) h)
 
-  -- a node does not go by the events
-  pub put-any-node : a .tag ≡ 4 → putBy f z x 0 a ≡ putBy f z x p a
+  pub put-node : a .tag ≡ 4 → a .a < g .n → putBy g z x p a ≡ over x (nodeStart g (a .a)) (nodeSaid (g .form) a)
   unfolding putBy
-  put-any-node k = rw (eq-eqb (a .tag) 4 k)
+  put-node k h = rw (ne-eqb (a .tag) 3 (λ q. omega arith), eq-eqb (a .tag) 4 k, lt-ltb (a .a) (g .n) h)
 
-  pub put-events : a .tag ≡ 5 → p + a .d * 6 ≤ z → putBy f z x p a ≡ over x p (times (a .d) (eventSaid a))
+  pub put-no-node : a .tag ≡ 4 → g .n ≤ a .a → putBy g z x p a ≡ x
   unfolding putBy
-  put-events k h = rw (ne-eqb (a .tag) 4 (λ q. omega arith), eq-eqb (a .tag) 5 k, le-leb (p + a .d * 6) z h)
+  put-no-node k h = rw (ne-eqb (a .tag) 3 (λ q. omega arith), eq-eqb (a .tag) 4 k, le-ltb (a .a) (g .n) h)
 
-  pub put-no-events : a .tag ≡ 5 → z < p + a .d * 6 → putBy f z x p a ≡ x
+  -- neither goes by the events
+  pub put-any-head : a .tag ≡ 3 → putBy g 0 x 0 a ≡ putBy g z x p a
   unfolding putBy
-  put-no-events k h = rw (ne-eqb (a .tag) 4 (λ q. omega arith), eq-eqb (a .tag) 5 k, lt-leb (p + a .d * 6) z h)
+  put-any-head k = rw (eq-eqb (a .tag) 3 k)
 
-  pub put-nothing : (a .tag ≡ 4 → ⊥) → (a .tag ≡ 5 → ⊥) → putBy f z x p a ≡ x
+  pub put-any-node : a .tag ≡ 4 → putBy g 0 x 0 a ≡ putBy g z x p a
   unfolding putBy
-  put-nothing k h = rw (ne-eqb (a .tag) 4 k, ne-eqb (a .tag) 5 h)
+  put-any-node k = rw (ne-eqb (a .tag) 3 (λ q. omega arith), eq-eqb (a .tag) 4 k)
+
+  pub put-events : a .tag ≡ 5 → p + a .d * 6 ≤ z → putBy g z x p a ≡ over x p (times (a .d) (eventSaid a))
+  unfolding putBy
+  put-events k h = rw (ne-eqb (a .tag) 3 (λ q. omega arith), ne-eqb (a .tag) 4 (λ q. omega arith), eq-eqb (a .tag) 5 k, le-leb (p + a .d * 6) z h)
+
+  pub put-no-events : a .tag ≡ 5 → z < p + a .d * 6 → putBy g z x p a ≡ x
+  unfolding putBy
+  put-no-events k h = rw (ne-eqb (a .tag) 3 (λ q. omega arith), ne-eqb (a .tag) 4 (λ q. omega arith), eq-eqb (a .tag) 5 k, lt-leb (p + a .d * 6) z h)
+
+  pub put-nothing : (a .tag ≡ 3 → ⊥) → (a .tag ≡ 4 → ⊥) → (a .tag ≡ 5 → ⊥) → putBy g z x p a ≡ x
+  unfolding putBy
+  put-nothing j k h = rw (ne-eqb (a .tag) 3 j, ne-eqb (a .tag) 4 k, ne-eqb (a .tag) 5 h)
 
 module _ (z p : ℕ) (a : Act) where
   pub reach-stays : (a .tag ≡ 5 → ⊥) → reachBy z p a ≡ p
@@ -177,44 +218,74 @@ module _ (b : List ℕ) where
       ap (λ l. sets l (suc i) y) (front-set x i v h (omega arith))
       ∙ front-over y (set x i v) (suc i) (omega (arith, length-set x i v)) (omega (arith, length-set x i v))
 
-  pub length-put : (f z : ℕ) (x : List ℕ) (p : ℕ) (a : Act) → length (putBy f z x p a) ≡ length x
-  length-put f z x p a = by (decLt z (nodeStart f (a .a) + nodeSize f)) (decLt z (p + a .d * 6)) (ℕ-discrete (a .tag) 4) (ℕ-discrete (a .tag) 5)
+-- a line puts certain bytes within z, perhaps none
+pub record Puts (g : Shape) (z p : ℕ) (a : Act) : Type 0 where
+  pub place : ℕ
+  pub bytes : List ℕ
+  pub within : place + length bytes ≤ z
+  pub puts : (x : List ℕ) → putBy g z x p a ≡ over x place bytes
+
+module _ (g : Shape) (z : ℕ) (k : known (g .form) ≡ true) (l : eventsStart g ≤ z) (p : ℕ) (a : Act) where
+  none : ((x : List ℕ) → putBy g z x p a ≡ x) → Puts g z p a
+  unfolding over
+  none h = record { place = 0; bytes = []; within = omega arith; puts = h }
+
+  heads : a .tag ≡ 3 → Dec (a .a < headLines g) → Puts g z p a
+  heads e (yes h) = record {
+    place = headStart (g .form) (a .a);
+    bytes = headSaid (g .form) a;
+    within = omega (arith, length-le (widthOf (g .form)) (a .b), head-within g (a .a) h, nodes-behind g);
+    puts = λ x. put-head g z x p a e h;
+  }
+  heads e (no h) = none (λ x. put-no-head g z x p a e (omega arith))
+
+  nodes : a .tag ≡ 4 → Dec (a .a < g .n) → Puts g z p a
+  nodes e (yes h) =
+      let v : Content = record { linked = a .b % 256; index = a .c; item = a .d % 4294967296 } in
+      record {
+        place = nodeStart g (a .a);
+        bytes = nodeSaid (g .form) a;
+        within = omega (arith, image.node-length (g .form) v k, node-within g (a .a) h);
+        puts = λ x. put-node g z x p a e h;
+      }
+  nodes e (no h) = none (λ x. put-no-node g z x p a e (omega arith))
+
+  events : a .tag ≡ 5 → Dec (z < p + a .d * 6) → Puts g z p a
+  events e (yes h) = none (λ x. put-no-events g z x p a e h)
+  events e (no h) = record {
+    place = p;
+    bytes = times (a .d) (eventSaid a);
+    within = omega (arith, length-times (a .d) a);
+    puts = λ x. put-events g z x p a e (omega arith);
+  }
+
+  put-is : Puts g z p a
+  put-is = by (ℕ-discrete (a .tag) 3) (ℕ-discrete (a .tag) 4) (ℕ-discrete (a .tag) 5)
     where
-      by : Dec (z < nodeStart f (a .a) + nodeSize f) → Dec (z < p + a .d * 6) → Dec (a .tag ≡ 4) → Dec (a .tag ≡ 5) → length (putBy f z x p a) ≡ length x
-      by (yes l) e (yes k) g = ap length (put-no-node f z x p a k l)
-      by (no l) e (yes k) g = ap length (put-node f z x p a k (omega arith)) ∙ tabs.length-over x (nodeStart f (a .a)) (nodeSaid f a)
-      by d (yes l) (no k) (yes g) = ap length (put-no-events f z x p a g l)
-      by d (no l) (no k) (yes g) = ap length (put-events f z x p a g (omega arith)) ∙ tabs.length-over x p (times (a .d) (eventSaid a))
-      by d e (no k) (no g) = ap length (put-nothing f z x p a k g)
+      by : Dec (a .tag ≡ 3) → Dec (a .tag ≡ 4) → Dec (a .tag ≡ 5) → Puts g z p a
+      by (yes e) d c = heads e (decLt (a .a) (headLines g))
+      by (no n) (yes e) c = nodes e (decLt (a .a) (g .n))
+      by (no n) (no m) (yes e) = events e (decLt z (p + a .d * 6))
+      by (no n) (no m) (no o) = none (λ x. put-nothing g z x p a n m o)
 
-module _ (b : List ℕ) (f : ℕ) (known-f : worded f ≡ true) where
-  length-node : (a : Act) → length (nodeSaid f a) ≡ nodeSize f
-  length-node a = image.node-length f (record { linked = a .b % 256; index = a .c; item = a .d % 4294967296 }) (worded.worded-known f known-f)
+  length-put : (x : List ℕ) → length (putBy g z x p a) ≡ length x
+  length-put x = ap length (put-is .puts x) ∙ tabs.length-over x (put-is .place) (put-is .bytes)
 
-  put-front : (z : ℕ) (x : List ℕ) (p : ℕ) (a : Act) → length x ≡ z → z ≤ length b → putBy f z (over b 0 x) p a ≡ over b 0 (putBy f z x p a)
-  put-front z x p a h g = by (decLt z (nodeStart f (a .a) + nodeSize f)) (decLt z (p + a .d * 6)) (ℕ-discrete (a .tag) 4) (ℕ-discrete (a .tag) 5)
-    where
-      by : Dec (z < nodeStart f (a .a) + nodeSize f) → Dec (z < p + a .d * 6) → Dec (a .tag ≡ 4) → Dec (a .tag ≡ 5) → putBy f z (over b 0 x) p a ≡ over b 0 (putBy f z x p a)
-      by (yes l) e (yes k) m = put-no-node f z (over b 0 x) p a k l ∙ ap (over b 0) (sym (put-no-node f z x p a k l))
-      by (no l) e (yes k) m =
-          let q : nodeStart f (a .a) + nodeSize f ≤ z = omega arith in
-          put-node f z (over b 0 x) p a k q ∙ front-over b (nodeSaid f a) x (nodeStart f (a .a)) (omega arith) (omega (arith, length-node a))
-          ∙ ap (over b 0) (sym (put-node f z x p a k q))
-      by d (yes l) (no k) (yes m) = put-no-events f z (over b 0 x) p a m l ∙ ap (over b 0) (sym (put-no-events f z x p a m l))
-      by d (no l) (no k) (yes m) =
-          let q : p + a .d * 6 ≤ z = omega arith in
-          put-events f z (over b 0 x) p a m q ∙ front-over b (times (a .d) (eventSaid a)) x p (omega arith) (omega (arith, length-times (a .d) a))
-          ∙ ap (over b 0) (sym (put-events f z x p a m q))
-      by d e (no k) (no m) = put-nothing f z (over b 0 x) p a k m ∙ ap (over b 0) (sym (put-nothing f z x p a k m))
+  put-front : (b x : List ℕ) → length x ≡ z → z ≤ length b → putBy g z (over b 0 x) p a ≡ over b 0 (putBy g z x p a)
+  put-front b x e h =
+      put-is .puts (over b 0 x)
+      ∙ front-over b (put-is .bytes) x (put-is .place) (omega arith) (omega (arith, put-is .within))
+      ∙ ap (over b 0) (sym (put-is .puts x))
 
-  pub all-front : (z : ℕ) (x : List ℕ) (p : ℕ) (l : List Act) → length x ≡ z → z ≤ length b → putAll f z (over b 0 x) p l ≡ over b 0 (putAll f z x p l)
+module _ (b : List ℕ) (g : Shape) (z : ℕ) (k : known (g .form) ≡ true) (m : eventsStart g ≤ z) (h : z ≤ length b) where
+  pub all-front : (x : List ℕ) (p : ℕ) (l : List Act) → length x ≡ z → putAll g z (over b 0 x) p l ≡ over b 0 (putAll g z x p l)
   unfolding putAll
-  all-front z x p [] h g = refl
-  all-front z x p (a ∷ l) h g =
-      ap (λ y. putAll f z y (reachBy z p a) l) (put-front z x p a h g)
-      ∙ all-front z (putBy f z x p a) (reachBy z p a) l (length-put b f z x p a ∙ h) g
+  all-front x p [] e = refl
+  all-front x p (a ∷ l) e =
+      ap (λ y. putAll g z y (reachBy z p a) l) (put-front g z k m p a b x e h)
+      ∙ all-front (putBy g z x p a) (reachBy z p a) l (length-put g z k m p a x ∙ e)
 
-pub length-blank : (v : Survey) → worded (v .form) ≡ true → length (blankFile v) ≡ sizeOf v
+pub length-blank : (v : Survey) → known (v .form) ≡ true → length (blankFile v) ≡ sizeOf v
 unfolding blankFile
 length-blank v h =
     omega (
@@ -222,6 +293,6 @@ length-blank v h =
       length-append (headOf v) (replicate {A = ℕ} (restOf v) 0),
       length-replicate {A = ℕ} (restOf v) 0,
       length-head v h,
-      forms.place-from (spelledShape (v .form) 0) (v .n),
-      forms.place-zero (spelledShape (v .form) 0),
+      rest-is v,
+      first-behind (saidShape v),
     )

@@ -7,10 +7,11 @@ use borrow.Author.Tests.{eq-eqb, ne-eqb, lt-ltb, le-ltb}
 use lib.Dec.{eqb, ltb}
 use Rattle.lists.specs.Find.{pick}
 use Rattle.lists.proofs.BoolLaws.{no-way}
-use Rattle.image.specs.Form.{topOf}
+use Rattle.image.specs.Form.{topOf, headLines, perDesk}
 use Rattle.spelling.specs.declared.Act.{Act}
 use Rattle.spelling.specs.declared.Survey.{Survey}
-use Rattle.spelling.specs.Reading.{faulted, withNodes, withForm, versionForm, indexSaid, nodesSaid, versionSaid, behindNodes, surveyed}
+use Rattle.spelling.specs.Layout.{saidShape}
+use Rattle.spelling.specs.Reading.{faulted, withNodes, withThreads, withIndex, withForm, withDesks, versionForm, headNamed, indexSaid, nodesSaid, versionSaid, desksSaid, threadsSaid, headsSaid, behindNodes, surveyed}
 
 taken : (b : Bool) (l m : Survey) → b ≡ true → pick b l m ≡ l
 taken true l m e = refl
@@ -46,6 +47,40 @@ module _ (i : ℕ) (v : Survey) (x : ℕ) where
   pub version-known : v .settled ≡ false → versionForm x ≢ 0 → versionSaid i v x ≡ withForm v (versionForm x)
   unfolding versionSaid
   version-known b e = left (v .settled) (faulted v 1 i) _ b ∙ left (eqb (versionForm x) 0) (faulted v 1 i) _ (ne-eqb (versionForm x) 0 e)
+
+  -- `desks` and `threads`
+  pub desks-late : v .settled ≡ true → desksSaid i v x ≡ faulted v 1 i
+  unfolding desksSaid
+  desks-late b = taken (v .settled) (faulted v 1 i) _ b
+
+  pub desks-first : v .settled ≡ false → desksSaid i v x ≡ withDesks v x
+  unfolding desksSaid
+  desks-first b = left (v .settled) (faulted v 1 i) _ b
+
+  pub threads-late : v .form ≡ 4 → threadsSaid i v x ≡ faulted v 1 i
+  unfolding threadsSaid perDesk
+  threads-late e = taken (eqb (v .form) 4) (faulted v 1 i) _ (eq-eqb (v .form) 4 e)
+
+  pub threads-said : v .form ≢ 4 → threadsSaid i v x ≡ withThreads v x
+  unfolding threadsSaid perDesk
+  threads-said e = left (eqb (v .form) 4) (faulted v 1 i) _ (ne-eqb (v .form) 4 e)
+
+-- `head`
+module _ (i : ℕ) (v : Survey) (a : Act) where
+  pub head-odd : a .c ≢ headNamed (v .form) → headsSaid i v a ≡ faulted v 1 i
+  unfolding headsSaid
+  head-odd e = left (eqb (a .c) (headNamed (v .form))) _ (faulted v 1 i) (ne-eqb (a .c) (headNamed (v .form)) e)
+
+  module _ (e : a .c ≡ headNamed (v .form)) where
+    named : headsSaid i v a ≡ pick (ltb (a .a) (headLines (saidShape v))) (withIndex v) (faulted v 2 i)
+    unfolding headsSaid
+    named = taken (eqb (a .c) (headNamed (v .form))) _ (faulted v 1 i) (eq-eqb (a .c) (headNamed (v .form)) e)
+
+    pub head-large : headLines (saidShape v) ≤ a .a → headsSaid i v a ≡ faulted v 2 i
+    head-large l = named ∙ left (ltb (a .a) (headLines (saidShape v))) (withIndex v) (faulted v 2 i) (le-ltb (a .a) (headLines (saidShape v)) l)
+
+    pub head-there : a .a < headLines (saidShape v) → headsSaid i v a ≡ withIndex v
+    head-there l = named ∙ taken (ltb (a .a) (headLines (saidShape v))) (withIndex v) (faulted v 2 i) (lt-ltb (a .a) (headLines (saidShape v)) l)
 
 module _ (i : ℕ) (v : Survey) (a : Act) (h : v .fault ≡ 0) (z : a .tag ≢ 0) (n : a .tag ≢ 9) where
   tried : surveyed i v a

@@ -1,5 +1,5 @@
 -- A text read byte by byte: one turn, and the end.
-use Prim.Native.Nat.{ℕ, zero, suc, _+_, _≤_, _<_}
+use Prim.Native.Nat.{ℕ, suc, _+_, _≤_, _<_}
 use mathlib.Core.Path.{_≡_, refl, sym, ap, _∙_}
 use mathlib.Core.Bool.{Bool, true, false}
 use mathlib.Core.List.{List, [], _∷_}
@@ -10,6 +10,7 @@ use lib.ListN as ln
 use lib.Seq.{drop-cons}
 use lib.Dec.{eqb}
 use Rattle.lists.specs.Find.{pick}
+use Rattle.image.specs.declared.Shape.{Shape}
 use Rattle.spelling.specs.declared.Line.{Line}
 use Rattle.spelling.specs.declared.Act.{Act}
 use Rattle.spelling.specs.declared.Survey.{Survey}
@@ -87,27 +88,27 @@ number-le i x k h = by (eqb x 10)
 
 -- ---- what the lines put
 
-module _ (f z : ℕ) (b : List ℕ) (p : ℕ) (l : Line) (x : ℕ) (t : List ℕ) where
-  put-byte : putAll f z b p (actsFrom l (x ∷ t)) ≡ putAll f z (putNext f z b p l x) (reachNext z p l x) (actsFrom (lineNext l x) t)
+module _ (g : Shape) (z : ℕ) (b : List ℕ) (p : ℕ) (l : Line) (x : ℕ) (t : List ℕ) where
+  put-byte : putAll g z b p (actsFrom l (x ∷ t)) ≡ putAll g z (putNext g z b p l x) (reachNext z p l x) (actsFrom (lineNext l x) t)
   unfolding actsFrom putAll lineNext putNext reachNext
   put-byte = by (eqb x 10)
     where
-      by : (c : Bool) → putAll f z b p (elim c as (λ _. List Act) [ true ↦ said l ∷ actsFrom noLine t | false ↦ actsFrom (lineByte l x) t ])
-          ≡ putAll f z (pick c (putBy f z b p (said l)) b) (pick c (reachBy z p (said l)) p) (actsFrom (pick c noLine (lineByte l x)) t)
+      by : (c : Bool) → putAll g z b p (elim c as (λ _. List Act) [ true ↦ said l ∷ actsFrom noLine t | false ↦ actsFrom (lineByte l x) t ])
+          ≡ putAll g z (pick c (putBy g z b p (said l)) b) (pick c (reachBy z p (said l)) p) (actsFrom (pick c noLine (lineByte l x)) t)
       by true = refl
       by false = refl
 
-module _ (t : List ℕ) (k f z : ℕ) (b : List ℕ) (p : ℕ) (l : Line) where
-  pub put-turn : k < length t → putAll f z b p (actsFrom l (drop k t))
-      ≡ putAll f z (putNext f z b p l (getD t k 0)) (reachNext z p l (getD t k 0)) (actsFrom (lineNext l (getD t k 0)) (drop (k + 1) t))
+module _ (t : List ℕ) (k : ℕ) (g : Shape) (z : ℕ) (b : List ℕ) (p : ℕ) (l : Line) where
+  pub put-turn : k < length t → putAll g z b p (actsFrom l (drop k t))
+      ≡ putAll g z (putNext g z b p l (getD t k 0)) (reachNext z p l (getD t k 0)) (actsFrom (lineNext l (getD t k 0)) (drop (k + 1) t))
   put-turn h =
-      ap (λ r. putAll f z b p (actsFrom l r)) (drop-cons t k 0 h ∙ ap (λ n. getD t k 0 ∷ drop n t) (sym (add-one k)))
-      ∙ put-byte f z b p l (getD t k 0) (drop (k + 1) t)
+      ap (λ r. putAll g z b p (actsFrom l r)) (drop-cons t k 0 h ∙ ap (λ n. getD t k 0 ∷ drop n t) (sym (add-one k)))
+      ∙ put-byte g z b p l (getD t k 0) (drop (k + 1) t)
 
-  pub put-end : length t ≤ k → putAll f z b p (actsFrom l (drop k t)) ≡ putBy f z b p (said l)
+  pub put-end : length t ≤ k → putAll g z b p (actsFrom l (drop k t)) ≡ putBy g z b p (said l)
   unfolding actsFrom putAll
-  put-end h = ap (λ r. putAll f z b p (actsFrom l r)) (ln.drop-of-length-le t h)
+  put-end h = ap (λ r. putAll g z b p (actsFrom l r)) (ln.drop-of-length-le t h)
 
-pub put-start : (t : List ℕ) (f z : ℕ) (b : List ℕ) (p : ℕ) → putAll f z b p (actsOf t) ≡ putAll f z b p (actsFrom noLine (drop 0 t))
+pub put-start : (t : List ℕ) (g : Shape) (z : ℕ) (b : List ℕ) (p : ℕ) → putAll g z b p (actsOf t) ≡ putAll g z b p (actsFrom noLine (drop 0 t))
 unfolding actsOf
-put-start t f z b p = refl
+put-start t g z b p = refl

@@ -4,14 +4,19 @@ ghost use mathlib.Core.Bool.{true};
 ghost use Prim.Native.Nat.{_+_, _*_, _≤_};
 ghost use lib.ListN.{length, replicate};
 ghost use Rattle.lists.specs.Tab.{over};
-ghost use Rattle.spelling.specs.Layout.{worded, eventSaid, sizeOf};
+ghost use Rattle.image.specs.Form.{known};
+ghost use Rattle.spelling.specs.Layout.{nodeStart, eventsStart, eventSaid, sizeOf};
 ghost use Rattle.spelling.specs.Reading.{blankFile, times, putBy, reachBy};
 use crate::layout::EVENT;
-use crate::layout::node_span;
+use crate::layout::head_start;
 use crate::layout::node_start;
 use crate::layout::put_event_at;
 use crate::layout::put_header;
 use crate::layout::put_node_at;
+use crate::layout::shape_said;
+use codec::put_index;
+use image::Shape;
+use image::head_lines;
 use spelling::Act;
 use spelling::Survey;
 
@@ -27,31 +32,45 @@ fn put_times(b: &mut [u8], at: usize, a: Act, d: usize)
     }
 }
 
-// The node that a line says, where it fits into the first z bytes.
-fn put_one_node(b: &mut [u8], form: u8, z: usize, a: Act)
-    requires { ⌜ (worded form ≡ true) × (z ≤ length (now b)) × (z ≤ 500000) × (a .tag ≡ 4) ⌝ }
-    ensures { λ _. ⌜ now (b .exit) ≡ putBy form z (now (b .entry)) 0 a ⌝ }
+// The head index that a line says, where there is such a head line.
+fn put_one_head(b: &mut [u8], g: Shape, a: Act)
+    requires { ⌜ (known (g .form) ≡ true) × (nodeStart g 0 ≤ length (now b)) × (a .tag ≡ 3) ⌝ }
+    ensures { λ _. ⌜ now (b .exit) ≡ putBy g 0 (now (b .entry)) 0 a ⌝ }
 {
-    if 65535 < a.a {
+    let count = head_lines(g) as u64;
+    if count <= a.a {
         return;
     }
-    let at = node_start(form, a.a as usize);
-    if z < at + node_span(form) {
+    let at = head_start(g.form, a.a as usize);
+    put_index(b, g.form, at, a.b);
+}
+
+// The node that a line says, where there is such a node.
+fn put_one_node(b: &mut [u8], g: Shape, a: Act)
+    requires { ⌜ (known (g .form) ≡ true) × (eventsStart g ≤ length (now b)) × (a .tag ≡ 4) ⌝ }
+    ensures { λ _. ⌜ now (b .exit) ≡ putBy g 0 (now (b .entry)) 0 a ⌝ }
+{
+    if (g.n as u64) <= a.a {
         return;
     }
-    put_node_at(b, form, at, a);
+    let at = node_start(g, a.a as usize);
+    put_node_at(b, g.form, at, a);
 }
 
 // What a line puts into the first z bytes; gives up to where the events then reach.
-pub fn put_act(b: &mut [u8], form: u8, z: usize, p: usize, a: Act) -> usize
-    requires { ⌜ (worded form ≡ true) × (z ≤ length (now b)) × (p ≤ z) × (z ≤ 500000) ⌝ }
+pub fn put_act(b: &mut [u8], g: Shape, z: usize, p: usize, a: Act) -> usize
+    requires { ⌜ (known (g .form) ≡ true) × (z ≤ length (now b)) × (p ≤ z) × (z ≤ 500000) × (eventsStart g ≤ z) ⌝ }
     ensures reach { λ r. ⌜ r ≡ reachBy z p a ⌝ }
-    ensures bytes { λ r. ⌜ now (b .exit) ≡ putBy form z (now (b .entry)) p a ⌝ }
+    ensures bytes { λ r. ⌜ now (b .exit) ≡ putBy g z (now (b .entry)) p a ⌝ }
     ensures within { λ r. ⌜ r ≤ z ⌝ }
 {
     let k = a.tag;
+    if k == 3 {
+        put_one_head(b, g, a);
+        return p;
+    }
     if k == 4 {
-        put_one_node(b, form, z, a);
+        put_one_node(b, g, a);
         return p;
     }
     if k == 5 {
@@ -77,13 +96,14 @@ fn put_zeros(b: &mut [u8], at: usize, n: usize)
     }
 }
 
-// The schedule with zeros for its nodes and events.
+// The schedule with zeros for its head lines, nodes and events.
 pub fn put_blank(b: &mut [u8], v: Survey)
-    requires { ⌜ (worded (v .form) ≡ true) × (v .n ≤ 255) × (v .count ≤ 65535) × (sizeOf v ≤ length (now b)) ⌝ }
+    requires { ⌜ (known (v .form) ≡ true) × (v .count ≤ 65535) × (sizeOf v ≤ length (now b)) ⌝ }
     ensures { λ _. ⌜ now (b .exit) ≡ over (now (b .entry)) 0 (blankFile v) ⌝ }
 {
     put_header(b, v);
-    let first = node_start(v.form, 0);
-    let size = node_start(v.form, v.n as usize) + (v.count as usize) * EVENT;
+    let g = shape_said(v);
+    let first = head_start(g.form, 0);
+    let size = node_start(g, g.n as usize) + (v.count as usize) * EVENT;
     put_zeros(b, first, size - first);
 }

@@ -95,7 +95,7 @@ fn said_by(shape: u64, u: Word, v: Word, w: Word, x: Word, y: Word) -> Act
         return graded_act(grade_of(v, BYTE), an_act(2, v.value, 0, 0, 0));
     }
     if shape == 4276802 {
-        return graded_act(grade_of(v, WIDE), an_act(3, v.value, 0, 0, 0));
+        return graded_act(grade_of(v, WIDE), an_act(3, 0, v.value, 0, 0));
     }
     if shape == 7587925 {
         let g = worse_of(grade_of(v, WIDE), grade_of(w, BYTE));
@@ -132,6 +132,13 @@ fn said_by(shape: u64, u: Word, v: Word, w: Word, x: Word, y: Word) -> Act
     }
     if shape == 380953583330 {
         return graded_act(grade_of(v, WIDE), an_act(6, v.value, 0, 0, 0));
+    }
+    if shape == 70047538 {
+        return graded_act(grade_of(v, BYTE), an_act(7, v.value, 0, 0, 0));
+    }
+    if shape == 4276803 {
+        let g = worse_of(grade_of(v, WIDE), grade_of(w, WIDE));
+        return graded_act(g, an_act(3, v.value, w.value, 1, 0));
     }
     an_act(8, 0, 0, 0, 0)
 }

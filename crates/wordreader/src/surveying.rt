@@ -2,11 +2,15 @@
 ghost use mathlib.Core.Path.{_≡_};
 ghost use Prim.Native.Nat.{_<_, _≤_};
 ghost use Rattle.spelling.specs.Lines.{actsOf};
-ghost use Rattle.spelling.specs.Reading.{noSurvey, faulted, versionForm, indexSaid, nodesSaid, versionSaid, eventsSaid, behindNodes, surveyed, surveyOf, lastFrom};
+ghost use lib.Dec.{ltb};
+ghost use Rattle.lists.specs.Find.{pick};
+ghost use Rattle.spelling.specs.Reading.{noSurvey, faulted, withIndex, versionForm, headNamed, indexSaid, nodesSaid, versionSaid, desksSaid, threadsSaid, headsSaid, eventsSaid, behindNodes, surveyed, surveyOf, lastFrom};
 ghost use Rattle.wordreader.specs.Turns.{lineNext, numberNext, surveyNext};
+use crate::layout::shape_said;
 use crate::saying::said_of;
 use crate::words::line_byte;
 use crate::words::no_line;
+use image::head_lines;
 use image::top_of;
 use spelling::Act;
 use spelling::Line;
@@ -29,7 +33,6 @@ pub fn no_survey() -> Survey
         form: 1,
         n: 0,
         t: 1,
-        head: 0,
         count: 0,
     }
 }
@@ -61,7 +64,7 @@ fn index_said(a: Act) -> u64
 {
     let k = a.tag;
     if k == 3 {
-        return a.a;
+        return a.b;
     }
     if k == 4 {
         return a.c;
@@ -100,6 +103,72 @@ fn version_said(i: u64, v: Survey, x: u64) -> Survey
     r
 }
 
+// One head index per desk, and T.
+fn desks_said(i: u64, v: Survey, x: u64) -> Survey
+    ensures { λ r. ⌜ r ≡ desksSaid i v x ⌝ }
+{
+    if v.settled {
+        return fault_at(v, 1, i);
+    }
+    let mut r = v;
+    r.settled = true;
+    r.form = 4;
+    r.t = x;
+    r
+}
+
+fn threads_said(i: u64, v: Survey, x: u64) -> Survey
+    ensures { λ r. ⌜ r ≡ threadsSaid i v x ⌝ }
+{
+    if v.form == 4 {
+        return fault_at(v, 1, i);
+    }
+    let mut r = v;
+    r.t = x;
+    r
+}
+
+// An index is said.
+fn index_at(v: Survey) -> Survey
+    ensures { λ r. ⌜ r ≡ withIndex v ⌝ }
+{
+    let mut r = v;
+    r.settled = true;
+    r
+}
+
+// Whether `head` names one of several head lines.
+fn head_named(form: u8) -> u64
+    ensures { λ r. ⌜ r ≡ headNamed form ⌝ }
+{
+    if form == 4 {
+        return 1;
+    }
+    0
+}
+
+fn heads_said(i: u64, v: Survey, a: Act) -> Survey
+    ensures { λ r. ⌜ r ≡ headsSaid i v a ⌝ }
+{
+    if a.c != head_named(v.form) {
+        return fault_at(v, 1, i);
+    }
+    let count = head_lines(shape_said(v)) as u64;
+    if count <= a.a {
+        return fault_at(v, 2, i);
+    }
+    index_at(v)
+}
+
+fn nodes_index(i: u64, v: Survey, x: u64) -> Survey
+    ensures { λ r. ⌜ r ≡ pick (ltb x (v .n)) (withIndex v) (faulted v 2 i) ⌝ }
+{
+    if v.n <= x {
+        return fault_at(v, 2, i);
+    }
+    index_at(v)
+}
+
 fn events_said(i: u64, v: Survey, x: u64) -> Survey
     ensures { λ r. ⌜ r ≡ eventsSaid i v x ⌝ }
 {
@@ -120,29 +189,22 @@ fn behind_nodes(i: u64, v: Survey, a: Act) -> Survey
 {
     let k = a.tag;
     if k == 2 {
-        let mut r = v;
-        r.t = a.a;
-        return r;
+        return threads_said(i, v, a.a);
     }
     if k == 3 {
-        let mut r = v;
-        r.settled = true;
-        r.head = a.a;
-        return r;
+        return heads_said(i, v, a);
     }
     if k == 4 {
-        if v.n <= a.a {
-            return fault_at(v, 2, i);
-        }
-        let mut r = v;
-        r.settled = true;
-        return r;
+        return nodes_index(i, v, a.a);
     }
     if k == 5 {
         return events_said(i, v, a.d);
     }
     if k == 6 {
         return version_said(i, v, a.a);
+    }
+    if k == 7 {
+        return desks_said(i, v, a.a);
     }
     fault_at(v, 1, i)
 }

@@ -40,8 +40,8 @@ fn main() {
         );
         return;
     }
-    // 4,163 entries of at most 64 bytes: there is room for the whole text.
-    let mut b = [0u8; 266432];
+    // 4,170 entries of at most 64 bytes: there is room for the whole text.
+    let mut b = [0u8; 266880];
     let w = desk::spell_lines(&s[..got], 0, &mut b);
     let a = w.answer;
     let n = w.bytes;

@@ -4,30 +4,28 @@ use mathlib.Core.Path.{_≡_, refl, sym, ap, ap₂, _∙_}
 use mathlib.Core.Bool.{Bool, true, false, not}
 use mathlib.Core.List.{List, [], _++_, append-assoc}
 use native.Mathlib.Omega.{arith}
-use native.Mathlib.Nat.{zero-mul}
 use borrow.Author.Tests.{eq-eqb, ne-eqb, lt-ltb, le-ltb}
 use lib.ListN.{length, length-drop}
-use lib.Dec.{eqb, ltb}
-use Rattle.lists.specs.Find.{pick, both, least}
-use Rattle.lists.specs.Tab.{front}
+use lib.Dec.{eqb}
+use Rattle.lists.specs.Find.{pick, least}
 use Rattle.lists.specs.Text.{text, decimal}
 use Rattle.lists.proofs.FindLaws.{least-next, least-hit, least-end}
 use Rattle.lists.proofs.TabLaws as tabs
 use Rattle.answer.specs.Answers.{accepted}
 use Rattle.image.specs.Bytes.{atW}
-use Rattle.image.specs.Form.{known, widthOf, headsAt, nodePlace}
+use Rattle.image.specs.Form.{known, widthOf, headsAt, headLines, nodePlace, perDesk}
 use Rattle.image.specs.declared.Content.{Content}
 use Rattle.image.specs.declared.Shape.{Shape}
 use Rattle.image.specs.Layout.{noContents, noContent, contentAt, readContent, readNodes, headIn, readHeads, shapeIn, imageIn}
+use Rattle.image.specs.Refusals.{agree}
 use Rattle.image.proofs.HeadLaws.{heads-at}
 use Rattle.machine.specs.declared.Event.{Event}
 use Rattle.schedule.specs.Layout.{threadsIn, countIn, nodesIn, imagePart, scheduleShape, eventFrom, eventIn, eventPlace, scheduleIn, scheduleAnswer}
 use Rattle.schedule.specs.declared.Schedule.{Schedule}
 use Rattle.page.specs.Printed.{newline}
 use Rattle.codec.proofs.Accepted as acc
-use Rattle.spelling.specs.Layout.{worded}
-use Rattle.spelling.proofs.WordedLaws.{lines-worded, place-same}
-use Rattle.spelling.specs.Writing.{versionLine, headLine, nodeLine, eventLine, imageForm, headIndex, isBlankNode, isStep, follows, runEnd, nodeAt, nodeEntry, eventEntry, entryOf, entriesIn}
+use Rattle.spelling.proofs.PlaceLaws as places
+use Rattle.spelling.specs.Writing.{threadsLine, versionLine, headLine, nodeLine, eventLine, imageForm, headsIn, headAt, isBlankNode, isStep, follows, runEnd, nodeAt, nodeEntry, eventEntry, entryOf}
 
 -- ---- an event's line
 
@@ -84,9 +82,26 @@ unfolding versionLine
 version-some f e = rw (ne-eqb f 1 e)
 
 -- the head's line behind it
-pub head-line : (f x : ℕ) → headLine f x ≡ versionLine f ++ (text "head " ++ decimal x) ++ newline
-unfolding headLine
-head-line f x = sym (append-assoc (versionLine f) (text "head " ++ decimal x) newline)
+pub sole-line : (f x : ℕ) → versionLine f ++ (text "head " ++ decimal x ++ newline) ≡ versionLine f ++ (text "head " ++ decimal x) ++ newline
+sole-line f x = sym (append-assoc (versionLine f) (text "head " ++ decimal x) newline)
+
+-- ---- lines by the form
+
+pub head-desks : (f k x : ℕ) → f ≡ 4 → headLine f k x ≡ text "head " ++ decimal k ++ text " " ++ decimal x ++ newline
+unfolding headLine perDesk
+head-desks f k x e = rw e
+
+pub head-sole : (f k x : ℕ) → (f ≡ 4 → ⊥) → headLine f k x ≡ versionLine f ++ (text "head " ++ decimal x ++ newline)
+unfolding headLine perDesk
+head-sole f k x e = rw (ne-eqb f 4 e)
+
+pub threads-desks : (f t : ℕ) → f ≡ 4 → threadsLine f t ≡ text "desks " ++ decimal t ++ newline
+unfolding threadsLine perDesk
+threads-desks f t e = rw e
+
+pub threads-plain : (f t : ℕ) → (f ≡ 4 → ⊥) → threadsLine f t ≡ text "threads " ++ decimal t ++ newline
+unfolding threadsLine perDesk
+threads-plain f t e = rw (ne-eqb f 4 e)
 
 -- ---- whether an event follows
 
@@ -143,6 +158,12 @@ module _ (s : List ℕ) (h : accepted (scheduleAnswer s) ≡ true) where
   pub form : known (imageForm s) ≡ true
   form = acc.schedule-taken s h .part .mark
 
+  agrees : agree (threadsIn s) (shapeIn (imagePart s)) ≡ true
+  agrees = acc.schedule-taken s h .part .shape .agrees
+
+  pub lines-few : headsIn s ≤ 8
+  lines-few = places.heads-few s (acc.schedule-taken s h .threads)
+
   pub events-fit : eventPlace (scheduleShape s) (countIn s) ≤ length s
   events-fit =
       let t = acc.schedule-taken s h in
@@ -173,23 +194,23 @@ module _ (s : List ℕ) (d : Schedule) (e : d ≡ scheduleIn s) where
   unfolding scheduleIn imageIn shapeIn
   shape-is = ap (λ (z : Schedule). record { form = z .image .form; n = z .image .n; t = z .t }) e
 
-  -- a form that has words has one head line, and its nodes stand where the form says
-  module _ (w : worded (imageForm s) ≡ true) where
-    pub head-is : headIn (d .image) 0 ≡ headIndex s
-    unfolding scheduleIn imageIn shapeIn readHeads headIndex
-    head-is =
-        let w′ = widthOf (imageForm s) in
-        let p : headsAt (imageForm s) + 0 * w′ ≡ headsAt (imageForm s) = omega (arith, zero-mul w′) in
-        ap (λ (z : Schedule). headIn (z .image) 0) e
-        ∙ heads-at (shapeIn (imagePart s)) (λ k. atW w′ (imagePart s) (headsAt (imageForm s) + k * w′)) 0 (omega (arith, lines-worded (shapeIn (imagePart s)) w))
-        ∙ ap (atW w′ (imagePart s)) p
+  pub lines-is : (r : ℕ) → r ≡ headLines madeShape → r ≡ headsIn s
+  lines-is r p = p ∙ ap headLines shape-is
+
+  module _ (h : accepted (scheduleAnswer s) ≡ true) where
+    pub head-is : (k : ℕ) → k < headsIn s → headIn (d .image) k ≡ headAt s k
+    unfolding scheduleIn imageIn shapeIn readHeads headAt
+    head-is k p =
+        let w = widthOf (imageForm s) in
+        ap (λ (z : Schedule). headIn (z .image) k) e
+        ∙ heads-at (shapeIn (imagePart s)) (λ k. atW w (imagePart s) (headsAt (imageForm s) + k * w)) k (omega (arith, places.lines-same s (agrees s h)))
 
     pub node-is : (i : ℕ) → i < nodesIn s → contentAt (d .image .nodes) i ≡ nodeAt s i
     unfolding scheduleIn imageIn shapeIn readNodes
     node-is i p =
         ap (λ (z : Schedule). contentAt (z .image .nodes) i) e
         ∙ tabs.front-at (λ k. readContent (imageForm s) (imagePart s) (nodePlace (shapeIn (imagePart s)) k)) (nodesIn s) noContents i noContent p
-        ∙ ap (readContent (imageForm s) (imagePart s)) (place-same (shapeIn (imagePart s)) i w)
+        ∙ ap (readContent (imageForm s) (imagePart s)) (places.place-same s (agrees s h) i)
 
 module _ (s : List ℕ) (j : ℕ) where
   pub entry-follows : follows s j ≡ true → eventEntry s j ≡ []
@@ -205,22 +226,26 @@ module _ (s : List ℕ) (k : ℕ) where
   unfolding entryOf
   entry-nodes n e h = rw h (ap (λ z. text "nodes " ++ decimal z ++ newline) (sym e))
 
-  pub entry-threads : (n : ℕ) → n ≡ threadsIn s → k ≡ 1 → entryOf s k ≡ text "threads " ++ decimal n ++ newline
+  pub entry-threads : (f n : ℕ) → f ≡ imageForm s → n ≡ threadsIn s → k ≡ 1 → entryOf s k ≡ threadsLine f n
   unfolding entryOf
-  entry-threads n e h = rw h (ap (λ z. text "threads " ++ decimal z ++ newline) (sym e))
+  entry-threads f n e g h = rw h (ap₂ threadsLine (sym e) (sym g))
 
-  pub entry-head : (f x : ℕ) → f ≡ imageForm s → x ≡ headIndex s → k ≡ 2 → entryOf s k ≡ headLine f x
-  unfolding entryOf
-  entry-head f x e g h = rw h (ap₂ headLine (sym e) (sym g))
+  -- behind them, with the h entries that lead there
+  module _ (h : ℕ) (p : h ≡ 2 + headsIn s) (a : k ≡ 0 → ⊥) (b : k ≡ 1 → ⊥) where
+    pub entry-head : (f x : ℕ) → f ≡ imageForm s → x ≡ headAt s (k - 2) → k < h → entryOf s k ≡ headLine f (k - 2) x
+    unfolding entryOf
+    entry-head f x e g l =
+        rw (ne-eqb k 0 a, ne-eqb k 1 b, lt-ltb k (2 + headsIn s) (omega arith)) (ap₂ (λ f x. headLine f (k - 2) x) (sym e) (sym g))
 
-  pub entry-node : (v : Content) → v ≡ nodeAt s (k - 3) → (k ≡ 0 → ⊥) → (k ≡ 1 → ⊥) → (k ≡ 2 → ⊥) → k < 3 + nodesIn s
-      → entryOf s k ≡ pick (isBlankNode v) [] (nodeLine (k - 3) v)
-  unfolding entryOf nodeEntry
-  entry-node v e a b c h =
-      rw (ne-eqb k 0 a, ne-eqb k 1 b, ne-eqb k 2 c, lt-ltb k (3 + nodesIn s) h)
-      (ap (λ (z : Content). pick (isBlankNode z) [] (nodeLine (k - 3) z)) (sym e))
+    pub entry-node : (v : Content) → v ≡ nodeAt s (k - h) → h ≤ k → k < h + nodesIn s → entryOf s k ≡ pick (isBlankNode v) [] (nodeLine (k - h) v)
+    unfolding entryOf nodeEntry
+    entry-node v e c l =
+        let q : k - 2 - headsIn s ≡ k - h = omega arith in
+        rw (ne-eqb k 0 a, ne-eqb k 1 b, le-ltb k (2 + headsIn s) (omega arith), lt-ltb k (2 + headsIn s + nodesIn s) (omega arith), q)
+        (ap (λ (z : Content). pick (isBlankNode z) [] (nodeLine (k - h) z)) (sym e))
 
-  pub entry-event : (n : ℕ) → n ≡ nodesIn s → (k ≡ 0 → ⊥) → (k ≡ 1 → ⊥) → (k ≡ 2 → ⊥) → 3 + n ≤ k → entryOf s k ≡ eventEntry s (k - 3 - n)
-  unfolding entryOf
-  entry-event n e a b c h =
-      rw (ne-eqb k 0 a, ne-eqb k 1 b, ne-eqb k 2 c, le-ltb k (3 + nodesIn s) (omega arith)) (ap (λ z. eventEntry s (k - 3 - z)) (sym e))
+    pub entry-event : (n : ℕ) → n ≡ nodesIn s → h + n ≤ k → entryOf s k ≡ eventEntry s (k - h - n)
+    unfolding entryOf
+    entry-event n e l =
+        let q : k - 2 - headsIn s ≡ k - h = omega arith in
+        rw (ne-eqb k 0 a, ne-eqb k 1 b, le-ltb k (2 + headsIn s) (omega arith), le-ltb k (2 + headsIn s + nodesIn s) (omega arith)) (ap₂ (λ i m. eventEntry s (i - m)) q (sym e))

@@ -10,8 +10,7 @@ ghost use Rattle.answer.specs.Answers.{accepted};
 ghost use Rattle.image.specs.Form.{known};
 ghost use Rattle.image.specs.Layout.{headIn};
 ghost use Rattle.schedule.specs.Layout.{countIn, scheduleShape, eventPlace, scheduleIn, scheduleAnswer};
-ghost use Rattle.spelling.specs.Layout.{worded};
-ghost use Rattle.spelling.specs.Writing.{headLine, nodeLine, imageForm, isBlankNode, follows, runEnd, eventEntry, entryOf, entriesIn};
+ghost use Rattle.spelling.specs.Writing.{headLine, nodeLine, isBlankNode, follows, runEnd, eventEntry, entryOf, entriesIn};
 use crate::texts::is_step;
 use crate::texts::put_event;
 use crate::texts::put_head;
@@ -22,6 +21,7 @@ use codec::event_at;
 use image::Content;
 use image::Image;
 use image::Shape;
+use image::head_lines;
 use schedule::Schedule;
 
 // Whether event j is a step like the one before it.
@@ -72,14 +72,14 @@ fn is_blank(v: Content) -> bool
     v.item == 0
 }
 
-// The version and the head index.
-fn put_heads(b: &mut [u8], g: Image) -> usize
-    requires { ⌜ 64 ≤ length (now b) ⌝ }
-    ensures put { λ r. ⌜ (r ≡ length (headLine (g .form) (headIn g 0))) × (now (b .exit) ≡ over (now (b .entry)) 0 (headLine (g .form) (headIn g 0))) ⌝ }
+// Head line k.
+fn put_heads(b: &mut [u8], g: Image, k: usize) -> usize
+    requires { ⌜ (k < 8) × (64 ≤ length (now b)) ⌝ }
+    ensures put { λ r. ⌜ (r ≡ length (headLine (g .form) k (headIn g k))) × (now (b .exit) ≡ over (now (b .entry)) 0 (headLine (g .form) k (headIn g k))) ⌝ }
     ensures room { λ r. ⌜ r ≤ 64 ⌝ }
 {
     let heads = g.heads;
-    put_head(b, g.form, heads[0])
+    put_head(b, g.form, k as u32, heads[k])
 }
 
 // Node i, unless all of it is zero.
@@ -109,10 +109,9 @@ fn put_event_entry(s: &[u8], z: Shape, count: usize, j: usize, b: &mut [u8]) -> 
     put_event(b, e, (r - j) as u32)
 }
 
-// Entry k of a schedule that is taken up to its events, of a form that has words.
+// Entry k of a schedule that is taken up to its events.
 pub fn put_entry(s: &[u8], d: Schedule, k: usize, b: &mut [u8]) -> usize
-    requires { ⌜ (accepted (scheduleAnswer (now s)) ≡ true) × (d ≡ scheduleIn (now s)) × (k < entriesIn (now s)) × (64 ≤ length (now b))
-        × (worded (imageForm (now s)) ≡ true) ⌝ }
+    requires { ⌜ (accepted (scheduleAnswer (now s)) ≡ true) × (d ≡ scheduleIn (now s)) × (k < entriesIn (now s)) × (64 ≤ length (now b)) ⌝ }
     ensures put { λ r. ⌜ (r ≡ length (entryOf (now (s .entry)) k)) × (now (b .exit) ≡ over (now (b .entry)) 0 (entryOf (now (s .entry)) k)) ⌝ }
     ensures room { λ r. ⌜ r ≤ 64 ⌝ }
 {
@@ -122,21 +121,22 @@ pub fn put_entry(s: &[u8], d: Schedule, k: usize, b: &mut [u8]) -> usize
         return put_nodes(b, n);
     }
     if k == 1 {
-        return put_threads(b, d.t);
-    }
-    if k == 2 {
-        return put_heads(b, g);
-    }
-    let m = n as usize;
-    if k < 3 + m {
-        let i = k - 3;
-        let v = g.nodes[i];
-        return put_node_entry(b, i, v);
+        return put_threads(b, g.form, d.t);
     }
     let z = Shape {
         form: g.form,
         n: n,
         t: d.t,
     };
-    put_event_entry(s, z, d.count as usize, k - 3 - m, b)
+    let h = 2 + head_lines(z);
+    if k < h {
+        return put_heads(b, g, k - 2);
+    }
+    let m = n as usize;
+    if k < h + m {
+        let i = k - h;
+        let v = g.nodes[i];
+        return put_node_entry(b, i, v);
+    }
+    put_event_entry(s, z, d.count as usize, k - h - m, b)
 }

@@ -7,8 +7,7 @@ ghost use Rattle.lists.specs.Tab.{over};
 ghost use Rattle.answer.specs.Answers.{accepted};
 ghost use Rattle.schedule.specs.Layout.{scheduleIn, scheduleAnswer};
 ghost use Rattle.page.specs.Filled.{linesOn, fitting};
-ghost use Rattle.spelling.specs.Layout.{worded};
-ghost use Rattle.spelling.specs.Writing.{imageForm, entryOf, entriesIn};
+ghost use Rattle.spelling.specs.Writing.{entryOf, entriesIn};
 use crate::entries::put_entry;
 use printing::put;
 use schedule::Schedule;
@@ -21,8 +20,7 @@ pub struct Reach {
 
 // Entries from `from` on, none at `to` or behind it.
 pub fn put_entries(s: &[u8], d: Schedule, from: usize, to: usize, b: &mut [u8]) -> Reach
-    requires { ⌜ (accepted (scheduleAnswer (now s)) ≡ true) × (d ≡ scheduleIn (now s)) × (to ≡ entriesIn (now s)) × (from ≤ to) × (to ≤ 5000)
-        × (worded (imageForm (now s)) ≡ true) ⌝ }
+    requires { ⌜ (accepted (scheduleAnswer (now s)) ≡ true) × (d ≡ scheduleIn (now s)) × (to ≡ entriesIn (now s)) × (from ≤ to) × (to ≤ 5000) ⌝ }
     ensures next { λ r. ⌜ r .next ≡ from + fitting (entryOf (now (s .entry))) from (to - from) (length (now (b .entry))) ⌝ }
     ensures place { λ r. ⌜ r .place ≡ length (linesOn (entryOf (now (s .entry))) from (r .next - from)) ⌝ }
     ensures bytes { λ r. ⌜ now (b .exit) ≡ over (now (b .entry)) 0 (linesOn (entryOf (now (s .entry))) from (r .next - from)) ⌝ }

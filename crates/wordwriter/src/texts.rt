@@ -6,7 +6,7 @@ ghost use lib.ListN.{length};
 ghost use Rattle.lists.specs.Tab.{over};
 ghost use Rattle.lists.specs.Text.{text, decimal};
 ghost use Rattle.page.specs.Printed.{newline};
-ghost use Rattle.spelling.specs.Writing.{versionLine, headLine, nodeLine, eventLine, isStep};
+ghost use Rattle.spelling.specs.Writing.{threadsLine, versionLine, headLine, nodeLine, eventLine, isStep};
 use image::Content;
 use machine::Event;
 use printing::put;
@@ -61,11 +61,15 @@ pub fn put_nodes(b: &mut [u8], n: u8) -> usize
     put_one(b, b"nodes ", n as u32, b"\n")
 }
 
-pub fn put_threads(b: &mut [u8], t: u8) -> usize
+// T, which says in "UQP" that each desk has a head index.
+pub fn put_threads(b: &mut [u8], form: u8, t: u8) -> usize
     requires { ⌜ 64 ≤ length (now b) ⌝ }
-    ensures put { λ r. ⌜ (r ≡ length (text "threads " ++ decimal t ++ newline)) × (now (b .exit) ≡ over (now (b .entry)) 0 (text "threads " ++ decimal t ++ newline)) ⌝ }
+    ensures put { λ r. ⌜ (r ≡ length (threadsLine form t)) × (now (b .exit) ≡ over (now (b .entry)) 0 (threadsLine form t)) ⌝ }
     ensures room { λ r. ⌜ r ≤ 64 ⌝ }
 {
+    if form == 4 {
+        return put_one(b, b"desks ", t as u32, b"\n");
+    }
     put_one(b, b"threads ", t as u32, b"\n")
 }
 
@@ -82,15 +86,40 @@ fn put_version(b: &mut [u8], form: u8) -> usize
     put(b, p, b"\n")
 }
 
-// The version and the head index.
-pub fn put_head(b: &mut [u8], form: u8, h: u64) -> usize
+// The version and the only head index.
+fn put_sole(b: &mut [u8], form: u8, h: u64) -> usize
     requires { ⌜ 64 ≤ length (now b) ⌝ }
-    ensures put { λ r. ⌜ (r ≡ length (headLine form h)) × (now (b .exit) ≡ over (now (b .entry)) 0 (headLine form h)) ⌝ }
+    ensures put { λ r. ⌜ (r ≡ length (versionLine form ++ (text "head " ++ decimal h ++ newline)))
+        × (now (b .exit) ≡ over (now (b .entry)) 0 (versionLine form ++ (text "head " ++ decimal h ++ newline))) ⌝ }
     ensures room { λ r. ⌜ r ≤ 64 ⌝ }
 {
     let p = put_version(b, form);
     let q = put_far(b, p, b"head ", h);
     put(b, q, b"\n")
+}
+
+// One of several head indices.
+fn put_named_head(b: &mut [u8], k: u32, h: u64) -> usize
+    requires { ⌜ 64 ≤ length (now b) ⌝ }
+    ensures put { λ r. ⌜ (r ≡ length (text "head " ++ decimal k ++ text " " ++ decimal h ++ newline))
+        × (now (b .exit) ≡ over (now (b .entry)) 0 (text "head " ++ decimal k ++ text " " ++ decimal h ++ newline)) ⌝ }
+    ensures room { λ r. ⌜ r ≤ 64 ⌝ }
+{
+    let p = put_named(b, 0, b"head ", k);
+    let q = put_far(b, p, b" ", h);
+    put(b, q, b"\n")
+}
+
+// Head line k.
+pub fn put_head(b: &mut [u8], form: u8, k: u32, h: u64) -> usize
+    requires { ⌜ 64 ≤ length (now b) ⌝ }
+    ensures put { λ r. ⌜ (r ≡ length (headLine form k h)) × (now (b .exit) ≡ over (now (b .entry)) 0 (headLine form k h)) ⌝ }
+    ensures room { λ r. ⌜ r ≤ 64 ⌝ }
+{
+    if form == 4 {
+        return put_named_head(b, k, h);
+    }
+    put_sole(b, form, h)
 }
 
 // Node i with its content.

@@ -1,5 +1,4 @@
 use borrow.Author.Needs.{needs}
-use Rattle.spelling.proofs.WordedLaws.{worded-known}
 use Rattle.wordreader.proofs.layout.put_node_at.Statement.{statement}
 use Rattle.wordreader.proofs.layout.put_node_at.Tie as tie
 
@@ -10,7 +9,7 @@ cast-t9 : tie.Need-cast-t9
 cast-t9 c = search needs
 
 put-content-requires : tie.Need-put-content-requires
-put-content-requires c κs = let s = c .before .before .before .before in (worded-known _ (s .pre .0), s .pre .1)
+put-content-requires c κs = let s = c .before .before .before .before in (s .pre .0, s .pre .1)
 
 same-length : tie.Need-same-length
 same-length c = search needs

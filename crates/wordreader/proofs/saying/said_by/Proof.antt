@@ -206,12 +206,44 @@ returns-13 : tie.Need-returns-13
 unfolding saidBy keyOf wordOn text grown letterMore digitMore
 returns-13 c = rw (c .before .before .before .if13 .taken) (c .graded-act11 .ensures ∙ ap₂ graded (c .before .before .grade-of18 .ensures) (c .before .an-act13 .ensures))
 
+grade-of-requires-19 : tie.Need-grade-of-requires-19
+grade-of-requires-19 c κs = search needs
+
 an-act-requires-14 : tie.Need-an-act-requires-14
 an-act-requires-14 c κs = search needs
 
+graded-act-requires-12 : tie.Need-graded-act-requires-12
+graded-act-requires-12 c κs = search needs
+
 returns-14 : tie.Need-returns-14
 unfolding saidBy keyOf wordOn text grown letterMore digitMore
-returns-14 c = rw (ne-eqb _ _ (c .before .before .before .before .before .before .before .before .before .before .before .before .before .if1 .left), ne-eqb _ _ (c .before .before .before .before .before .before .before .before .before .before .before .before .if2 .left), ne-eqb _ _ (c .before .before .before .before .before .before .before .before .before .before .before .if3 .left), ne-eqb _ _ (c .before .before .before .before .before .before .before .before .before .before .if4 .left), ne-eqb _ _ (c .before .before .before .before .before .before .before .before .before .if5 .left), ne-eqb _ _ (c .before .before .before .before .before .before .before .before .if6 .left), ne-eqb _ _ (c .before .before .before .before .before .before .before .if7 .left), ne-eqb _ _ (c .before .before .before .before .before .before .if8 .left), ne-eqb _ _ (c .before .before .before .before .before .if9 .left), ne-eqb _ _ (c .before .before .before .before .if10 .left), ne-eqb _ _ (c .before .before .before .if11 .left), ne-eqb _ _ (c .before .before .if12 .left), ne-eqb _ _ (c .before .if13 .left)) (c .an-act14 .ensures)
+returns-14 c = rw (c .before .before .before .if14 .taken) (c .graded-act12 .ensures ∙ ap₂ graded (c .before .before .grade-of19 .ensures) (c .before .an-act14 .ensures))
+
+grade-of-requires-20 : tie.Need-grade-of-requires-20
+grade-of-requires-20 c κs = search needs
+
+grade-of-requires-21 : tie.Need-grade-of-requires-21
+grade-of-requires-21 c κs = search needs
+
+worse-of-requires-8 : tie.Need-worse-of-requires-8
+worse-of-requires-8 c κs = search needs
+
+an-act-requires-15 : tie.Need-an-act-requires-15
+an-act-requires-15 c κs = search needs
+
+graded-act-requires-13 : tie.Need-graded-act-requires-13
+graded-act-requires-13 c κs = search needs
+
+returns-15 : tie.Need-returns-15
+unfolding saidBy keyOf wordOn text grown letterMore digitMore
+returns-15 c = rw (c .before .before .before .before .before .if15 .taken) (c .graded-act13 .ensures ∙ ap₂ graded (c .before .before .worse-of8 .ensures ∙ ap₂ worse (c .before .before .before .before .grade-of20 .ensures) (c .before .before .before .grade-of21 .ensures)) (c .before .an-act15 .ensures))
+
+an-act-requires-16 : tie.Need-an-act-requires-16
+an-act-requires-16 c κs = search needs
+
+returns-16 : tie.Need-returns-16
+unfolding saidBy keyOf wordOn text grown letterMore digitMore
+returns-16 c = rw (ne-eqb _ _ (c .before .before .before .before .before .before .before .before .before .before .before .before .before .before .before .if1 .left), ne-eqb _ _ (c .before .before .before .before .before .before .before .before .before .before .before .before .before .before .if2 .left), ne-eqb _ _ (c .before .before .before .before .before .before .before .before .before .before .before .before .before .if3 .left), ne-eqb _ _ (c .before .before .before .before .before .before .before .before .before .before .before .before .if4 .left), ne-eqb _ _ (c .before .before .before .before .before .before .before .before .before .before .before .if5 .left), ne-eqb _ _ (c .before .before .before .before .before .before .before .before .before .before .if6 .left), ne-eqb _ _ (c .before .before .before .before .before .before .before .before .before .if7 .left), ne-eqb _ _ (c .before .before .before .before .before .before .before .before .if8 .left), ne-eqb _ _ (c .before .before .before .before .before .before .before .if9 .left), ne-eqb _ _ (c .before .before .before .before .before .before .if10 .left), ne-eqb _ _ (c .before .before .before .before .before .if11 .left), ne-eqb _ _ (c .before .before .before .before .if12 .left), ne-eqb _ _ (c .before .before .before .if13 .left), ne-eqb _ _ (c .before .before .if14 .left), ne-eqb _ _ (c .before .if15 .left)) (c .an-act16 .ensures)
 
 pub said-by-spec : {M : Type 1} → statement M
 said-by-spec =
@@ -279,5 +311,15 @@ said-by-spec =
     an-act-requires-13
     graded-act-requires-11
     returns-13
+    grade-of-requires-19
     an-act-requires-14
-    returns-14)
+    graded-act-requires-12
+    returns-14
+    grade-of-requires-20
+    grade-of-requires-21
+    worse-of-requires-8
+    an-act-requires-15
+    graded-act-requires-13
+    returns-15
+    an-act-requires-16
+    returns-16)

@@ -30,7 +30,7 @@ slice-aggregate-put-entry : tie.Need-slice-aggregate-put-entry Inv-loop μ-loop
 slice-aggregate-put-entry c = search needs
 
 put-entry-requires : tie.Need-put-entry-requires Inv-loop μ-loop
-put-entry-requires c κs = let q = c .before .before .before .before .before .pre in (q .0, q .1, omega (arith, q .2), search needs, q .5)
+put-entry-requires c κs = let q = c .before .before .before .before .before .pre in (q .0, q .1, omega (arith, q .2), search needs)
 
 sub-if1 : tie.Need-sub-if1 Inv-loop μ-loop
 sub-if1 c = let a = c .before .before .before .before .before .before .before .args in
