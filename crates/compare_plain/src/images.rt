@@ -1,4 +1,5 @@
 // What the plain way says of a schedule.
+ghost use Prim.Native.Nat.{_≤_};
 use answer::told_of;
 use compare::text::put;
 use compare::text::put_all;
@@ -11,7 +12,7 @@ use stream::byte;
 // A schedule that is taken has the last letter of its image's mark at byte 10, the version at byte 11 and N at byte 13, behind "UQP" T
 // at byte 14.
 fn size_of(s: &[u8]) -> usize
-    ensures { λ r. ⌜ (Prim.Native.Nat._≤_ 1 r) × (Prim.Native.Nat._≤_ r 3329) ⌝ }
+    ensures { λ r. ⌜ (1 ≤ r) × (r ≤ 3329) ⌝ }
 {
     let n = byte(s, 13) as usize;
     if byte(s, 10) == b'P' {

@@ -2,11 +2,11 @@
 use Prim.Native.Nat.{ℕ, zero, suc, _+_, _≤_, _<_}
 use mathlib.Core.Path.{_≡_, refl, sym, ap, ap₂, subst, _∙_}
 use mathlib.Core.Bool.{Bool, true, false, not}
-use mathlib.Core.List.{List, [], _∷_}
+use mathlib.Core.List.{List}
 use native.Mathlib.Omega.{arith}
 use native.Mathlib.Numerals.{add-one}
-use lib.ListN.{length, getD}
-use lib.Dec.{eqb, leb}
+use lib.ListN.{getD}
+use lib.Dec.{eqb}
 use borrow.Author.Tests.{leb-false}
 use Rattle.lists.specs.Find.{pick}
 use Rattle.lists.specs.Tab.{tab}
@@ -14,36 +14,34 @@ use Rattle.lists.proofs.BoolLaws.{no-way}
 use Rattle.answer.specs.Answers.{check, accepted}
 use Rattle.answer.specs.declared.Answer.{Answer}
 use Rattle.answer.specs.declared.Answer.the-variants.{Taken, Number, Busy, Idle, NotZero}
-use Rattle.image.specs.Form.{headLines}
-use Rattle.image.specs.declared.Content.{Content}
 use Rattle.image.specs.declared.Shape.{Shape}
 use Rattle.image.proofs.HeadLaws.{lines-few}
 use Rattle.machine.specs.Line.{shapeOf, lineCount, lineAt}
 use Rattle.machine.specs.Stage.{busy}
 use Rattle.machine.specs.Retire.{quiet}
 use Rattle.machine.specs.Range.{inRange}
-use Rattle.machine.specs.Event.{Deed, enqueues, dequeues, steps, writesBack, deedOf, threadTooLarge, itemNotZero, eventAnswer, done, eventAt}
+use Rattle.machine.specs.Event.{Deed, enqueues, dequeues, steps, deedOf, threadTooLarge, itemNotZero, eventAnswer, done, eventAt}
 use Rattle.machine.specs.declared.Line.{Line}
 use Rattle.machine.specs.declared.Machine.{Machine}
 use Rattle.machine.specs.declared.Event.{Event}
 use Rattle.machine.specs.declared.Acted.{Acted}
 use Rattle.machine.proofs.LineLaws.{line-in}
-use Rattle.schedule.specs.Layout.{scheduleAnswer, scheduleIn, eventFrom, eventPlace, eventIn, countIn, scheduleShape}
-use Rattle.schedule.specs.Run.{Bench, Ran, ran}
+use Rattle.schedule.specs.Layout.{eventFrom, eventPlace, eventIn, countIn, scheduleShape}
+use Rattle.schedule.specs.Run.{Bench, ran}
 use Rattle.schedule.specs.Running.{benchTo}
-use Rattle.page.specs.Refusals.{tableIn, tableAnswer, pageAnswer}
+use Rattle.page.specs.Refusals.{pageAnswer}
 use Rattle.lawful.specs.Added.{writeBack}
 use Rattle.lawful.specs.Demand3.{Bytes}
-use Rattle.moments.proofs.Frame.{persist-shape}
+use Rattle.moments.proofs.Frame.{frame-persist}
 use Rattle.moments.proofs.Steps as acts
 use Rattle.hands.specs.Places.{HasPlace}
 use Rattle.hands.proofs.HandLaws.{place-in}
 use Rattle.steps.specs.Ready.{Ready}
 use Rattle.steps.proofs.Fit as fit
 use Rattle.tied.proofs.Schedules as schedules
-use Rattle.pageproof.proofs.Alike.{Alike, keeping, alike-size}
+use Rattle.pageproof.proofs.Alike.{Copies, holding, Alike, alike-size}
 use Rattle.pageproof.proofs.Events as events
-use Rattle.pageproof.proofs.Holds.{page-ran}
+use Rattle.pageproof.proofs.Holds.{page-ran, page-schedule}
 use Rattle.plainproof.specs.Plain.{lastStart, startMachine, sinceCount, eventSince, linesIn, played, backed, playedAt}
 use Rattle.plainproof.specs.Times.{Recorded}
 use Rattle.plainproof.proofs.ByTimes as times
@@ -53,11 +51,11 @@ use Rattle.plainruns.specs.Playable.{Small, Playable}
 -- ---- sizes
 
 small-shape : (m m′ : Machine) → shapeOf m′ ≡ shapeOf m → Small m → Small m′
-small-shape m m′ e h = record { nodes = subst (λ (z : Shape). z .n ≤ 64) (sym e) (h .nodes); heads = subst (λ (z : Shape). headLines z ≤ 8) (sym e) (h .heads) }
+small-shape m m′ e h = record { nodes = subst (λ (z : Shape). z .n ≤ 64) (sym e) (h .nodes); threads = subst (λ (z : Shape). z .t ≤ 8) (sym e) (h .threads) }
 
 -- a line that there is has its place in the tables
 pub there : (m : Machine) (l : Line) (x : ℕ) → Small m → x < lineCount (shapeOf m) → l ≡ lineAt (shapeOf m) x → HasPlace l
-there m l x h i e = subst HasPlace (sym e) (place-in (shapeOf m) (lineAt (shapeOf m) x) (h .nodes) (h .heads) (line-in (shapeOf m) x i))
+there m l x h i e = subst HasPlace (sym e) (place-in (shapeOf m) (lineAt (shapeOf m) x) (h .nodes) (lines-few (shapeOf m) (h .threads)) (line-in (shapeOf m) x i))
 
 backed-shape : (π : List ℕ) (r : ℕ) (m : Machine) (n : ℕ) → shapeOf (backed π r m n) ≡ shapeOf m
 unfolding backed
@@ -65,7 +63,7 @@ backed-shape π r m zero = refl
 backed-shape π r m (suc n) = by (eqb (getD π n 0) (suc r)) (backed-shape π r m n)
   where
     by : (x : Bool) → shapeOf (backed π r m n) ≡ shapeOf m → shapeOf (pick x (played (backed π r m n) (writeBack n)) (backed π r m n)) ≡ shapeOf m
-    by true e = persist-shape (backed π r m n) (lineAt (shapeOf (backed π r m n)) n) ∙ e
+    by true e = frame-persist (backed π r m n) (lineAt (shapeOf (backed π r m n)) n) .shape ∙ e
     by false e = e
 
 pub backed-small : (π : List ℕ) (r : ℕ) (m : Machine) (n : ℕ) → Small m → Small (backed π r m n)
@@ -113,10 +111,10 @@ module _ (p : ℕ) (m : Machine) (e : Event) (h : accepted (eventAt p m e .answe
   back-line : e .kind ≡ 4 → e .number < lineCount (shapeOf m)
   back-line k = events.back-changed p m e h (ap deedOf k) .0
 
--- ---- a machine that differs in its persisted copies alone is as ready
+-- ---- a machine that differs in its persisted copies and who is over them alone is as ready
 
-ready-keeping : (m : Machine) (h : List ℕ) (c : List Content) (k : ℕ) → Ready m k → Ready (keeping m h c) k
-ready-keeping m h c k r = record {
+ready-holding : (m : Machine) (c : Copies) (k : ℕ) → Ready m k → Ready (holding m c) k
+ready-holding m c k r = record {
   thread-in = r .thread-in;
   nodes-in = r .nodes-in;
   threads-in = r .threads-in;
@@ -130,10 +128,10 @@ ready-keeping m h c k r = record {
 }
 
 ready-alike : (m m′ : Machine) (k : ℕ) → Alike m m′ → Ready m k → Ready m′ k
-ready-alike m m′ k a r = subst (λ (x : Machine). Ready x k) (sym (a .is)) (ready-keeping m (a .heads) (a .copies) k r)
+ready-alike m m′ k a r = subst (λ (x : Machine). Ready x k) (sym (a .is)) (ready-holding m (a .copies) k r)
 
 small-range : (m : Machine) → inRange m ≡ true → Small m
-small-range m h = let s = fit.fit-range m h .sizes in record { nodes = s .n-hi; heads = lines-few (shapeOf m) (s .t-hi) }
+small-range m h = let s = fit.fit-range m h .sizes in record { nodes = s .n-hi; threads = s .t-hi }
 
 pub playable : (p : ℕ) (m m′ : Machine) → Alike m m′ → inRange m ≡ true → (e : Event) → (events.Crash e → ⊥) → accepted (eventAt p m e .answer) ≡ true → Playable m′ e
 playable p m m′ a h e ne t =
@@ -149,16 +147,6 @@ playable p m m′ a h e ne t =
 
 -- ---- a schedule whose page is not refused
 
-pub page-schedule : (s : List ℕ) → accepted (pageAnswer s) ≡ true → accepted (scheduleAnswer s) ≡ true
-unfolding pageAnswer
-page-schedule s h = by (accepted (scheduleAnswer s)) refl h
-  where
-    by : (x : Bool) → accepted (scheduleAnswer s) ≡ x
-        → accepted (elim x as (λ _. Answer) [ true ↦ elim (accepted (ran s .answer)) as (λ _. Answer) [ true ↦ tableAnswer (tableIn s) | false ↦ ran s .answer ] | false ↦ scheduleAnswer s ]) ≡ true
-        → x ≡ true
-    by true p z = refl
-    by false p z = no-way (sym z ∙ p)
-
 module _ (s : List ℕ) (y : Bytes s) (h : accepted (pageAnswer s) ≡ true) where
   abbrev ran′ : accepted (ran s .answer) ≡ true
   ran′ = page-ran s h
@@ -170,7 +158,7 @@ module _ (s : List ℕ) (y : Bytes s) (h : accepted (pageAnswer s) ≡ true) whe
       ∙ schedules.events-in-range s y (page-schedule s h) 0 (tab (eventIn s) i)
 
   recorded : Recorded (startMachine s) (eventSince s) (sinceCount s) (λ r. benchTo s (r + lastStart s))
-  recorded = since.since-recorded s ran′
+  recorded = since.since-recorded s ran′ (page-schedule s h)
 
   pub start-small : Small (startMachine s)
   unfolding startMachine
@@ -206,7 +194,7 @@ module _ (s : List ℕ) (y : Bytes s) (h : accepted (pageAnswer s) ≡ true) whe
         let n = recorded .next i q in
         let m = benchTo s (i + lastStart s) .machine in
         alike-size (played m (eventSince s i)) (played (M i) (eventSince s i)) (events.alike-next m (M i) (alike i (omega arith)) (eventSince s i) (recorded .free i q))
-        ∙ acts.frame-done m (eventSince s i) (deedOf (eventSince s i .kind)) (times.at-moment (startMachine s) (eventSince s) (sinceCount s) (λ r. benchTo s (r + lastStart s)) recorded π i (omega arith) .0 .even) (recorded .free i q) .shape
+        ∙ acts.frame-done m (eventSince s i) (deedOf (eventSince s i .kind)) (recorded .free i q) .shape
         ∙ sym (alike-size m (M i) (alike i (omega arith))) ∙ shape-at i (omega arith)
 
     pub next-small : (i : ℕ) → i < sinceCount s → Small (played (M i) (eventSince s i))

@@ -1,7 +1,7 @@
 -- The runs by their numbers are the choices of picks in their order.
 use Prim.Native.Nat.{ℕ, zero, suc, _+_, _-_, _*_, _/_, _%_, _^_, _≤_, _<_}
 use mathlib.Core.Path.{_≡_, refl, sym, ap, ap₂, subst, _∙_}
-use mathlib.Core.List.{List, [], _∷_, _++_, map, append-assoc, append-nil}
+use mathlib.Core.List.{List, [], _∷_, _++_, append-assoc, append-nil}
 use native.Mathlib.Omega.{arith}
 use native.Mathlib.Nat.{pow-zero, pow-suc, pow-succ', pow-le-pow-right, mul-div-cancel, mod-lt, div-lt-iff-lt-mul, zero-mul, suc-mul, add-mul-div-right, mul-add-mod-self-right, div-eq-of-lt, mod-eq-of-lt, add-comm}
 use lib.ListN.{length, getD, set, replicate, List·getD-append}

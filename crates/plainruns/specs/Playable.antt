@@ -5,20 +5,19 @@ use mathlib.Core.Bool.{true}
 use mathlib.Core.List.{List}
 use mathlib.Core.Logic.{_≢_}
 use Rattle.answer.specs.Answers.{accepted}
-use Rattle.image.specs.Form.{headLines}
 use Rattle.machine.specs.Line.{shapeOf, lineCount}
 use Rattle.machine.specs.Event.{crashes, deedOf}
 use Rattle.machine.specs.declared.Machine.{Machine}
 use Rattle.machine.specs.declared.Event.{Event}
 use Rattle.page.specs.Refusals.{pageAnswer}
 use Rattle.steps.specs.Ready.{Ready}
-use Rattle.plainproof.specs.Plain.{lastStart, startMachine, sinceCount, linesIn}
+use Rattle.plainproof.specs.Plain.{lastStart, startMachine, sinceCount}
 use Rattle.plainruns.specs.declared.Plan.{Plan}
 
--- the machine's tables have places for all its lines
+-- the machine's tables have places for all its lines, its sets for all its threads
 pub record Small (m : Machine) : Type 0 where
   pub nodes : m .n ≤ 64
-  pub heads : headLines (shapeOf m) ≤ 8
+  pub threads : m .t ≤ 8
 
 -- an event that is no crash, its thread or line one that there is, and the thread ready for its step
 pub record Playable (m : Machine) (e : Event) : Type 0 where

@@ -34,7 +34,7 @@ use Rattle.codec.proofs.Accepted as codec
 use Rattle.pages.proofs.OwnLaws.{size-few}
 use Rattle.filling.proofs.Numbers.{count-few}
 use Rattle.runs.specs.Paged.{countOf}
-use Rattle.plainruns.proofs.PlayLaws.{page-schedule}
+use Rattle.pageproof.proofs.Holds.{page-schedule}
 use Rattle.plainruns.proofs.PlanLaws.{shape-of, count-of}
 use Rattle.plainruns.specs.declared.Plan.{Plan}
 use Rattle.plainruns.specs.Playable.{Planned}

@@ -6,7 +6,7 @@ use borrow.Author.Tests.{eq-eqb, ne-eqb}
 use Rattle.schedule.specs.Layout.{scheduleShape, countIn}
 use Rattle.codec.proofs.Accepted as codec
 use Rattle.onward.proofs.Reached as reached
-use Rattle.plainruns.proofs.PlayLaws.{page-schedule}
+use Rattle.pageproof.proofs.Holds.{page-schedule}
 use Rattle.plainruns.proofs.PlanLaws as laws
 use Rattle.plainruns.proofs.planning.plan_of.Statement.{statement}
 use Rattle.plainruns.proofs.planning.plan_of.Tie as tie

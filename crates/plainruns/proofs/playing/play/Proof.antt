@@ -43,7 +43,7 @@ returns-4 : tie.Need-returns-4
 returns-4 c = rw (c .before .match .keys4) (c .written-back .ensures)
 
 returns-5 : tie.Need-returns-5
-returns-5 c = search needs
+returns-5 c = rw (c .match .keys5)
 
 -- no crash, and no known kind: nothing is done
 none : (k : ℕ) → 5 ≤ k → deedOf k ≢ crashes → deedOf k ≡ unknown

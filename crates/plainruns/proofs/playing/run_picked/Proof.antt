@@ -1,19 +1,17 @@
-use Prim.Native.Nat.{ℕ, _+_, _-_, _<_, _≤_}
-use mathlib.Core.Path.{_≡_, refl, sym, ap, ap₂, subst, _∙_}
+use Prim.Native.Nat.{_+_, _-_, _<_, _≤_}
+use mathlib.Core.Path.{_≡_, sym, ap, ap₂, subst, _∙_}
 use native.Mathlib.Omega.{arith}
-use borrow.Author.Needs.{needs}
-use Rattle.image.specs.declared.Shape.{Shape}
 use Rattle.machine.specs.Line.{shapeOf, lineCount}
 use Rattle.machine.specs.declared.Machine.{Machine}
 use Rattle.machine.specs.declared.Event.{Event}
-use Rattle.schedule.specs.Layout.{scheduleShape, countIn}
+use Rattle.schedule.specs.Layout.{scheduleShape}
 use Rattle.lawful.specs.Demand3.{Bytes}
-use Rattle.plainproof.specs.Plain.{lastStart, startMachine, sinceCount, eventSince, linesIn, played, playedAt}
+use Rattle.plainproof.specs.Plain.{startMachine, sinceCount, eventSince, linesIn, played, playedAt}
 use Rattle.plainproof.proofs.Since as since
-use Rattle.pageproof.proofs.Holds.{page-ran}
+use Rattle.pageproof.proofs.Holds.{page-ran, page-schedule}
 use Rattle.codec.proofs.Accepted as codec
 use Rattle.onward.proofs.Reached as reached
-use Rattle.plainruns.specs.Playable.{Small, Playable, Planned}
+use Rattle.plainruns.specs.Playable.{Small, Playable}
 use Rattle.plainruns.proofs.PlayLaws as laws
 use Rattle.plainruns.proofs.playing.run_picked.Statement.{statement}
 use Rattle.plainruns.proofs.playing.run_picked.Tie as tie
@@ -48,7 +46,7 @@ add-event-at c =
     let k = z .pre .0 in
     let p = c .before .before .before .loop in
     let y : Bytes s = λ j. omega (arith, c .before .before .before .before .before .before .shared-slice-known .given j) in
-    omega (arith, k .at, k .since, c .before .if1 .taken, laws.since-end s y (k .taken) (z .args .picks) (p .i) (omega (arith, k .since, c .before .if1 .taken)), codec.schedule-taken s (laws.page-schedule s (k .taken)) .count)
+    omega (arith, k .at, k .since, c .before .if1 .taken, laws.since-end s y (k .taken) (z .args .picks) (p .i) (omega (arith, k .since, c .before .if1 .taken)), codec.schedule-taken s (page-schedule s (k .taken)) .count)
 
 event-at-requires : tie.Need-event-at-requires Inv-loop μ-loop
 event-at-requires c κs =
@@ -57,7 +55,7 @@ event-at-requires c κs =
     let k = z .pre .0 in
     let p = c .before .before .before .loop in
     let y : Bytes s = λ j. omega (arith, c .before .before .before .before .before .before .shared-slice-known .given j) in
-    reached.event-lies s _ (p .i + z .args .p .at) (p .inv .0) (laws.page-schedule s (k .taken))
+    reached.event-lies s _ (p .i + z .args .p .at) (p .inv .0) (page-schedule s (k .taken))
     (omega (arith, k .at, laws.since-end s y (k .taken) (z .args .picks) (p .i) (omega (arith, k .since, c .before .if1 .taken))))
 
 play-requires : tie.Need-play-requires Inv-loop μ-loop

@@ -1,19 +1,19 @@
 use mathlib.Core.Path.{ap, _∙_}
 use native.Mathlib.Omega.{arith}
-use borrow.Author.Needs.{needs}
-use Rattle.machine.specs.Line.{persist}
+use Rattle.image.proofs.HeadLaws.{lines-few}
+use Rattle.machine.specs.Line.{shapeOf, persist}
 use Rattle.machine.specs.declared.Line.{Line}
 use Rattle.plainruns.proofs.PlayLaws as laws
 use Rattle.plainruns.proofs.playing.written_back.Statement.{statement}
 use Rattle.plainruns.proofs.playing.written_back.Tie as tie
 
 line-at-requires : tie.Need-line-at-requires
-line-at-requires c κs = search needs
+line-at-requires c κs = omega (arith, lines-few (shapeOf (c .args .m)) (c .pre .0 .threads))
 
 persist-line-requires : tie.Need-persist-line-requires
 persist-line-requires c κs =
     let z = c .before in
-    laws.there (z .args .m) _ (z .args .j) (z .pre .0) (z .pre .1) (c .line-at .ensures)
+    (z .pre .0 .threads, laws.there (z .args .m) _ (z .args .j) (z .pre .0) (z .pre .1) (c .line-at .ensures))
 
 returns : tie.Need-returns
 returns c = let z = c .before .before in

@@ -1,8 +1,8 @@
 use Prim.Native.Nat.{_+_, _-_, _/_, _%_, _^_, _<_, _≤_}
-use mathlib.Core.Path.{_≡_, refl, sym, ap, ap₂, subst, _∙_}
+use mathlib.Core.Path.{_≡_, sym, ap, subst, _∙_}
 use native.Mathlib.Omega.{arith}
 use borrow.Author.Needs.{needs}
-use lib.ListN.{length, set, length-set, length-replicate}
+use lib.ListN.{length, set, length-set}
 use Rattle.lists.specs.Tab.{over}
 use Rattle.plainruns.specs.Turns.{turnOf, noPicks, turnIn}
 use Rattle.plainruns.proofs.TurnLaws as laws
