@@ -16,7 +16,7 @@ mod uq {
         fn uq_places(record: *const u8, length: usize, buffer: *mut u8, room: usize) -> u64;
     }
 
-    pub const RECORD: usize = 2083;
+    pub const RECORD: usize = 2267;
 
     #[derive(Debug, PartialEq)]
     pub struct Refusal {

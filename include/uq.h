@@ -46,7 +46,7 @@ enum {
     UQ_MAX_SCHEDULE = 25430, /* 8, the image, and 6 for each event */
     UQ_MAX_LIST = 128,       /* of uq_mend: 2 for each node */
     UQ_MAX_CONTENTS = 208,   /* 16 contents of 13 */
-    UQ_RECORD = 2083,
+    UQ_RECORD = 2267,
     UQ_PLACES = 6,
     UQ_MAX_HISTORY = 859, /* 3 + 4 for each item, and 22 for each operation */
     UQ_MAX_ORDER = 16,
@@ -156,11 +156,11 @@ uint64_t uq_page_lines(const uint8_t *schedule, size_t length, uint64_t k, uint8
 uint64_t uq_refusal_line(uint32_t number, uint32_t place, uint8_t *buffer, size_t room);
 
 /* The machine at the start of an image with `threads` threads. Value 0 where it is taken.
-   The record is written into the first 2,083 bytes of `record`; the bytes after them stay.
+   The record is written into the first 2,267 bytes of `record`; the bytes after them stay.
    A refusal has number 4, then those of the image, then 17, and writes nothing. */
 uint64_t uq_start(const uint8_t *image, size_t length, uint8_t threads, uint8_t *record, size_t room);
 
-/* One event on a record of exactly 2,083 bytes. The value where it is taken: uq_reply says what an operation answered, uq_item which item.
+/* One event on a record of exactly 2,267 bytes. The value where it is taken: uq_reply says what an operation answered, uq_item which item.
    The record is changed in place: this is the call for a rig that keeps its own record, one event at a time, and it needs no other memory.
    A refusal has number 1, 18, 9, 10, 13, 11, 12, 19, and of a crash 7 or 8, with place 0 (of 7: the node); the record stays. */
 uint64_t uq_event(uint8_t *record, size_t length, uint8_t kind, uint8_t number, uint32_t item);

@@ -36,7 +36,7 @@ endingsCounted s = packed (told (pageAnswer s)) (countOf s)
 abbrev pub endingGiven : List ℕ → ℕ → ℕ → ℕ
 endingGiven s k room = packed (told (endingAnswer s k room)) 0
 
--- ---- calls on a record's bytes: 1 where they are not 2,083, 2 where their mark or version is another
+-- ---- calls on a record's bytes: 1 where they are not 2,267, 2 where their mark or version is another
 
 -- T first, then the image's own for T threads, as a schedule has them; then 17
 unfoldable pub startAnswered : List ℕ → ℕ → ℕ → Answer

@@ -1,7 +1,8 @@
-// Dequeue, step by step: D1 to D7 of thread k, and #101's stores S3 and S6.
+// Dequeue, step by step: D1 to D7 of thread k, #101's stores S3 and S6, and F3 and F6, the fences behind D3 and D6.
 use answer::Answer;
+use hands::flushing::fence_line;
+use hands::flushing::flush_line;
 use hands::leaving::leave;
-use hands::persisting::persist_line;
 use hands::retiring::retire;
 use machine::Acted;
 use machine::Line;
@@ -15,7 +16,7 @@ ghost use lib.Dec.{eqb};
 ghost use Rattle.lists.specs.Find.{pick, both};
 ghost use Rattle.image.specs.Form.{perDesk};
 ghost use Rattle.machine.specs.Record.{thread};
-ghost use Rattle.machine.specs.Dequeue.{stepD1, stepD2, stepD3, stepD4, stepD5, stepD6, stepD7, storesIndex, stepS3, stepS6};
+ghost use Rattle.machine.specs.Dequeue.{stepD1, stepD2, stepD3, stepD4, stepD5, stepD6, stepD7, storesIndex, stepS3, stepS6, stepF3, stepF6};
 ghost use Rattle.dequeue.specs.Held.{NodeOrNone};
 
 // What the form decides: a where each desk has an index line, b elsewhere.
@@ -125,20 +126,36 @@ pub fn s3(m: Machine, k: usize) -> Acted
     store_index(m, k, th.head as usize, Machine::D3)
 }
 
-// D3 line 0, or the thread's own, persisted. Answer Empty.
+// D3 line 0, or the thread's own, is flushed, and on to the fence.
 pub fn d3(m: Machine, k: usize) -> Acted
-    requires { ⌜ (k < 8) × (m .n ≤ 64) ⌝ }
+    requires { ⌜ (k < 8) × (m .t ≤ 8) ⌝ }
     ensures { λ r. ⌜ r ≡ stepD3 m k ⌝ }
 {
     let h = by_form(m.form, k as u8, 0);
     let line = Line::OfHead(h);
-    let r = persist_line(m, line);
-    let th = m.threads[k];
+    let mut r = flush_line(m, k, line);
+    r.threads[k].step = Machine::F3;
+    Acted {
+        answer: Answer::Taken,
+        machine: r,
+        touch: Touch::Flush(k as u8, line),
+    }
+}
+
+// F3 the fence: what D3 flushed is persisted. Answer Empty.
+pub fn f3(m: Machine, k: usize) -> Acted
+    requires { ⌜ (k < 8) × (m .n ≤ 64) × (m .t ≤ 8) ⌝ }
+    ensures { λ r. ⌜ r ≡ stepF3 m k ⌝ }
+{
+    let h = by_form(m.form, k as u8, 0);
+    let line = Line::OfHead(h);
+    let r = fence_line(m, k, line);
+    let th = r.threads[k];
     let rest = leave(r, k, th.held);
     Acted {
         answer: Answer::Empty,
         machine: rest,
-        touch: Touch::Persist(line),
+        touch: Touch::Fence(k as u8, line),
     }
 }
 
@@ -209,19 +226,35 @@ pub fn s6(m: Machine, k: usize) -> Acted
     store_index(m, k, th.next as usize, Machine::D6)
 }
 
-// D6 line 0, or the thread's own, persisted.
+// D6 line 0, or the thread's own, is flushed, and on to the fence.
 pub fn d6(m: Machine, k: usize) -> Acted
-    requires { ⌜ k < 8 ⌝ }
+    requires { ⌜ (k < 8) × (m .t ≤ 8) ⌝ }
     ensures { λ r. ⌜ r ≡ stepD6 m k ⌝ }
 {
     let own = by_form(m.form, k as u8, 0);
     let line = Line::OfHead(own);
-    let mut r = persist_line(m, line);
+    let mut r = flush_line(m, k, line);
+    r.threads[k].step = Machine::F6;
+    Acted {
+        answer: Answer::Taken,
+        machine: r,
+        touch: Touch::Flush(k as u8, line),
+    }
+}
+
+// F6 the fence: what D6 flushed is persisted.
+pub fn f6(m: Machine, k: usize) -> Acted
+    requires { ⌜ (k < 8) × (m .t ≤ 8) ⌝ }
+    ensures { λ r. ⌜ r ≡ stepF6 m k ⌝ }
+{
+    let own = by_form(m.form, k as u8, 0);
+    let line = Line::OfHead(own);
+    let mut r = fence_line(m, k, line);
     r.threads[k].step = Machine::D7;
     Acted {
         answer: Answer::Taken,
         machine: r,
-        touch: Touch::Persist(line),
+        touch: Touch::Fence(k as u8, line),
     }
 }
 

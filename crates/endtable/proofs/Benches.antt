@@ -1,7 +1,7 @@
 -- A run, event by event: what the code holds goes on standing for the bench.
 use Prim.Native.Nat.{ℕ, suc, _≤_, _<_}
 use mathlib.Core.Path.{_≡_, refl, sym, ap, subst, _∙_}
-use mathlib.Core.Bool.{true, false}
+use mathlib.Core.Bool.{Bool, true, false}
 use mathlib.Core.List.{List, [], _∷_}
 use native.Mathlib.Omega.{arith}
 use lib.ListN.{length, drop, drop-of-length-le}
@@ -14,74 +14,107 @@ use Rattle.answer.specs.declared.Answer.the-variants.{Taken}
 use Rattle.image.specs.declared.Content.{Content}
 use Rattle.image.specs.Form.{headLines}
 use Rattle.image.specs.declared.Shape.{Shape}
-use Rattle.machine.specs.Line.{shapeOf, lineCount, lineAt, cachedAt}
-use Rattle.machine.specs.Start.{startWith}
-use Rattle.machine.specs.Event.{Deed, crashes, deedOf, done, eventAt}
+use Rattle.image.specs.declared.Image.{Image}
+use Rattle.image.proofs.HeadLaws.{lines-few}
+use Rattle.machine.specs.Line.{shapeOf, lineCount, lineAt, cachedAt, persisted}
+use Rattle.machine.specs.Start.{startOf}
+use Rattle.machine.specs.Event.{crashes, deedOf, done, eventAt}
+use Rattle.machine.specs.declared.Acted.{Acted}
+use Rattle.machine.specs.declared.Touch.{Touch}
 use Rattle.machine.specs.declared.Machine.{Machine}
 use Rattle.machine.specs.declared.Event.{Event}
-use Rattle.schedule.specs.Run.{Bench, begins, forward, benchAt, andBefore, run}
+use Rattle.schedule.specs.Run.{Bench, begins, goesOn, turned, forward, benchAt, andBefore, run}
+use Rattle.page.specs.Contents.{tableOf}
 use Rattle.endtable.specs.Touched.{touchedRow}
 use Rattle.endtable.specs.declared.touched.Touched.{Touched}
 use Rattle.endtable.specs.Opened.{openedTable, openedCounts}
-use Rattle.endtable.specs.Tables.{tableAfter, countsAfter}
-use Rattle.moments.specs.Frame.{Even}
+use Rattle.endtable.specs.Since.{sinceAfter}
+use Rattle.endtable.specs.Tables.{Tables, overLine, tableAfter, countsAfter}
+use Rattle.endtable.specs.declared.row.Row.{Row}
+use Rattle.moments.specs.Frame.{Even, Frame}
 use Rattle.endtable.specs.Benches.{Stands}
 use Rattle.moments.proofs.Steps as events
-use Rattle.moments.proofs.Moments as moments
+use Rattle.moments.proofs.Known.{Known, known-start, known-event}
+use Rattle.moments.proofs.Waiting.{came-event, fencing-event}
+use Rattle.endtable.proofs.Flushing.{flushing-event}
 use Rattle.endtable.proofs.TableLaws as tables
+use Rattle.endtable.proofs.Sinces as sinces
 
 -- ---- what the code holds
 
-pub stands-begin : (m : Machine) → m .n ≤ 64 → headLines (shapeOf m) ≤ 8 → Stands (begins m) m (openedTable m (lineCount (shapeOf m))) (openedCounts m (lineCount (shapeOf m)))
-stands-begin m h few = record { machine = refl; small = h; few = few; timed = moments.timed-begins m; tables = tables.tables-begin m h few }
+-- a start
+pub stands-begin : (g : Image) (t : ℕ) → t ≤ 8 → g .n ≤ 64 → (since : List Row) → length since ≡ 8
+    → Stands (begins (startOf g t)) (startOf g t) (openedTable (startOf g t) (lineCount (shapeOf (startOf g t)))) (openedCounts (startOf g t) (lineCount (shapeOf (startOf g t)))) since
+stands-begin g t h n since e =
+    let k = known-start g t h n in
+    let few = lines-few (shapeOf (startOf g t)) (k .threads) in
+    record {
+      machine = refl;
+      small = k .nodes;
+      few = few;
+      known = k;
+      tables = tables.tables-begin (startOf g t) (k .nodes) few;
+      sinces = sinces.sinces-begin g t h since e;
+    }
 
 -- the machine is the bench's own
-pub stands-now : (b : Bench) (m : Machine) (t : List (List Content)) (cs : List ℕ) → Stands b m t cs → Stands b (b .machine) t cs
-stands-now b m t cs h = record { machine = refl; small = h .small; few = h .few; timed = h .timed; tables = h .tables }
+pub stands-now : (b : Bench) (m : Machine) (t : List (List Content)) (cs : List ℕ) (since : List Row) → Stands b m t cs since → Stands b (b .machine) t cs since
+stands-now b m t cs since h = record { machine = refl; small = h .small; few = h .few; known = h .known; tables = h .tables; sinces = h .sinces }
 
-module _ (p : ℕ) (b : Bench) (e : Event) (t : List (List Content)) (cs : List ℕ) (h : Stands b (b .machine) t cs) (taken : accepted (eventAt p (b .machine) e .answer) ≡ true) where
+module _ (p : ℕ) (b : Bench) (e : Event) (t : List (List Content)) (cs : List ℕ) (since : List Row) (h : Stands b (b .machine) t cs since)
+    (taken : accepted (eventAt p (b .machine) e .answer) ≡ true) where
   abbrev m′ : Machine
   m′ = eventAt p (b .machine) e .machine
 
-  -- the row that it changes
-  abbrev w′ : Touched
-  w′ = touchedRow (shapeOf m′) (eventAt p (b .machine) e .touch)
+  abbrev touch : Touch
+  touch = eventAt p (b .machine) e .touch
+
+  -- the row that it changes, on a machine of this shape, and what it leaves in that line
+  abbrev w′ : Shape → Touched
+  w′ z = touchedRow z touch
+
+  abbrev c′ : Shape → Content
+  c′ z = cachedAt m′ (lineAt z (w′ z .line))
 
   -- an event that is no crash
-  pub stands-event : Even (b .machine) → (deedOf (e .kind) ≡ crashes → ⊥)
-      → Stands (forward p b e) (eventAt p (b .machine) e .machine)
-      (tableAfter t cs w′ (cachedAt m′ (lineAt (shapeOf m′) (w′ .line)))) (countsAfter t cs w′ (cachedAt m′ (lineAt (shapeOf m′) (w′ .line))))
-  stands-event k ne = record {
-    machine = same;
-    small = subst (λ (x : Machine). x .n ≤ 64) same (subst (λ (z : Shape). z .n ≤ 64) (sym shape) (h .small));
-    few = subst (λ (x : Machine). headLines (shapeOf x) ≤ 8) same (subst (λ (z : Shape). headLines z ≤ 8) (sym shape) (h .few));
-    timed = tables.timed-event p b e taken ne (h .timed);
-    tables = tables.tables-event p b e taken ne (h .timed) (h .small) (h .few) k t cs (h .tables);
-  }
-    where
-      shape : shapeOf m′ ≡ shapeOf (b .machine)
-      shape = events.frame-event p (b .machine) e k taken ne .shape
+  module _ (k : Even (b .machine)) (ne : deedOf (e .kind) ≡ crashes → ⊥) where
+    frame : Frame (b .machine) m′ touch
+    frame = events.frame-event p (b .machine) e taken ne
 
-      same : m′ ≡ forward p b e .machine
-      same = sym (ap (λ (x : Bench). x .machine) (events.turned-on p b e taken ne))
+    goes : goesOn b m′ touch ≡ forward p b e
+    goes = sym (events.turned-on p b e taken ne)
 
-  -- a crash
-  crash-shape : deedOf (e .kind) ≡ crashes → shapeOf m′ ≡ shapeOf (b .machine)
-  unfolding startWith
-  crash-shape q = ap (λ o. shapeOf (o .machine)) (events.event-done p (b .machine) e taken) ∙ ap (λ (d : Deed). shapeOf (done (b .machine) e d .machine)) q
+    -- what stands for the bench x behind it, told with the shape z
+    abbrev pub Standing : Bench → Shape → Type 0
+    Standing x z =
+        Stands x (eventAt p (b .machine) e .machine) (tableAfter t cs since (overLine (b .machine) (w′ z)) (w′ z) (c′ z)) (countsAfter t cs since (overLine (b .machine) (w′ z)) (w′ z) (c′ z))
+        (sinceAfter z (m′ .threads) since (w′ z) (c′ z))
 
-  crash-small : deedOf (e .kind) ≡ crashes → (m′ .n ≤ 64) × (headLines (shapeOf m′) ≤ 8)
-  crash-small q = (subst (λ (z : Shape). z .n ≤ 64) (sym (crash-shape q)) (h .small), subst (λ (z : Shape). headLines z ≤ 8) (sym (crash-shape q)) (h .few))
+    pub stands-event : Standing (forward p b e) (shapeOf (eventAt p (b .machine) e .machine))
+    stands-event =
+        subst (λ x. Standing x (shapeOf m′)) goes
+        (subst (Standing (goesOn b m′ touch))
+        (sym (frame .shape)) (record {
+          machine = refl;
+          small = subst (λ (z : Shape). z .n ≤ 64) (sym (frame .shape)) (h .small);
+          few = subst (λ (z : Shape). headLines z ≤ 8) (sym (frame .shape)) (h .few);
+          known = subst Known (sym goes) (known-event p b e (h .known) taken);
+          tables =
+              tables.tables-after b (h .known) (h .small) (h .few) k m′ touch frame (events.there-event p (b .machine) e taken) (flushing-event p (b .machine) e taken)
+              (fencing-event p (b .machine) e taken) t cs since (h .tables) (h .sinces);
+          sinces = sinces.sinces-after b (h .known) (h .small) (h .few) m′ touch frame (came-event p (b .machine) e taken ne) since (h .sinces);
+        }))
 
+  -- a crash is a start
   pub stands-crash : deedOf (e .kind) ≡ crashes
-      → Stands (forward p b e) (eventAt p (b .machine) e .machine) (openedTable m′ (lineCount (shapeOf m′))) (openedCounts m′ (lineCount (shapeOf m′)))
-  stands-crash q = record {
-    machine = rw q;
-    small = rw q (crash-small q .0);
-    few = rw q (crash-small q .1);
-    timed = tables.timed-crash b (eventAt p (b .machine) e) e q;
-    tables = tables.tables-crash b (eventAt p (b .machine) e) e q (crash-small q .0) (crash-small q .1);
-  }
+      → Stands (forward p b e) (eventAt p (b .machine) e .machine) (openedTable m′ (lineCount (shapeOf m′))) (openedCounts m′ (lineCount (shapeOf m′))) since
+  stands-crash q =
+      let o : eventAt p (b .machine) e ≡ done (b .machine) e crashes = events.event-done p (b .machine) e taken ∙ ap (done (b .machine) e) q in
+      let m : m′ ≡ startOf (persisted (b .machine)) (b .machine .t) = ap (λ (o : Acted). o .machine) o in
+      let f : forward p b e ≡ begins m′ = ap (turned b (eventAt p (b .machine) e)) q in
+      subst (λ x. Stands x m′ (openedTable m′ (lineCount (shapeOf m′))) (openedCounts m′ (lineCount (shapeOf m′))) since) (sym f)
+      (subst (λ x. Stands (begins x) x (openedTable x (lineCount (shapeOf x))) (openedCounts x (lineCount (shapeOf x))) since) (sym m)
+      (stands-begin (persisted (b .machine)) (b .machine .t) (h .known .threads) (h .known .nodes) since (h .sinces .eight)))
 
 -- ---- the run
 

@@ -2,9 +2,13 @@ pub mod Digits
 pub mod Turns
 pub mod RowLaws
 pub mod TouchedLaws
+pub mod SinceRows
+pub mod Flushing
+pub mod SinceLaws
+pub mod TableLaws
+pub mod Sinces
 pub mod OwnLaws
 pub mod Openings
-pub mod TableLaws
 pub mod Chosen
 pub mod Limits
 pub mod Pages

@@ -14,7 +14,7 @@ use Rattle.image.specs.Layout.{noContent, contentAt, sameContent}
 use Rattle.image.specs.declared.Content.{Content}
 use Rattle.page.specs.Contents.{joins}
 use Rattle.moments.specs.Seats.{isAt, seatOf}
-use Rattle.endtable.specs.Rows.{rowJoined, countJoined}
+use Rattle.endtable.specs.Rows.{rowJoined, countJoined, rowOf}
 use Rattle.endtable.specs.Opened.{openedRow, openedCount}
 use Rattle.endtable.specs.Tables.{Held}
 use Rattle.moments.proofs.Joins as joined
@@ -130,6 +130,11 @@ held-cleared row c h = record {
   counted = refl;
   same = λ j p q. let e : j ≡ 0 = omega arith in rw (e) (getD-set-same row 0 c noContent (omega arith));
 }
+
+-- a row of one content
+pub held-one : (c : Content) → Held (rowOf c .at) (rowOf c .count) (c ∷ [])
+unfolding rowOf
+held-one c = record { wide = refl; counted = refl; same = λ j p q. let e : j ≡ 0 = omega arith in rw e }
 
 -- after a start: the persisted content, and the cached one where it is another
 pub held-opened : (p c : Content) → Held (openedRow p c) (openedCount p c) (joins (p ∷ []) c)

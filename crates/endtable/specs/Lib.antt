@@ -1,5 +1,6 @@
 pub mod Rows
 pub mod Touched
+pub mod Since
 pub mod Opened
 pub mod Picks
 pub mod Tables

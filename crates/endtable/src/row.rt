@@ -3,9 +3,14 @@
 ghost use mathlib.Core.Path.{_≡_};
 ghost use Prim.Native.Nat.{ℕ, _<_, _≤_};
 ghost use Rattle.moments.specs.Seats.{seatOf};
-ghost use Rattle.endtable.specs.Rows.{rowAfter, countAfter};
+ghost use Rattle.endtable.specs.Rows.{rowAfter, countAfter, joinedRow, rowOf};
 use image::Content;
 use image::is_same;
+
+pub struct Row {
+    pub count: u8,
+    pub at: [Content; 16],
+}
 
 // The first of the row's n contents that equals c, and n where none does.
 pub fn seat(row: [Content; 16], n: usize, c: Content) -> usize
@@ -55,4 +60,24 @@ pub fn count_after(row: [Content; 16], n: u8, c: Content, persisted: bool) -> u8
         return n;
     }
     n + 1
+}
+
+// Both.
+pub fn row_joined(row: Row, c: Content, persisted: bool) -> Row
+    ensures { λ r. ⌜ r ≡ joinedRow row c persisted ⌝ }
+{
+    let old = row.at;
+    let count = count_after(old, row.count, c, persisted);
+    let at = row_after(old, row.count, c, persisted);
+    Row { count, at }
+}
+
+// The row of one content.
+pub fn row_of(c: Content) -> Row
+    ensures { λ r. ⌜ r ≡ rowOf c ⌝ }
+{
+    Row {
+        count: 1,
+        at: [c; 16],
+    }
 }

@@ -1,4 +1,4 @@
-// The row that a touch changes, and whether its line is persisted.
+// The row that a touch changes, whose flush or fence it is, and whether the row begins anew.
 ghost use mathlib.Core.Path.{_≡_};
 ghost use Prim.Native.Nat.{_≤_};
 ghost use Rattle.image.specs.Form.{headLines};
@@ -7,9 +7,11 @@ use image::Shape;
 use machine::Touch;
 use machine::lines::number_of;
 
-// A line of 72 is none.
+// A line of 72 is none. A thread of 8 is none: the line was stored to, or was written back; else the thread flushed it, or fenced it. The present content
+// is the only one behind a write-back, and since a flush.
 pub struct Touched {
     pub line: usize,
+    pub thread: usize,
     pub persisted: bool,
 }
 
@@ -21,12 +23,14 @@ pub fn touched_row(z: Shape, w: Touch) -> Touched
     match w {
         Touch::Nothing => Touched {
             line: 72,
+            thread: 8,
             persisted: false,
         },
         Touch::Store(l) => {
             let line = number_of(z, l);
             Touched {
                 line,
+                thread: 8,
                 persisted: false,
             }
         }
@@ -34,7 +38,28 @@ pub fn touched_row(z: Shape, w: Touch) -> Touched
             let line = number_of(z, l);
             Touched {
                 line,
+                thread: 8,
                 persisted: true,
+            }
+        }
+        Touch::Flush(k, l) => {
+            let line = number_of(z, l);
+            let thread = k as usize;
+            let persisted = true;
+            Touched {
+                line,
+                thread,
+                persisted,
+            }
+        }
+        Touch::Fence(k, l) => {
+            let line = number_of(z, l);
+            let thread = k as usize;
+            let persisted = false;
+            Touched {
+                line,
+                thread,
+                persisted,
             }
         }
     }

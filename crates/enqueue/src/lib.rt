@@ -1,7 +1,8 @@
-// Enqueue, step by step: A1 to A12 of thread k.
+// Enqueue, step by step: A1 to A12 of thread k, and F10, the fence behind A10.
 use answer::Answer;
+use hands::flushing::fence_line;
+use hands::flushing::flush_line;
 use hands::leaving::leave;
-use hands::persisting::persist_line;
 use machine::Acted;
 use machine::Line;
 use machine::Machine;
@@ -9,7 +10,7 @@ use machine::Touch;
 ghost use mathlib.Core.Path.{_≡_};
 ghost use Prim.Native.Nat.{ℕ, _<_, _≤_, _^_};
 ghost use Rattle.machine.specs.Record.{thread};
-ghost use Rattle.machine.specs.Enqueue.{stepA1, stepA2, stepA3, stepA4, stepA5, stepA6, stepA7, stepA8, stepA9, stepA10, stepA11, stepA12};
+ghost use Rattle.machine.specs.Enqueue.{stepA1, stepA2, stepA3, stepA4, stepA5, stepA6, stepA7, stepA8, stepA9, stepA10, stepA11, stepA12, stepF10};
 
 // A1 takes the first free node after the one last handed out, going round; if none is free the answer is Full.
 pub fn a1(m: Machine, k: usize) -> Acted
@@ -212,19 +213,35 @@ pub fn a9(m: Machine, k: usize) -> Acted
     }
 }
 
-// A10 the node's line is persisted, as one step.
+// A10 the node's line is flushed, and on to the fence.
 pub fn a10(m: Machine, k: usize) -> Acted
-    requires { ⌜ (k < 8) × (thread m k .node < 64) ⌝ }
+    requires { ⌜ (k < 8) × (m .t ≤ 8) × (thread m k .node < 64) ⌝ }
     ensures { λ r. ⌜ r ≡ stepA10 m k ⌝ }
 {
     let th = m.threads[k];
     let line = Line::OfNode(th.node);
-    let mut r = persist_line(m, line);
+    let mut r = flush_line(m, k, line);
+    r.threads[k].step = Machine::F10;
+    Acted {
+        answer: Answer::Taken,
+        machine: r,
+        touch: Touch::Flush(k as u8, line),
+    }
+}
+
+// F10 the fence: what A10 flushed is persisted.
+pub fn f10(m: Machine, k: usize) -> Acted
+    requires { ⌜ (k < 8) × (m .t ≤ 8) × (thread m k .node < 64) ⌝ }
+    ensures { λ r. ⌜ r ≡ stepF10 m k ⌝ }
+{
+    let th = m.threads[k];
+    let line = Line::OfNode(th.node);
+    let mut r = fence_line(m, k, line);
     r.threads[k].step = Machine::A11;
     Acted {
         answer: Answer::Taken,
         machine: r,
-        touch: Touch::Persist(line),
+        touch: Touch::Fence(k as u8, line),
     }
 }
 

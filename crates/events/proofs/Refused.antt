@@ -10,7 +10,7 @@ use Rattle.answer.specs.declared.Answer.{Answer}
 use Rattle.answer.specs.declared.Answer.the-variants.{Full, WornOut, Record}
 use Rattle.image.specs.Form.{topOf, perDesk}
 use Rattle.machine.specs.Record.{none, node, thread, ownNode, withNext, withIndex, putNode, putHead, putHeadNode, headAt}
-use Rattle.machine.specs.Stage.{Stage, noStep, A1, A2, A3, A4, A5, A6, A7, A8, A9, A10, A11, A12, D1, D2, D3, D4, D5, D6, D7, S3, S6, stage}
+use Rattle.machine.specs.Stage.{Stage, noStep, A1, A2, A3, A4, A5, A6, A7, A8, A9, A10, A11, A12, D1, D2, D3, D4, D5, D6, D7, S3, S6, F10, F3, F6, stage}
 use Rattle.machine.specs.Retire.{out, quiet, moving, going, answering, storing, nextFree, handOut, freed}
 use Rattle.machine.specs.Event.{Deed, unknown, enqueues, dequeues, steps, writesBack, crashes, deedOf, eventAnswer, done, stepped, eventAt, handed, eventOn}
 use Rattle.machine.specs.Range.{inRange}
@@ -66,6 +66,9 @@ step-taken m k D6 = refl
 step-taken m k D7 = refl
 step-taken m k S3 = refl
 step-taken m k S6 = refl
+step-taken m k F10 = refl
+step-taken m k F3 = refl
+step-taken m k F6 = refl
 
 pub done-taken : (m : Machine) (e : Event) (d : Deed) → accepted (done m e d .answer) ≡ true
 done-taken m e unknown = refl

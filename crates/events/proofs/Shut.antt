@@ -16,11 +16,12 @@ use Rattle.image.specs.Form.{known, topOf, widthOf, headLines, ownThreads, perD
 use Rattle.image.specs.Layout.{noContent, noContents, noHeads, headsOf}
 use Rattle.image.specs.Recovered.{largest, headOf, recovered, twins, hasTwin, firstTwin, dummyOf}
 use Rattle.image.specs.Refusals.{startable}
-use Rattle.machine.specs.Record.{node, blankNodes, idleThreads}
+use Rattle.machine.specs.Record.{node, blankNodes, idleThreads, noFlushed, noSets}
 use Rattle.machine.specs.Line.{lineAt}
+use Rattle.machine.specs.Flush.{lateAfter, overAfter}
 use Rattle.machine.specs.Start.{insert, risen, behind, lastOf, startWith, freshOf}
 use Rattle.machine.specs.Retire.{out, nextFree, releasedAt, released, others, retired}
-use Rattle.machine.specs.Range.{rangesFit, headFits, indexFits, formFits, inRange, nodeFits, threadFits}
+use Rattle.machine.specs.Range.{rangesFit, headFits, indexFits, formFits, flushFits, flushesFit, inRange, nodeFits, threadFits}
 use Rattle.machine.specs.Event.{eventAt, eventOn}
 use Rattle.machine.specs.declared.Machine.{Machine}
 use Rattle.machine.specs.declared.Node.{Node}
@@ -41,7 +42,7 @@ pub record Facts (c : Point) : Type 0 where
 
 pub facts : (c : Point) → Facts c
 unfolding leaves least around any count tab joined over front has with without wordOf noContents noHeads headLines ownThreads perDesk headsOf largest headOf recovered twins hasTwin firstTwin dummyOf startable
-    blankNodes idleThreads insert risen behind lastOf startWith nextFree releasedAt released others retired rangesFit headFits indexFits formFits known topOf widthOf inRange nodeFits threadFits eventAt eventOn
+    blankNodes idleThreads noFlushed noSets lateAfter overAfter insert risen behind lastOf startWith nextFree releasedAt released others retired rangesFit headFits indexFits formFits flushFits flushesFit known topOf widthOf inRange nodeFits threadFits eventAt eventOn
 facts P1 = record { old = refl; new = refl; answer = refl }
 facts P2 = record { old = refl; new = refl; answer = refl }
 facts P3 = record { old = refl; new = refl; answer = refl }
@@ -87,12 +88,12 @@ firstStep = after (enqueue 7 ∷ step ∷ [])
 -- memory after it, and after P2's events: the persisted copy of line 2 is (1, 1, 7)
 not-yet : lineTwo firstStep ≡ noContent
 unfolding leaves least around any count tab joined over front has with without wordOf noContents noHeads headLines ownThreads perDesk headsOf largest headOf recovered twins hasTwin firstTwin dummyOf startable
-    blankNodes idleThreads insert risen behind lastOf startWith nextFree releasedAt released others retired rangesFit headFits indexFits formFits known topOf widthOf inRange nodeFits threadFits eventAt eventOn lineAt
+    blankNodes idleThreads noFlushed noSets lateAfter overAfter insert risen behind lastOf startWith nextFree releasedAt released others retired rangesFit headFits indexFits formFits flushFits flushesFit known topOf widthOf inRange nodeFits threadFits eventAt eventOn lineAt
 not-yet = refl
 
 there : lineTwo (after (before P2 ++ (step ∷ []))) ≡ record { linked = 1; index = 1; item = 7 }
 unfolding leaves least around any count tab joined over front has with without wordOf noContents noHeads headLines ownThreads perDesk headsOf largest headOf recovered twins hasTwin firstTwin dummyOf startable
-    blankNodes idleThreads insert risen behind lastOf startWith nextFree releasedAt released others retired rangesFit headFits indexFits formFits known topOf widthOf inRange nodeFits threadFits eventAt eventOn lineAt
+    blankNodes idleThreads noFlushed noSets lateAfter overAfter insert risen behind lastOf startWith nextFree releasedAt released others retired rangesFit headFits indexFits formFits flushFits flushesFit known topOf widthOf inRange nodeFits threadFits eventAt eventOn lineAt
 there = refl
 
 pub persists-really :
@@ -109,12 +110,12 @@ only-claims b h e = omega (arith, ap (λ (c : Content). c .item) (sym (persists-
 -- and already where it first only claims: at the second step, A2, it leaves node 1 as it is
 old-item : node firstStep 1 .item ≡ 0
 unfolding leaves least around any count tab joined over front has with without wordOf noContents noHeads headLines ownThreads perDesk headsOf largest headOf recovered twins hasTwin firstTwin dummyOf startable
-    blankNodes idleThreads insert risen behind lastOf startWith nextFree releasedAt released others retired rangesFit headFits indexFits formFits known topOf widthOf inRange nodeFits threadFits eventAt eventOn lineAt
+    blankNodes idleThreads noFlushed noSets lateAfter overAfter insert risen behind lastOf startWith nextFree releasedAt released others retired rangesFit headFits indexFits formFits flushFits flushesFit known topOf widthOf inRange nodeFits threadFits eventAt eventOn lineAt
 old-item = refl
 
 new-item : node (eventOn firstStep step .machine) 1 .item ≡ 7
 unfolding leaves least around any count tab joined over front has with without wordOf noContents noHeads headLines ownThreads perDesk headsOf largest headOf recovered twins hasTwin firstTwin dummyOf startable
-    blankNodes idleThreads insert risen behind lastOf startWith nextFree releasedAt released others retired rangesFit headFits indexFits formFits known topOf widthOf inRange nodeFits threadFits eventAt eventOn lineAt
+    blankNodes idleThreads noFlushed noSets lateAfter overAfter insert risen behind lastOf startWith nextFree releasedAt released others retired rangesFit headFits indexFits formFits flushFits flushesFit known topOf widthOf inRange nodeFits threadFits eventAt eventOn lineAt
 new-item = refl
 
 pub claims-second : (a : Answer) (x : Machine) → node x 1 ≡ node firstStep 1 → Meets firstStep step (out a x) → ⊥

@@ -35,10 +35,10 @@ pub data Point : Type 0 where
 -- N = 2, T = 1, all-zero image: the events before the last
 abbrev pub before : Point → List Event
 before P1 = enqueue 7 ∷ replicate 8 step
-before P2 = enqueue 7 ∷ replicate 9 step
-before P3 = enqueue 7 ∷ replicate 11 step ++ (dequeue ∷ replicate 2 step)
-before P4 = enqueue 7 ∷ replicate 11 step ++ (dequeue ∷ replicate 4 step)
-before P5 = enqueue 7 ∷ replicate 11 step ++ (dequeue ∷ replicate 6 step ++ (enqueue 8 ∷ []))
+before P2 = enqueue 7 ∷ replicate 10 step
+before P3 = enqueue 7 ∷ replicate 12 step ++ (dequeue ∷ replicate 2 step)
+before P4 = enqueue 7 ∷ replicate 12 step ++ (dequeue ∷ replicate 5 step)
+before P5 = enqueue 7 ∷ replicate 12 step ++ (dequeue ∷ replicate 7 step ++ (enqueue 8 ∷ []))
 
 abbrev pub given : Point → Machine
 given c = after (before c)
@@ -46,9 +46,9 @@ given c = after (before c)
 -- thread 0's step number before the last event and after it, and the operation's answer: at P5 it is Full
 abbrev pub was : Point → ℕ
 was P1 = 9
-was P2 = 10
+was P2 = 22
 was P3 = 16
-was P4 = 18
+was P4 = 24
 was P5 = 1
 
 abbrev pub is : Point → ℕ

@@ -11,6 +11,7 @@ use lib.Dec.{eqb, leb}
 use borrow.Author.Tests.{leb-false}
 use Rattle.lists.specs.Find.{pick, both}
 use Rattle.lists.specs.Tab.{tab, front}
+use Rattle.lists.specs.Word.{has}
 use Rattle.lists.proofs.TabLaws as tabs
 use Rattle.image.specs.Layout.{noContent, noContents, contentAt, imageShape, noHeads, headIn, headsOf}
 use Rattle.image.specs.Recovered.{headOf}
@@ -20,9 +21,10 @@ use Rattle.image.specs.declared.Image.{Image}
 use Rattle.image.specs.Form.{topOf, perDesk, headLines}
 use Rattle.image.specs.declared.Shape.{Shape}
 use Rattle.image.proofs.FormLaws.{top-small}
-use Rattle.machine.specs.Record.{none, node, thread, kept, headAt, keptHead, contentOf, zeroNode, zeroThread, blankNodes, idleThread, idleThreads, withIndex, atStep, putNode, putThread, putFree, putTail, putHead, putHeadNode, putHeadAt}
-use Rattle.machine.specs.Stage.{Stage, noStep, A1, A2, A3, A4, A5, A6, A7, A8, A9, A10, A11, A12, D1, D2, D3, D4, D5, D6, D7, S3, S6, stage}
-use Rattle.machine.specs.Line.{shapeOf, lineAt, ownHead, persist, persisted}
+use Rattle.machine.specs.Record.{none, node, thread, kept, headAt, keptHead, flushed, contentOf, noFlushed, zeroNode, zeroThread, blankNodes, idleThread, idleThreads, withIndex, atStep, putNode, putThread, putFree, putTail, putHead, putHeadNode, putHeadAt}
+use Rattle.machine.specs.Stage.{Stage, noStep, A1, A2, A3, A4, A5, A6, A7, A8, A9, A10, A11, A12, D1, D2, D3, D4, D5, D6, D7, S3, S6, F10, F3, F6, stage}
+use Rattle.machine.specs.Line.{shapeOf, lineAt, ownHead, cachedAt, overAt, keeping, everyone, persist, persisted}
+use Rattle.machine.specs.Flush.{flush, overAfter, fence}
 use Rattle.machine.specs.declared.Line.{Line}
 use Rattle.machine.specs.declared.Line.the-variants.{OfHead as ofHead, OfNode as ofNode}
 use Rattle.machine.specs.Retire.{left, nextFree, handOut, freed, released, releasedAt, retired, retiredHeld, going, answering, storing}
@@ -44,6 +46,7 @@ pub record Small (m : Machine) : Type 0 where
   pub mark : (k : ℕ) → headAt m k < 18446744073709551616
   pub savedMark : (k : ℕ) → keptHead m k < 18446744073709551616
   pub items : (k : ℕ) → thread m k .item < 4294967296
+  pub flushes : (k : ℕ) → Little (flushed m k)
 
 -- ---- lists all of whose elements are so
 
@@ -79,6 +82,7 @@ small-node m s i v l = record {
   mark = s .mark;
   savedMark = s .savedMark;
   items = s .items;
+  flushes = s .flushes;
 }
 
 small-thread : (m : Machine) → Small m → (k : ℕ) (v : Thread) → v .item < 4294967296 → Small (putThread m k v)
@@ -88,41 +92,76 @@ small-thread m s k v l = record {
   mark = s .mark;
   savedMark = s .savedMark;
   items = λ j. set-all (λ t. t .item < 4294967296) (m .threads) zeroThread v (s .items) l k j;
+  flushes = s .flushes;
 }
 
 small-free : (m : Machine) (x : ℕ) → Small m → Small (putFree m x)
-small-free m x s = record { cached = s .cached; saved = s .saved; mark = s .mark; savedMark = s .savedMark; items = s .items }
+small-free m x s = record { cached = s .cached; saved = s .saved; mark = s .mark; savedMark = s .savedMark; items = s .items; flushes = s .flushes }
 
 small-given : (m : Machine) (x : ℕ) → Small m → Small (handOut m x)
-small-given m x s = record { cached = s .cached; saved = s .saved; mark = s .mark; savedMark = s .savedMark; items = s .items }
+small-given m x s = record { cached = s .cached; saved = s .saved; mark = s .mark; savedMark = s .savedMark; items = s .items; flushes = s .flushes }
 
 small-tail : (m : Machine) (x : ℕ) → Small m → Small (putTail m x)
-small-tail m x s = record { cached = s .cached; saved = s .saved; mark = s .mark; savedMark = s .savedMark; items = s .items }
+small-tail m x s = record { cached = s .cached; saved = s .saved; mark = s .mark; savedMark = s .savedMark; items = s .items; flushes = s .flushes }
 
 small-head : (m : Machine) (h x : ℕ) → Small m → x < 18446744073709551616 → Small (putHead m h x)
-small-head m h x s l = record { cached = s .cached; saved = s .saved; mark = set-all (λ y. y < 18446744073709551616) (m .heads) 0 x (s .mark) l 0; savedMark = s .savedMark; items = s .items }
+small-head m h x s l = record { cached = s .cached; saved = s .saved; mark = set-all (λ y. y < 18446744073709551616) (m .heads) 0 x (s .mark) l 0; savedMark = s .savedMark; items = s .items; flushes = s .flushes }
 
 small-head-node : (m : Machine) (x : ℕ) → Small m → Small (putHeadNode m x)
-small-head-node m x s = record { cached = s .cached; saved = s .saved; mark = s .mark; savedMark = s .savedMark; items = s .items }
+small-head-node m x s = record { cached = s .cached; saved = s .saved; mark = s .mark; savedMark = s .savedMark; items = s .items; flushes = s .flushes }
 
 small-head-at : (m : Machine) (k x : ℕ) → Small m → x < 18446744073709551616 → Small (putHeadAt m k x)
-small-head-at m k x s l = record { cached = s .cached; saved = s .saved; mark = set-all (λ y. y < 18446744073709551616) (m .heads) 0 x (s .mark) l k; savedMark = s .savedMark; items = s .items }
+small-head-at m k x s l = record { cached = s .cached; saved = s .saved; mark = set-all (λ y. y < 18446744073709551616) (m .heads) 0 x (s .mark) l k; savedMark = s .savedMark; items = s .items; flushes = s .flushes }
 
-small-persist : (m : Machine) (l : Line) → Small m → Small (persist m l)
-small-persist m (ofHead k) s = record {
+small-cached : (m : Machine) (l : Line) → Small m → Little (cachedAt m l)
+small-cached m (ofHead k) s = (s .mark k, omega arith)
+small-cached m (ofNode i) s = s .cached i
+
+small-keeping : (m : Machine) (l : Line) (c : Content) (w : ℕ) → Little c → Small m → Small (keeping m l c w)
+small-keeping m (ofHead k) c w p s = record {
   cached = s .cached;
   saved = s .saved;
   mark = s .mark;
-  savedMark = set-all (λ y. y < 18446744073709551616) (m .«kept_heads») 0 (headAt m k) (s .savedMark) (s .mark k) k;
+  savedMark = set-all (λ y. y < 18446744073709551616) (m .«kept_heads») 0 (c .index) (s .savedMark) (p .0) k;
   items = s .items;
+  flushes = s .flushes;
 }
-small-persist m (ofNode i) s = record {
+small-keeping m (ofNode i) c w p s = record {
   cached = s .cached;
-  saved = λ j. set-all Little (m .kept) noContent (contentOf (node m i)) (s .saved) (s .cached i) i j;
+  saved = λ j. set-all Little (m .kept) noContent c (s .saved) p i j;
   mark = s .mark;
   savedMark = s .savedMark;
   items = s .items;
+  flushes = s .flushes;
 }
+
+small-persist : (m : Machine) (l : Line) → Small m → Small (persist m l)
+small-persist m l s = small-keeping m l (cachedAt m l) (everyone m) (small-cached m l s) s
+
+small-flush : (m : Machine) (k : ℕ) (l : Line) → Small m → Small (flush m k l)
+small-flush m k (ofHead h) s = record {
+  cached = s .cached;
+  saved = s .saved;
+  mark = s .mark;
+  savedMark = s .savedMark;
+  items = s .items;
+  flushes = λ j. set-all Little (m .flushed) noContent (cachedAt m (ofHead h)) (s .flushes) (small-cached m (ofHead h) s) k j;
+}
+small-flush m k (ofNode i) s = record {
+  cached = s .cached;
+  saved = s .saved;
+  mark = s .mark;
+  savedMark = s .savedMark;
+  items = s .items;
+  flushes = λ j. set-all Little (m .flushed) noContent (contentOf (node m i)) (s .flushes) (s .cached i) k j;
+}
+
+small-fence : (m : Machine) (k : ℕ) (l : Line) → Small m → Small (fence m k l)
+small-fence m k l s = by (has (overAt m l) k)
+  where
+    by : (b : Bool) → Small (pick b m (keeping m l (flushed m k) (overAfter m k l)))
+    by true = s
+    by false = small-keeping m l (flushed m k) (overAfter m k l) (s .flushes k) s
 
 -- ---- parts of a step
 
@@ -181,7 +220,7 @@ module _ (m : Machine) (k : ℕ) (s : Small m) where
       small-pick (eqb (node m (thread m k .tail) .next) none) _ _
       (small-going _ k 9 (small-node m s (thread m k .tail) _ (s .cached (thread m k .tail)))) (small-going m k 12 s)
   small-step A9 = small-going _ k 10 (small-node m s (thread m k .node) _ (s .cached (thread m k .node)))
-  small-step A10 = small-going _ k 11 (small-persist m (ofNode (thread m k .node)) s)
+  small-step A10 = small-going _ k 22 (small-flush m k (ofNode (thread m k .node)) s)
   small-step A11 =
       small-left (pick (eqb (m .tail) (thread m k .tail)) (putTail m (thread m k .node)) m) k _
       (small-passed m (eqb (m .tail) (thread m k .tail)) (thread m k .node) s)
@@ -190,16 +229,19 @@ module _ (m : Machine) (k : ℕ) (s : Small m) where
       (small-passed m (eqb (m .tail) (thread m k .tail)) (node m (thread m k .tail) .next) s)
   small-step D1 = small-thread m s k _ (s .items k)
   small-step D2 = small-thread m s k _ (s .items k)
-  small-step D3 = small-left (persist m (ofHead (ownHead m k))) k _ (small-persist m (ofHead (ownHead m k)) s)
+  small-step D3 = small-going _ k 23 (small-flush m k (ofHead (ownHead m k)) s)
   small-step D4 =
       small-pick (both (eqb (m .head) (thread m k .head)) (pick (perDesk (m .form)) true (eqb (headAt m 0) (thread m k .index)))) _ _
       (small-pick (perDesk (m .form)) _ _ (small-going _ k 17 (small-head-node m (thread m k .next) s))
       (small-going _ k 17 (small-head m (thread m k .next) _ s (s .cached (thread m k .next) .0)))) (small-going m k 13 s)
   small-step D5 = small-thread m s k _ (s .cached (thread m k .next) .1)
-  small-step D6 = small-going _ k 19 (small-persist m (ofHead (ownHead m k)) s)
+  small-step D6 = small-going _ k 24 (small-flush m k (ofHead (ownHead m k)) s)
   small-step D7 = small-left (retiredHeld m k) k (thread m k .head) (small-held m k s)
   small-step S3 = small-going _ k 15 (small-head-at m k _ s (s .cached (thread m k .head) .0))
   small-step S6 = small-going _ k 18 (small-head-at m k _ s (s .cached (thread m k .next) .0))
+  small-step F10 = small-going (fence m k (ofNode (thread m k .node))) k 11 (small-fence m k (ofNode (thread m k .node)) s)
+  small-step F3 = small-left (fence m k (ofHead (ownHead m k))) k _ (small-fence m k (ofHead (ownHead m k)) s)
+  small-step F6 = small-going (fence m k (ofHead (ownHead m k))) k 19 (small-fence m k (ofHead (ownHead m k)) s)
 
 -- ---- starts and events
 
@@ -220,7 +262,7 @@ unfolding headsOf noHeads
 heads-small z x h = front-all (λ y. y < 18446744073709551616) x (headLines z) noHeads 0 (λ j p. h j) (same-all (λ y. y < 18446744073709551616) 8 0 0 (omega arith) (omega arith))
 
 pub small-start : (g : Image) (t : ℕ) → ((i : ℕ) → Little (contentAt (g .nodes) i)) → ((k : ℕ) → headIn g k < 18446744073709551616) → Small (startOf g t)
-unfolding startWith blankNodes idleThreads
+unfolding startWith blankNodes idleThreads noFlushed
 small-start g t h l = record {
   cached = λ i. front-all (λ n. Little (contentOf n)) (startNode g _ (queueOf g)) (g .n) blankNodes zeroNode (λ j p. start-content g _ (queueOf g) h (omega (arith, head-within g 18446744073709551615 (λ k q. omega (arith, l k)))) j)
       (λ j. same-all (λ n. Little (contentOf n)) 64 _ zeroNode (omega arith, omega arith) (omega arith, omega arith) j) i;
@@ -228,6 +270,7 @@ small-start g t h l = record {
   mark = heads-small (imageShape g) (headIn g) l;
   savedMark = heads-small (imageShape g) (headIn g) l;
   items = λ i. same-all (λ t. t .item < 4294967296) 8 (idleThread 255) zeroThread (omega arith) (omega arith) i;
+  flushes = λ i. same-all Little 8 noContent noContent (omega arith, omega arith) (omega arith, omega arith) i;
 }
 
 pub small-done : (m : Machine) (e : Event) (d : Deed) → e .item < 4294967296 → Small m → Small (done m e d .machine)

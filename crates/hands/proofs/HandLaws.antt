@@ -7,7 +7,7 @@ use Rattle.lists.specs.Find.{pick}
 use Rattle.lists.specs.Word.{with, without, wordOf}
 use Rattle.lists.proofs.WordLaws as words
 use Rattle.machine.specs.Record.{node, headAt, contentOf, withWaits, putNode, putFree, putKept, putKeptHead}
-use Rattle.machine.specs.Line.{persist}
+use Rattle.machine.specs.Line.{persist, everyone}
 use Rattle.machine.specs.declared.Line.{Line}
 use Rattle.machine.specs.declared.Line.the-variants.{OfHead as ofHead, OfNode as ofNode}
 use Rattle.machine.specs.Retire.{others, lastWait, releasedAt, released}
@@ -50,11 +50,11 @@ released-next m r k i e w f rest free =
 
 -- ---- a line, known to be a head line or a node's
 
-pub persist-head : (m : Machine) (l : Line) (k : ℕ) → l ≡ ofHead k → putKeptHead m k (headAt m k) ≡ persist m l
-persist-head m l k e = sym (ap (persist m) e)
+pub persist-head : (m : Machine) (l : Line) (k w : ℕ) → l ≡ ofHead k → w ≡ everyone m → putKeptHead m k (headAt m k) w ≡ persist m l
+persist-head m l k w e f = ap (putKeptHead m k (headAt m k)) f ∙ sym (ap (persist m) e)
 
-pub persist-node : (m : Machine) (l : Line) (i : ℕ) → l ≡ ofNode i → putKept m i (contentOf (node m i)) ≡ persist m l
-persist-node m l i e = sym (ap (persist m) e)
+pub persist-node : (m : Machine) (l : Line) (i w : ℕ) → l ≡ ofNode i → w ≡ everyone m → putKept m i (contentOf (node m i)) w ≡ persist m l
+persist-node m l i w e f = ap (putKept m i (contentOf (node m i))) f ∙ sym (ap (persist m) e)
 
 pub place-head : (l : Line) (k : ℕ) → l ≡ ofHead k → HasPlace l → k < 8
 place-head l k e h = rw e at h

@@ -1,1 +1,2 @@
+pub mod FlushLaws
 pub mod HandLaws

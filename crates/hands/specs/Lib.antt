@@ -1,2 +1,3 @@
 pub mod Others
 pub mod Places
+pub mod Sets

@@ -10,23 +10,22 @@ use lib.Seq.{drop-cons}
 use Rattle.answer.specs.declared.Answer.{Answer}
 use Rattle.image.specs.declared.Content.{Content}
 use Rattle.image.specs.declared.Shape.{Shape}
-use Rattle.machine.specs.Line.{shapeOf, lineCount, lineAt, cachedAt, persistedAt, persist, putLine}
+use Rattle.machine.specs.Line.{shapeOf, lineCount, cachedAt, persistedAt}
 use Rattle.machine.specs.Start.{blankMachine}
 use Rattle.machine.specs.declared.Line.{Line}
 use Rattle.machine.specs.declared.Machine.{Machine}
 use Rattle.machine.specs.declared.Event.{Event}
-use Rattle.machine.proofs.LineLaws.{LineIn, line-in}
+use Rattle.machine.proofs.LineLaws.{LineIn}
 use Rattle.schedule.specs.Run.{Bench, run}
 use Rattle.page.specs.Contents.{joins, gathered, contentsOf}
 use Rattle.lawful.specs.Added.{writeBack, Adds, ends, keeps, adds, NoCrash}
 use Rattle.moments.specs.Marked.{atMoment}
 use Rattle.moments.proofs.Known.{Known}
-use Rattle.pageproof.proofs.Alike.{alike-size}
 use Rattle.pageproof.proofs.Among.{Among, among-old, among-new}
 use Rattle.pageproof.proofs.Events as events
 use Rattle.pageproof.proofs.Events.{Takes, next, Crash, no-crash, onto}
 use Rattle.pageproof.proofs.Runs.{Accepts, run-first, run-rest, run-bench, run-nothing}
-use Rattle.pageproof.proofs.Lengthened.{Lengthened, leftWith, left-old, left-new, lengthened-keeps, lengthened-adds}
+use Rattle.pageproof.proofs.Lengthened.{Lengthened, leftWith, left-old, left-new, writes, lengthened-keeps, lengthened-back}
 
 -- ---- what is gathered
 
@@ -68,17 +67,6 @@ left-among b r l h = by (decLt (b .from l) r)
         (among-gathered (persistedAt (b .machine) l) (persistedAt (b .machine) l ∷ []) _ (inl refl))
 
 -- ---- a run and the same run with write-backs added
-
--- a write-back of the line numbered i, in front
-unfoldable pub writes : Bench → (Line → ℕ) → ℕ → Line → ℕ
-writes b r i = putLine r (lineAt (shapeOf (b .machine)) i) (length (b .past))
-
-pub lengthened-back : (b : Bench) → Known b → (r : Line → ℕ) (m′ : Machine) → Lengthened b r m′ → (i : ℕ) → i < lineCount (shapeOf (b .machine))
-    → Lengthened b (writes b r i) (next m′ (writeBack i))
-unfolding writes
-lengthened-back b kn r m′ g i h =
-    subst (λ (y : Shape). Lengthened b (writes b r i) (persist m′ (lineAt y i))) (sym (alike-size (b .machine) m′ (g .alike)))
-    (lengthened-adds b kn r m′ g (lineAt (shapeOf (b .machine)) i) (line-in (shapeOf (b .machine)) i h))
 
 -- m′ goes on as b′ does
 pub lengthened-onto : (b : Bench) (r : Line → ℕ) (q : ℕ) (b′ : Bench) (e : Event) → Takes q (b′ .machine) e → (Crash e → ⊥) → Lengthened b r (next (b′ .machine) e)

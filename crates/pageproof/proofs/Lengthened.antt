@@ -1,6 +1,6 @@
 -- Written back at moment r, a line is left with its content at the larger of r and the moment from which its contents count. So it is of every machine that has gone
 -- through a bench's events with any write-backs added, clean ones too; of persists, flushes and fences, by the moments alone: no fact of the queue is used.
-use Prim.Native.Nat.{ℕ, _+_, _-_, _≤_, _<_, max}
+use Prim.Native.Nat.{ℕ, suc, _+_, _-_, _≤_, _<_, max}
 use mathlib.Core.Path.{_≡_, refl, sym, ap, ap₂, subst, _∙_}
 use mathlib.Core.Bool.{Bool, true, false, not}
 use mathlib.Core.List.{List, [], _∷_}
@@ -15,8 +15,9 @@ use Rattle.lists.specs.Find.{pick}
 use Rattle.lists.specs.Word.{has}
 use Rattle.lists.proofs.WordLaws.{has-without-same, has-without-other}
 use Rattle.image.specs.declared.Content.{Content}
+use Rattle.image.specs.declared.Shape.{Shape}
 use Rattle.machine.specs.Record.{flushed, late}
-use Rattle.machine.specs.Line.{shapeOf, cachedAt, persistedAt, overAt, everyone, persist, putLine}
+use Rattle.machine.specs.Line.{shapeOf, lineCount, lineAt, cachedAt, persistedAt, overAt, everyone, persist, putLine}
 use Rattle.machine.specs.Flush.{flush, overAfter, fence}
 use Rattle.machine.specs.Start.{blankMachine}
 use Rattle.machine.specs.declared.Line.{Line}
@@ -25,9 +26,10 @@ use Rattle.machine.specs.declared.Event.{Event}
 use Rattle.machine.specs.Event.{deedOf}
 use Rattle.machine.specs.declared.Touch.{Touch}
 use Rattle.machine.specs.declared.Touch.the-variants.{Nothing as nothing, Store as aStore, Persist as aPersist, Flush as aFlush, Fence as aFence}
-use Rattle.machine.proofs.LineLaws.{LineIn, line-eq, put-same, put-other, put-ind}
+use Rattle.machine.proofs.LineLaws.{LineIn, line-in, line-eq, put-same, put-other, put-ind}
 use Rattle.machine.proofs.FlushLaws.{everyone-in}
 use Rattle.schedule.specs.Run.{Bench, goesOn, markAfter, fromAfter}
+use Rattle.lawful.specs.Added.{writeBack}
 use Rattle.moments.specs.Frame.{Persists, FencesTo, touched, Frame}
 use Rattle.moments.specs.Marked.{Waits, FlushesBy, atMoment}
 use Rattle.moments.proofs.Frame as frame
@@ -86,6 +88,15 @@ lengthened-self b k = record {
   over = λ u l hu hl x. k .marked .over u l hu hl x ∙ ap (leb (b .mark u)) (omega arith);
   kept = λ l hl. sym (left-old b 0 l (omega arith));
 }
+
+-- the sentence above in one term: a line that there is, written back at moment q
+pub left-larger : (b : Bench) → Known b → (q : ℕ) (l : Line) → LineIn (shapeOf (b .machine)) l → leftWith b (suc q) l ≡ atMoment b (max q (b .from l)) l
+left-larger b k q l h = by (decLt (b .from l) (suc q))
+  where
+    by : Dec (b .from l < suc q) → leftWith b (suc q) l ≡ atMoment b (max q (b .from l)) l
+    by (yes p) = left-new b (suc q) l p ∙ ap (λ i. atMoment b i l) (let z : suc q - 1 ≡ max q (b .from l) = omega arith in z)
+    by (no p) =
+        left-old b (suc q) l (omega arith) ∙ k .marked .kept l h (omega arith) ∙ ap (λ i. atMoment b i l) (let z : b .from l ≡ max q (b .from l) = omega arith in z)
 
 -- ---- the moments of a bench
 
@@ -338,3 +349,14 @@ lengthened-adds b kn r m′ g x hx = record {
         ∙ ap (λ i. leftWith b i l) (sym (put-same r l (length (b .past)))))
     by-kept l hl (no q) =
         frame.keeping-other m′ x (cachedAt m′ x) (everyone m′) l q ∙ g .kept l hl ∙ ap (λ i. leftWith b i l) (sym (put-other r x (length (b .past)) l q))
+
+-- the same of the line numbered i, as an event: r with that line written back now
+unfoldable pub writes : Bench → (Line → ℕ) → ℕ → Line → ℕ
+writes b r i = putLine r (lineAt (shapeOf (b .machine)) i) (length (b .past))
+
+pub lengthened-back : (b : Bench) → Known b → (r : Line → ℕ) (m′ : Machine) → Lengthened b r m′ → (i : ℕ) → i < lineCount (shapeOf (b .machine))
+    → Lengthened b (writes b r i) (next m′ (writeBack i))
+unfolding writes
+lengthened-back b kn r m′ g i h =
+    subst (λ (y : Shape). Lengthened b (writes b r i) (persist m′ (lineAt y i))) (sym (alike-size (b .machine) m′ (g .alike)))
+    (lengthened-adds b kn r m′ g (lineAt (shapeOf (b .machine)) i) (line-in (shapeOf (b .machine)) i h))

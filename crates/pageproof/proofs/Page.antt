@@ -34,7 +34,7 @@ use Rattle.pageproof.proofs.Ripe.{chosen}
 use Rattle.pageproof.proofs.Sow.{Sown, sown}
 
 -- the persisted copies as an image, where line j's is the content c has there
-image-is : (m : Machine) (z : Shape) (c : List Content) → shapeOf m ≡ z → ((j : ℕ) → j < lineCount z → persistedAt m (lineAt z j) ≡ contentAt c j) → imageLeft m ≡ imageOf z c
+pub image-is : (m : Machine) (z : Shape) (c : List Content) → shapeOf m ≡ z → ((j : ℕ) → j < lineCount z → persistedAt m (lineAt z j) ≡ contentAt c j) → imageLeft m ≡ imageOf z c
 unfolding imageOf
 image-is m z c size h =
     ap (λ (x : Shape). record { form = x .form; n = x .n; t = ownThreads x; heads = headsOf x (keptHead m); nodes = front (contentAt (m .kept)) (x .n) noContents }) size

@@ -28,8 +28,8 @@ use Rattle.pageproof.proofs.Events as events
 use Rattle.pageproof.proofs.Events.{Takes, touch, Crash, no-crash, onto}
 use Rattle.pageproof.proofs.Runs.{Accepts, run-first, run-rest, run-bench, run-cons, run-nothing, run-silent, run-taken}
 use Rattle.pageproof.proofs.Before.{Before, before-run}
-use Rattle.pageproof.proofs.Lengthened.{Lengthened, leftWith, lengthened-keeps}
-use Rattle.pageproof.proofs.Fewer.{writes, lengthened-back, lengthened-onto}
+use Rattle.pageproof.proofs.Lengthened.{Lengthened, leftWith, writes, lengthened-keeps, lengthened-back}
+use Rattle.pageproof.proofs.Fewer.{lengthened-onto}
 use Rattle.pageproof.proofs.Ripe as ripe
 use Rattle.pageproof.proofs.Ripe.{Due, Stands, Settled, settle, untouched, ended}
 

@@ -22,10 +22,10 @@ use Rattle.schedule.specs.Run.{Ran, Bench, ran}
 use Rattle.page.specs.Refusals.{tableIn, pageAnswer}
 use Rattle.endtable.specs.Tables.{Held, Tables}
 use Rattle.moments.proofs.Moments as moments
-use Rattle.runs.specs.Rows.{noRow}
+use Rattle.endtable.specs.Rows.{noRow}
 use Rattle.pages.specs.Lines.{lineAnswer, lineIn, blankRow, firstOf, sixteen}
 use Rattle.runs.specs.Paged.{PageTaken, PageIs}
-use Rattle.runs.specs.declared.rows.Row.{Row}
+use Rattle.endtable.specs.declared.row.Row.{Row}
 use Rattle.runs.specs.declared.running.Run.{Run}
 use Rattle.runs.proofs.RowLaws.{at-of, count-of}
 use Rattle.runs.proofs.PageLaws as pages

@@ -6,11 +6,11 @@ ghost use Rattle.answer.specs.Answers.{told};
 ghost use Rattle.answer.specs.declared.Answer.the-variants.{Taken as taken};
 ghost use Rattle.pages.specs.Lines.{lineAnswer, lineIn, blankRow, sixteen, firstOf};
 use answer::Answer;
+use endtable::row::Row;
 use image::Content;
 use image::Shape;
 use runs::paging::lines_of;
 use runs::paging::page_of;
-use runs::rows::Row;
 
 // How many contents a line has, and these, oldest first; those beyond are blank, and on a refusal all.
 pub struct LineContents {

@@ -10,13 +10,13 @@ use Rattle.lists.specs.Find.{pick, both, any}
 use Rattle.lists.proofs.BoolLaws.{both-true}
 use Rattle.lists.proofs.FindLaws as find
 use Rattle.image.specs.Form.{known, topOf, headLines}
-use Rattle.machine.specs.Record.{none, node, kept, headAt, keptHead, thread}
+use Rattle.machine.specs.Record.{none, node, kept, headAt, keptHead, thread, flushed, late, overHead, overNode}
 use Rattle.machine.specs.Stage as st
 use Rattle.machine.specs.Line.{shapeOf}
-use Rattle.machine.specs.Range.{rangesFit, isIndex, headFits, indexFits, formFits, inRange, isNode, isLink, readFits, nextFits, nodeFits, threadFits}
+use Rattle.machine.specs.Range.{rangesFit, isIndex, headFits, indexFits, formFits, isFlag, isSet, flushFits, flushesFit, inRange, isNode, isLink, readFits, nextFits, nodeFits, threadFits}
 use Rattle.machine.specs.declared.Machine.{Machine}
 use Rattle.range.specs.Parts.{sizesIn, badNode, badThread}
-use Rattle.range.specs.Facts.{Sizes, Link, NodeFacts, ThreadFacts, Narrow, Facts}
+use Rattle.range.specs.Facts.{Sizes, Link, NodeFacts, ThreadFacts, Narrow, Flushes, Facts}
 
 -- ---- each part
 
@@ -78,7 +78,7 @@ module _ (m : Machine) where
       let f = both-true _ _ (e .1) in
       let tail : st.uses s st.t ≡ true → v .tail < m .n = read-used (st.uses s st.t) (v .tail) (c .0) in
       record {
-        step = leb-true (v .step) (st.lastStep m) (a .0);
+        step = a .0;
         own-used = read-used (st.uses s st.own) (v .node) (b .0);
         tail-used = tail;
         head-used = read-used (st.uses s st.theHead) (v .head) (d .0);
@@ -119,11 +119,30 @@ module _ (m : Machine) where
         read = λ k p. index-of (thread m k .index) (not-false _ (find.any-clear (λ k. not (isIndex m (thread m k .index))) (m .t) k (not-true _ (c .1)) p));
       }
 
+  pub flushes-of : flushesFit m ≡ true → Flushes m
+  unfolding flushesFit flushFits
+  flushes-of h =
+      let hs₀ = not (any (λ k. not (isSet m (overHead m k))) (headLines (shapeOf m))) in
+      let ns₀ = not (any (λ i. not (isSet m (overNode m i))) (m .n)) in
+      let a = both-true (not (any (λ k. not (flushFits m k)) (m .t))) (both hs₀ ns₀) h in
+      let b = both-true hs₀ ns₀ (a .1) in
+      let each : (k : ℕ) → k < m .t → flushFits m k ≡ true = λ k p. not-false _ (find.any-clear (λ k. not (flushFits m k)) (m .t) k (not-true _ (a .0)) p) in
+      let rest : (k : ℕ) → k < m .t → both (isIndex m (flushed m k .index)) (isSet m (late m k)) ≡ true =
+      λ k p. both-true (isFlag (flushed m k .linked)) (both (isIndex m (flushed m k .index)) (isSet m (late m k))) (each k p) .1 in
+      record {
+        linked = λ k p. leb-true (flushed m k .linked) 1 (both-true (isFlag (flushed m k .linked)) (both (isIndex m (flushed m k .index)) (isSet m (late m k))) (each k p) .0);
+        index = λ k p. index-of (flushed m k .index) (both-true (isIndex m (flushed m k .index)) (isSet m (late m k)) (rest k p) .0);
+        late = λ k p. ltb-true (late m k) (2 ^ m .t) (both-true (isIndex m (flushed m k .index)) (isSet m (late m k)) (rest k p) .1);
+        over-head = λ k p. ltb-true (overHead m k) (2 ^ m .t) (not-false _ (find.any-clear (λ k. not (isSet m (overHead m k))) (headLines (shapeOf m)) k (not-true _ (b .0)) p));
+        over-node = λ i p. ltb-true (overNode m i) (2 ^ m .t) (not-false _ (find.any-clear (λ i. not (isSet m (overNode m i))) (m .n) i (not-true _ (b .1)) p));
+      }
+
   -- every range of a record that 18 lets through
   pub in-range : inRange m ≡ true → Facts m
   unfolding inRange rangesFit badNode badThread
   in-range h₀ =
-      let h = both-true (rangesFit m) (formFits m) h₀ .0 in
+      let h = both-true (rangesFit m) (both (formFits m) (flushesFit m)) h₀ .0 in
+      let i = both-true (formFits m) (flushesFit m) (both-true (rangesFit m) (both (formFits m) (flushesFit m)) h₀ .1) in
       let a = both-true _ _ h in
       let b = both-true _ _ (a .1) in
       let c = both-true _ _ (b .1) in
@@ -139,5 +158,6 @@ module _ (m : Machine) where
         free = ltb-true (m .free) (2 ^ m .n) (c .0);
         node = nodes;
         thread = λ k p. thread-facts k nodes (not-false _ (find.any-clear (badThread m) (m .t) k (not-true _ (d .1)) p));
-        indices = narrow-of (both-true (rangesFit m) (formFits m) h₀ .1);
+        indices = narrow-of (i .0);
+        flushes = flushes-of (i .1);
       }

@@ -1,15 +1,20 @@
--- The tests of indices against the width of the form, as the code takes them.
-use Prim.Native.Nat.{ℕ, _≤_, _<_}
-use mathlib.Core.Path.{_≡_, refl}
+-- The tests of indices against the width of the form, and of what is known of flushes, as the code takes them.
+use Prim.Native.Nat.{ℕ, _^_, _≤_, _<_}
+use mathlib.Core.Path.{_≡_, refl, sym, ap}
 use mathlib.Core.Bool.{Bool, true, false, not}
+use mathlib.Core.List.{List}
+use lib.ListN.{getD}
+use lib.Dec.{ltb}
 use borrow.Author.Tests.{lt-leb, le-leb}
 use Rattle.lists.specs.Find.{both, any}
 use Rattle.image.specs.Form.{known, topOf, headLines}
+use Rattle.image.specs.Layout.{noContent}
+use Rattle.image.specs.declared.Content.{Content}
 use Rattle.machine.specs.Record.{node, kept, headAt, keptHead, thread}
 use Rattle.machine.specs.Line.{shapeOf}
-use Rattle.machine.specs.Range.{headFits, indexFits, isIndex, formFits}
+use Rattle.machine.specs.Range.{headFits, indexFits, isIndex, formFits, flushFits, flushesFit}
 use Rattle.machine.specs.declared.Machine.{Machine}
-use Rattle.range.specs.Parts.{wideHead, wideNode, wideThread}
+use Rattle.range.specs.Parts.{wideHead, wideNode, wideThread, flushIn, badFlush, badSet}
 
 module _ (m : Machine) where
   pub node-wide : (i : ℕ) → topOf (m .form) < node m i .index → wideNode m i ≡ true
@@ -47,3 +52,18 @@ module _ (m : Machine) where
   pub form-by : formFits m ≡ both (known (m .form)) (both (not (any (wideHead m) (headLines (shapeOf m)))) (both (not (any (wideNode m) (m .n))) (not (any (wideThread m) (m .t)))))
   unfolding formFits wideHead wideNode wideThread
   form-by = refl
+
+-- ---- #104: what is known of flushes
+
+pub flush-tested : (x k : ℕ) (fs : List Content) (ws : List ℕ) (i : ℕ) (b : Bool) → b ≡ flushIn x k (getD fs i noContent) (getD ws i 0) → badFlush x k fs ws i ≡ not b
+unfolding badFlush
+flush-tested x k fs ws i b e = ap not (sym e)
+
+pub set-tested : (k : ℕ) (ws : List ℕ) (i : ℕ) (b : Bool) → b ≡ ltb (getD ws i 0) (2 ^ k) → badSet k ws i ≡ not b
+unfolding badSet
+set-tested k ws i b e = ap not (sym e)
+
+pub flushes-by : (m : Machine)
+    → flushesFit m ≡ both (not (any (badFlush (topOf (m .form)) (m .t) (m .flushed) (m .late)) (m .t))) (both (not (any (badSet (m .t) (m .«over_heads»)) (headLines (shapeOf m)))) (not (any (badSet (m .t) (m .over)) (m .n))))
+unfolding flushesFit flushFits badFlush badSet flushIn
+flushes-by m = refl

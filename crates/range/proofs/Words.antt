@@ -10,3 +10,7 @@ past n s h a b c d = omega arith
 -- and of two
 pub past2 : (n s : ℕ) → n ≤ s → (s ≡ n → ⊥) → (s ≡ n + 1 → ⊥) → n + 2 ≤ s
 past2 n s h a b = omega arith
+
+-- and of three
+pub past3 : (n s : ℕ) → n ≤ s → (s ≡ n → ⊥) → (s ≡ n + 1 → ⊥) → (s ≡ n + 2 → ⊥) → n + 3 ≤ s
+past3 n s h a b c = omega arith

@@ -4,8 +4,8 @@ use mathlib.Core.Path.{_≡_}
 use mathlib.Core.Bool.{true}
 use mathlib.Core.Logic.{_⊎_}
 use Rattle.image.specs.Form.{known, topOf, headLines}
-use Rattle.machine.specs.Record.{none, node, kept, headAt, keptHead, thread}
-use Rattle.machine.specs.Stage.{lastStep, own, t, theHead, theNext, uses, stage}
+use Rattle.machine.specs.Record.{none, node, kept, headAt, keptHead, thread, flushed, late, overHead, overNode}
+use Rattle.machine.specs.Stage.{isStep, own, t, theHead, theNext, uses, stage}
 use Rattle.machine.specs.Line.{shapeOf}
 use Rattle.machine.specs.declared.Machine.{Machine}
 
@@ -28,7 +28,7 @@ pub record NodeFacts (m : Machine) (i : ℕ) : Type 0 where
 
 -- what the thread's next step uses is a node, the rest is a node or none
 pub record ThreadFacts (m : Machine) (k : ℕ) : Type 0 where
-  pub step : thread m k .step ≤ lastStep m
+  pub step : isStep m (thread m k .step) ≡ true
   pub own-used : uses (stage m k) own ≡ true → thread m k .node < m .n
   pub tail-used : uses (stage m k) t ≡ true → thread m k .tail < m .n
   pub head-used : uses (stage m k) theHead ≡ true → thread m k .head < m .n
@@ -50,6 +50,14 @@ pub record Narrow (m : Machine) : Type 0 where
   pub kept-index : (i : ℕ) → i < m .n → kept m i .index ≤ topOf (m .form)
   pub read : (k : ℕ) → k < m .t → thread m k .index ≤ topOf (m .form)
 
+-- what each thread has flushed is a content, and every set is of threads
+pub record Flushes (m : Machine) : Type 0 where
+  pub linked : (k : ℕ) → k < m .t → flushed m k .linked ≤ 1
+  pub index : (k : ℕ) → k < m .t → flushed m k .index ≤ topOf (m .form)
+  pub late : (k : ℕ) → k < m .t → late m k < 2 ^ m .t
+  pub over-head : (k : ℕ) → k < headLines (shapeOf m) → overHead m k < 2 ^ m .t
+  pub over-node : (i : ℕ) → i < m .n → overNode m i < 2 ^ m .t
+
 pub record Facts (m : Machine) : Type 0 where
   pub sizes : Sizes (m .n) (m .t)
   pub head : m .head < m .n
@@ -59,3 +67,4 @@ pub record Facts (m : Machine) : Type 0 where
   pub node : (i : ℕ) → i < m .n → NodeFacts m i
   pub thread : (k : ℕ) → k < m .t → ThreadFacts m k
   pub indices : Narrow m
+  pub flushes : Flushes m

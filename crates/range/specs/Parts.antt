@@ -1,12 +1,16 @@
 -- The parts of the test for 18 and of the six counts, as the code takes them: over numbers and elements, and up to a place.
 use Prim.Native.Nat.{ℕ, _+_, _^_}
 use mathlib.Core.Bool.{Bool, true, false, not}
+use mathlib.Core.List.{List}
+use lib.ListN.{getD}
 use lib.Dec.{eqb, ltb, leb}
 use Rattle.lists.specs.Find.{pick, both, any, count}
+use Rattle.image.specs.Form.{perDesk}
+use Rattle.image.specs.Layout.{noContent}
 use Rattle.image.specs.declared.Content.{Content}
 use Rattle.image.specs.Refusals.{nodesFit, threadsFit}
 use Rattle.machine.specs.Record.{none, thread}
-use Rattle.machine.specs.Stage.{own, t, theHead, theNext, uses, stage, stageOf, enqueueOwns, dequeueOwns}
+use Rattle.machine.specs.Stage.{D7, S6, F6, number, own, t, theHead, theNext, uses, stage, stageOf, enqueueOwns, dequeueOwns}
 use Rattle.machine.specs.Range.{isFlag, nodeFits, threadFits, isIndex, headFits, indexFits}
 use Rattle.machine.specs.Place.{inQueue, isWaiting, isHeld, inEnqueue, inDequeue}
 use Rattle.machine.specs.declared.Machine.{Machine}
@@ -37,6 +41,10 @@ unfoldable pub nodeIn : ℕ → ℕ → Node → Content → Bool
 nodeIn n k v p =
     both (linkIn n (v .next)) (both (isFlag (v .linked)) (both (isFlag (p .linked)) (ltb (v .waits) (2 ^ k))))
 
+-- a step, by the form
+abbrev pub stepIn : ℕ → ℕ → Bool
+stepIn f s = pick (leb s (number D7)) true (pick (leb s (number S6)) (perDesk f) (leb s (number F6)))
+
 -- what a step number says: which of the four numbers the step uses, and which node its operation owns
 abbrev pub usedBy : ℕ → Used
 usedBy s = record {
@@ -63,6 +71,17 @@ wideNode m i = not (indexFits m i)
 
 unfoldable pub wideThread : Machine → ℕ → Bool
 wideThread m k = not (isIndex m (thread m k .index))
+
+-- #104: what a thread has flushed, with indices up to x and k threads; who has flushed since
+unfoldable pub flushIn : ℕ → ℕ → Content → ℕ → Bool
+flushIn x k c w = both (isFlag (c .linked)) (both (leb (c .index) x) (ltb w (2 ^ k)))
+
+unfoldable pub badFlush : ℕ → ℕ → List Content → List ℕ → ℕ → Bool
+badFlush x k fs ws i = not (flushIn x k (getD fs i noContent) (getD ws i 0))
+
+-- a set that is not one of k threads
+unfoldable pub badSet : ℕ → List ℕ → ℕ → Bool
+badSet k ws i = not (ltb (getD ws i 0) (2 ^ k))
 
 -- ---- the six places
 

@@ -4,17 +4,18 @@ ghost use mathlib.Core.Path.{_≡_};
 ghost use mathlib.Core.Bool.{Bool, true, false, not};
 ghost use Prim.Native.Nat.{_≤_, _<_, _^_};
 ghost use lib.Dec.{ltb};
-ghost use Rattle.lists.specs.Find.{pick, any};
-ghost use Rattle.image.specs.Form.{perDesk};
+ghost use Rattle.lists.specs.Find.{any};
 ghost use Rattle.machine.specs.Range.{rangesFit, inRange, threadFits};
-ghost use Rattle.range.specs.Parts.{badNode, badThread, sizesIn, endsIn, linkIn, readIn, nodeIn, usedBy};
+ghost use Rattle.range.specs.Parts.{badNode, badThread, sizesIn, endsIn, linkIn, readIn, nodeIn, stepIn, usedBy};
 use image::Content;
 use machine::Machine;
 use machine::Node;
 
+mod flushes;
 mod indices;
 pub mod place;
 
+use flushes::flushes_fit;
 use indices::form_fits;
 pub use place::places_of;
 
@@ -121,7 +122,7 @@ fn nodes_fit(m: Machine) -> bool
 }
 
 // The step number decides. The columns: the step uses the thread's own node, t, the head read, the next read;
-// its enqueue owns the node (before its A8), its dequeue owns the head read (between D4 and D7). 20 and 21 are S3 and S6.
+// its enqueue owns the node (before its A8), its dequeue owns the head read (between D4 and D7). 20 and 21 are S3 and S6, 22 to 24 F10, F3 and F6.
 pub fn used_by(s: u8) -> Used
     ensures { λ r. ⌜ r ≡ usedBy s ⌝ }
 {
@@ -148,7 +149,10 @@ pub fn used_by(s: u8) -> Used
         19 => uses(false, false, true, false, false, true),
         20 => uses(false, false, true, false, false, false),
         21 => uses(false, false, false, true, false, true),
-        22..=255 => uses(false, false, false, false, false, false),
+        22 => uses(true, false, false, false, false, false),
+        23 => uses(false, false, false, false, false, false),
+        24 => uses(false, false, false, false, false, true),
+        25..=255 => uses(false, false, false, false, false, false),
     }
 }
 
@@ -165,14 +169,17 @@ fn uses(own: bool, tail: bool, head: bool, next: bool, enqueue: bool, dequeue: b
     }
 }
 
-// The largest step number: S6 where each desk has an index line, else D7.
-fn last_step(form: u8) -> u8
-    ensures { λ r. ⌜ r ≡ pick (perDesk form) 21 19 ⌝ }
+// A machine of that form has a step of that number: S3 and S6 are those of each desk with an index line alone.
+fn is_step(form: u8, s: u8) -> bool
+    ensures { λ r. ⌜ r ≡ stepIn form s ⌝ }
 {
-    if form == 4 {
-        return Machine::S6;
+    if s <= Machine::D7 {
+        return true;
     }
-    Machine::D7
+    if s <= Machine::S6 {
+        return form == 4;
+    }
+    s <= Machine::F6
 }
 
 fn thread_fits(m: Machine, k: usize) -> bool
@@ -182,8 +189,7 @@ fn thread_fits(m: Machine, k: usize) -> bool
     let threads = m.threads;
     let v = threads[k];
     let u = used_by(v.step);
-    let last = last_step(m.form);
-    if last < v.step {
+    if !is_step(m.form, v.step) {
         return false;
     }
     if !read_fits(m.n, u.own, v.node) {
@@ -244,12 +250,15 @@ fn ranges_fit(m: Machine) -> bool
     threads_fit(m)
 }
 
-// 18: all of that, a form that is read, and every index within its width.
+// 18: all of that, a form that is read, every index within its width, and what is known of flushes.
 pub fn in_range(m: Machine) -> bool
     ensures { λ r. ⌜ r ≡ inRange m ⌝ }
 {
     if !ranges_fit(m) {
         return false;
     }
-    form_fits(m)
+    if !form_fits(m) {
+        return false;
+    }
+    flushes_fit(m)
 }

@@ -34,22 +34,25 @@ use Rattle.page.specs.Refusals.{tableIn}
 use Rattle.page.specs.Contents.{tableOf}
 use Rattle.moments.specs.Frame.{Even}
 use Rattle.endtable.specs.Opened.{openedTable, openedCounts}
-use Rattle.endtable.specs.Touched.{touchedRow}
-use Rattle.endtable.specs.declared.touched.Touched.{Touched}
-use Rattle.endtable.specs.Tables.{Tables, tableAfter, countsAfter}
+use Rattle.endtable.specs.Since.{noSince, sinceAfter}
+use Rattle.endtable.specs.declared.row.Row.{Row}
+use Rattle.endtable.specs.Tables.{Tables, overLine, tableAfter, countsAfter}
 use Rattle.endtable.specs.Benches.{Stands}
 use Rattle.endtable.proofs.Benches as benches
+use Rattle.endtable.proofs.TableLaws as tables
+use Rattle.endtable.proofs.SinceRows.{length-no-since}
+use Rattle.moments.proofs.Steps.{frame-event}
 use Rattle.moments.proofs.Moments as moments
 use Rattle.pageproof.proofs.Even as evens
 use Rattle.pageproof.proofs.Runs as runs
-use Rattle.runs.specs.Rows.{atsOf, countsOf, openedRows, rowsTouched, rowsAfter}
+use Rattle.runs.specs.Rows.{atsOf, countsOf, openedRows, rowsTouched, touchOf, leftAt, findsLater, rowsAfter, sinceNow}
 use Rattle.schedule.specs.Running.{Reached, benchTo, ranTo, openedRun, forwardRun}
 use Rattle.onward.proofs.Reached.{reached-opened, reached-next, shape-at, forward-is, event-lies}
 use Rattle.schedule.specs.declared.Running.{Running}
 use Rattle.runs.specs.Going.{Going, RunIs}
-use Rattle.runs.specs.declared.rows.Row.{Row}
 use Rattle.runs.specs.declared.running.Run.{Run}
 use Rattle.runs.proofs.RowLaws as rowlaws
+use Rattle.runs.proofs.OverLaws.{over-is}
 
 -- what the code's tables ask of a machine
 abbrev pub Small : Machine → Type 0
@@ -93,31 +96,39 @@ module _ (s : List ℕ) where
 
   opened-ats : (m : Machine) → Small m → atsOf (openedRows m) ≡ openedTable m (lineCount (shapeOf m))
   unfolding openedRows
-  opened-ats m h = rowlaws.rows-ats (openedTable m (lineCount (shapeOf m))) (openedCounts m (lineCount (shapeOf m))) (benches.stands-begin m (h .0) (h .1) .tables .tall)
+  opened-ats m h = rowlaws.rows-ats (openedTable m (lineCount (shapeOf m))) (openedCounts m (lineCount (shapeOf m))) (tables.tables-begin m (h .0) (h .1) .tall)
 
   opened-counts : (m : Machine) → Small m → countsOf (openedRows m) ≡ openedCounts m (lineCount (shapeOf m))
   unfolding openedRows
-  opened-counts m h = rowlaws.rows-counts (openedTable m (lineCount (shapeOf m))) (openedCounts m (lineCount (shapeOf m))) (benches.stands-begin m (h .0) (h .1) .tables .long)
+  opened-counts m h = rowlaws.rows-counts (openedTable m (lineCount (shapeOf m))) (openedCounts m (lineCount (shapeOf m))) (tables.tables-begin m (h .0) (h .1) .long)
 
   -- what stands for a table and counts stands for rows that have them
-  stands-rows : (b : Bench) (m : Machine) (t : List (List Content)) (cs : List ℕ) (rows : List Row)
-      → atsOf rows ≡ t → countsOf rows ≡ cs → Stands b m t cs → Stands b m (atsOf rows) (countsOf rows)
-  stands-rows b m t cs rows p q h = record { machine = h .machine; small = h .small; few = h .few; timed = h .timed; tables = along p q (h .tables) }
+  stands-rows : (b : Bench) (m : Machine) (t : List (List Content)) (cs : List ℕ) (since rows : List Row)
+      → atsOf rows ≡ t → countsOf rows ≡ cs → Stands b m t cs since → Stands b m (atsOf rows) (countsOf rows) since
+  stands-rows b m t cs since rows p q h = record {
+    machine = h .machine;
+    small = h .small;
+    few = h .few;
+    known = h .known;
+    tables = along p q (h .tables);
+    sinces = h .sinces;
+  }
 
-  pub going-start : (m : Machine) → m ≡ b₀ .machine → Small m → Going s 0 m (openedRows m)
+  pub going-start : scheduleIn s .t ≤ 8 → scheduleIn s .image .n ≤ 64 → (since : List Row) → length since ≡ 8 → (m : Machine) → m ≡ b₀ .machine → Going s 0 m (openedRows m) since
   unfolding benchAt tab ran eventsIn
-  going-start m e h = record {
-    stands = subst (λ (x : Machine). Stands (begins x) m (atsOf (openedRows m)) (countsOf (openedRows m))) e
-        (stands-rows (begins m) m _ _ (openedRows m) (opened-ats m h) (opened-counts m h) (benches.stands-begin m (h .0) (h .1)));
+  going-start t n since l m e = subst (λ (x : Machine). Going s 0 x (openedRows x) since) (sym e) (record {
+    stands =
+        let st = benches.stands-begin (scheduleIn s .image) (scheduleIn s .t) t n since l in
+        stands-rows b₀ (b₀ .machine) _ _ since (openedRows (b₀ .machine)) (opened-ats (b₀ .machine) (st .small, st .few)) (opened-counts (b₀ .machine) (st .small, st .few)) st;
     taken = ap (λ (r : Ran). accepted (r .answer)) (nothing-yet b₀);
     come = ap (λ (r : Ran). r .bench) (nothing-yet b₀);
     answer = refl;
     bench = refl;
-  }
+  })
 
   -- ---- on the way
 
-  module _ (i : ℕ) (m : Machine) (rows : List Row) (g : Going s i m rows) where
+  module _ (i : ℕ) (m : Machine) (rows since : List Row) (g : Going s i m rows since) where
     abbrev b : Bench
     b = benchTo s i
 
@@ -166,26 +177,37 @@ module _ (s : List ℕ) where
       even′ : Even (b .machine)
       even′ = subst (λ (x : Machine). Even x) now even
 
-      own : Stands b (b .machine) (atsOf rows) (countsOf rows)
-      own = benches.stands-now b m (atsOf rows) (countsOf rows) (g .stands)
+      own : Stands b (b .machine) (atsOf rows) (countsOf rows) since
+      own = benches.stands-now b m (atsOf rows) (countsOf rows) since (g .stands)
 
-      abbrev w′ : Touched
-      w′ = touchedRow (shapeOf m′) (eventAt i (b .machine) e .touch)
+      abbrev o : Acted
+      o = eventAt i (b .machine) e
 
-      stands′ : Stands (forward i b e) m′ (atsOf (rowsAfter rows e (eventAt i (b .machine) e))) (countsOf (rowsAfter rows e (eventAt i (b .machine) e)))
-      unfolding rowsAfter
+      abbrev late : Bool
+      late = findsLater (b .machine) o
+
+      -- a fence finds something later where its thread is over the line
+      late-is : (deedOf (e .kind) ≡ crashes → ⊥) → late ≡ overLine (b .machine) (touchOf o)
+      late-is ne = over-is (b .machine) (shapeOf m′) (frame-event i (b .machine) e taken′ ne .shape) (touchOf o .line) (touchOf o .thread)
+
+      stands′ : Stands (forward i b e) m′ (atsOf (rowsAfter rows since (b .machine) e o)) (countsOf (rowsAfter rows since (b .machine) e o)) (sinceNow since e o)
+      unfolding rowsAfter sinceNow
       stands′ = by (eqb (e .kind) 5) refl
         where
           by : (x : Bool) → eqb (e .kind) 5 ≡ x
-              → Stands (forward i b e) m′ (atsOf (pick x (openedRows m′) (rowsTouched rows w′ m′))) (countsOf (pick x (openedRows m′) (rowsTouched rows w′ m′)))
+              → Stands (forward i b e) m′ (atsOf (pick x (openedRows m′) (rowsTouched rows since late (touchOf o) (leftAt o))))
+              (countsOf (pick x (openedRows m′) (rowsTouched rows since late (touchOf o) (leftAt o))))
+              (pick x since (sinceAfter (shapeOf m′) (m′ .threads) since (touchOf o) (leftAt o)))
           by true w =
-              let st = benches.stands-crash i b e (atsOf rows) (countsOf rows) own taken′ (five (e .kind) w) in
+              let st = benches.stands-crash i b e (atsOf rows) (countsOf rows) since own taken′ (five (e .kind) w) in
               let small : Small m′ = subst Small (sym (st .machine)) (st .small, st .few) in
-              stands-rows (forward i b e) m′ _ _ (openedRows m′) (opened-ats m′ small) (opened-counts m′ small) st
+              stands-rows (forward i b e) m′ _ _ since (openedRows m′) (opened-ats m′ small) (opened-counts m′ small) st
           by false w =
-              let st = benches.stands-event i b e (atsOf rows) (countsOf rows) own taken′ even′ (not-five (e .kind) w) in
-              stands-rows (forward i b e) m′ _ _ (rowsTouched rows w′ m′)
-              (rowlaws.touched-ats rows w′ m′) (rowlaws.touched-counts rows w′ m′) st
+              let ne = not-five (e .kind) w in
+              stands-rows (forward i b e) m′ _ _ (sinceAfter (shapeOf m′) (m′ .threads) since (touchOf o) (leftAt o)) (rowsTouched rows since late (touchOf o) (leftAt o))
+              (rowlaws.touched-ats rows since late (touchOf o) (leftAt o) ∙ ap (λ (x : Bool). tableAfter (atsOf rows) (countsOf rows) since x (touchOf o) (leftAt o)) (late-is ne))
+              (rowlaws.touched-counts rows since late (touchOf o) (leftAt o) ∙ ap (λ (x : Bool). countsAfter (atsOf rows) (countsOf rows) since x (touchOf o) (leftAt o)) (late-is ne))
+              (benches.stands-event i b e (atsOf rows) (countsOf rows) since own taken′ even′ ne)
 
       on : run i b (drop i (eventsIn s)) ≡ andBefore (eventAt i (b .machine) e .answer) (run (suc i) (benchTo s (suc i)) (drop (suc i) (eventsIn s)))
       unfolding eventsIn
@@ -198,11 +220,11 @@ module _ (s : List ℕ) where
           ∙ ap (runs.andAfter (ranTo s i))
           (ap₂ (λ (q : ℕ) (x : Bench). run q x (f i ∷ [])) (let z : 0 + length (tab f i) ≡ i = omega (arith, tabs.length-tab f i) in z) (g .come) ∙ one-more i b e taken′)
 
-      pub going-next : Going s (i + 1) (eventAt i m e .machine) (rowsAfter rows e (eventAt i m e))
+      pub going-next : Going s (i + 1) (eventAt i m e .machine) (rowsAfter rows since m e (eventAt i m e)) (sinceNow since e (eventAt i m e))
       unfolding benchAt
       going-next =
           rw (add-one)
-          (subst (λ (x : Machine). Going s (suc i) (eventAt i x e .machine) (rowsAfter rows e (eventAt i x e))) (sym now)
+          (subst (λ (x : Machine). Going s (suc i) (eventAt i x e .machine) (rowsAfter rows since x e (eventAt i x e)) (sinceNow since e (eventAt i x e))) (sym now)
           (record {
             stands = stands′;
             taken = ap (λ (r : Ran). accepted (r .answer)) more;
@@ -229,26 +251,32 @@ refused-of true e = taken-or false refl e
 abbrev pub actedOf : Running → Acted
 actedOf r = record { answer = r .answer; machine = r .machine; touch = r .touch }
 
+-- both kinds of rows behind the event that g goes forward by
+abbrev pub Next : List Row → List Row → Running → Running → List Row → List Row → Type 0
+Next rows since g r x y = rowlaws.Behind rows since (g .machine) (r .event) (actedOf r) x y
+
 -- the code's tests of one event: t says whether it was taken
-module _ (s : List ℕ) (g : Running) (rows : List Row) (w : Going s (g .place) (g .machine) rows) (c : g .count ≡ countIn s) (below : g .place < g .count)
+module _ (s : List ℕ) (g : Running) (rows since : List Row) (w : Going s (g .place) (g .machine) rows since) (c : g .count ≡ countIn s) (below : g .place < g .count)
     (r : Running) (is : r ≡ forwardRun s g) (t : Bool) (told : t ≡ accepted (r .answer)) where
   lt : g .place < countIn s
   lt = omega (arith, c)
 
-  pub going-on : not t ≡ false → (x : List Row) → x ≡ rowsAfter rows (r .event) (actedOf r) → Going s (r .place) (r .machine) x
+  pub going-on : not t ≡ false → (x y : List Row) → Next rows since g r x y → Going s (r .place) (r .machine) x y
   going-on h =
-      let n = going-next s (g .place) (g .machine) rows w lt (subst (λ (z : Running). accepted (z .answer) ≡ true) is (sym told ∙ taken-of t h)) (going-even s (g .place) (g .machine) rows w) in
-      subst (λ (z : Running). (x : List Row) → x ≡ rowsAfter rows (z .event) (actedOf z) → Going s (z .place) (z .machine) x) (sym is)
-      (λ x q. subst (Going s (g .place + 1) (eventAt (g .place) (g .machine) (eventIn s (g .place)) .machine)) (sym q) n)
+      let n = going-next s (g .place) (g .machine) rows since w lt (subst (λ (z : Running). accepted (z .answer) ≡ true) is (sym told ∙ taken-of t h))
+      (going-even s (g .place) (g .machine) rows since w) in
+      subst (λ (z : Running). (x y : List Row) → Next rows since g z x y → Going s (z .place) (z .machine) x y) (sym is)
+      (λ x y q. subst (λ x. Going s (g .place + 1) (eventAt (g .place) (g .machine) (eventIn s (g .place)) .machine) x y) (sym (q .0))
+      (subst (Going s (g .place + 1) (eventAt (g .place) (g .machine) (eventIn s (g .place)) .machine) _) (sym (q .1)) n))
 
   pub going-on-small : not t ≡ false → Small (r .machine)
-  going-on-small h = going-small s (r .place) (r .machine) (rowsAfter rows (r .event) (actedOf r)) (going-on h (rowsAfter rows (r .event) (actedOf r)) refl)
+  going-on-small h = going-small s (r .place) (r .machine) _ _ (going-on h (rowsAfter rows since (g .machine) (r .event) (actedOf r)) (sinceNow since (r .event) (actedOf r)) (refl, refl))
 
   pub going-stop : not t ≡ true → (m : Machine) → RunIs s (record { answer = r .answer; machine = m; rows = rows })
   going-stop h m =
       let a = sym told ∙ refused-of t h in
       record {
-        answer = ap (λ (x : Running). x .answer) is ∙ going-refused s (g .place) (g .machine) rows w lt (subst (λ (x : Running). accepted (x .answer) ≡ false) is a);
+        answer = ap (λ (x : Running). x .answer) is ∙ going-refused s (g .place) (g .machine) rows since w lt (subst (λ (x : Running). accepted (x .answer) ≡ false) is a);
         machine = λ y. taken-or (accepted (r .answer)) a y;
         small = λ y. taken-or (accepted (r .answer)) a y;
         tables = λ y. taken-or (accepted (r .answer)) a y;
@@ -256,43 +284,44 @@ module _ (s : List ℕ) (g : Running) (rows : List Row) (w : Going s (g .place) 
 
 -- ---- the beginning
 
--- T of the machine is that of the image where each desk has a line
-begun-small : (s : List ℕ) → accepted (scheduleAnswer s) ≡ true → Small (opened (scheduleIn s) .machine)
-unfolding startWith scheduleIn imageIn shapeIn
-begun-small s a =
+-- T and N as acceptance has them
+begun-few : (s : List ℕ) → accepted (scheduleAnswer s) ≡ true → (scheduleIn s .t ≤ 8) × (scheduleIn s .image .n ≤ 64)
+unfolding scheduleIn imageIn shapeIn
+begun-few s a =
     let t = codec.schedule-taken s a in
-    (nodes-range (nodesIn s) (t .part .nodes) .1, lines-few (scheduleShape s) (threads-range (threadsIn s) (t .threads) .1))
+    (threads-range (threadsIn s) (t .threads) .1, nodes-range (nodesIn s) (t .part .nodes) .1)
 
 module _ (s : List ℕ) (a : accepted (scheduleAnswer s) ≡ true) (g : Running) (is : g ≡ openedRun s) where
-  pub start-small : Small (g .machine)
-  start-small = subst (λ (x : Running). Small (x .machine)) (sym is) (begun-small s a)
+  pub going-begun : (rows since : List Row) → rows ≡ openedRows (g .machine) → length since ≡ 8 → Going s (g .place) (g .machine) rows since
+  going-begun rows since e l =
+      subst (λ x. Going s (g .place) (g .machine) x since) (sym e)
+      (subst (λ (i : ℕ). Going s i (g .machine) (openedRows (g .machine)) since) (ap (λ (x : Running). x .place) (sym is))
+      (going-start s (begun-few s a .0) (begun-few s a .1) since l (g .machine) (ap (λ (x : Running). x .machine) is)))
 
-  pub going-begun : (rows : List Row) → rows ≡ openedRows (g .machine) → Going s (g .place) (g .machine) rows
-  going-begun rows e =
-      subst (Going s (g .place) (g .machine)) (sym e)
-      (subst (λ (i : ℕ). Going s i (g .machine) (openedRows (g .machine))) (ap (λ (x : Running). x .place) (sym is))
-      (going-start s (g .machine) (ap (λ (x : Running). x .machine) is) start-small))
+  pub start-small : Small (g .machine)
+  start-small = going-small s (g .place) (g .machine) _ _ (going-begun (openedRows (g .machine)) noSince refl length-no-since)
 
 -- ---- the loop
 
 -- what holds of a run on its way and its rows
-abbrev pub Under : List ℕ → Running → List Row → Type 0
-Under s g rows = (g .place ≤ g .count) × Going s (g .place) (g .machine) rows × Reached s g × (g .t ≡ threadsIn s)
+abbrev pub Under : List ℕ → Running → List Row → List Row → Type 0
+Under s g rows since = (g .place ≤ g .count) × Going s (g .place) (g .machine) rows since × Reached s g × (g .t ≡ threadsIn s)
 
-pub under-begun : (s : List ℕ) → accepted (scheduleAnswer s) ≡ true → (g : Running) → g ≡ openedRun s → (rows : List Row) → rows ≡ openedRows (g .machine) → Under s g rows
-under-begun s a g is rows e = (
+pub under-begun : (s : List ℕ) → accepted (scheduleAnswer s) ≡ true → (g : Running) → g ≡ openedRun s → (rows since : List Row) → rows ≡ openedRows (g .machine) → length since ≡ 8
+    → Under s g rows since
+under-begun s a g is rows since e l = (
   subst (λ (x : Running). x .place ≤ x .count) (sym is) (omega arith),
-  going-begun s a g is rows e,
+  going-begun s a g is rows since e l,
   subst (Reached s) (sym is) (reached-opened s a),
   ap (λ (x : Running). x .t) is,
 )
 
-pub under-next : (s : List ℕ) (g : Running) (rows : List Row) → Under s g rows → g .place < g .count → (r : Running) → r ≡ forwardRun s g
-    → (t : Bool) → t ≡ accepted (r .answer) → not t ≡ false → (x : List Row) → x ≡ rowsAfter rows (r .event) (actedOf r) → Under s r x
-under-next s g rows u below r is t told h x q =
+pub under-next : (s : List ℕ) (g : Running) (rows since : List Row) → Under s g rows since → g .place < g .count → (r : Running) → r ≡ forwardRun s g
+    → (t : Bool) → t ≡ accepted (r .answer) → not t ≡ false → (x y : List Row) → Next rows since g r x y → Under s r x y
+under-next s g rows since u below r is t told h x y q =
     let a = subst (λ (z : Running). accepted (z .answer) ≡ true) is (sym told ∙ taken-of t h) in (
       subst (λ (z : Running). z .place ≤ z .count) (sym is) (omega arith),
-      going-on s g rows (u .1) (u .2 .count) below r is t told h x q,
+      going-on s g rows since (u .1) (u .2 .count) below r is t told h x y q,
       subst (Reached s) (sym is) (reached-next s g (u .2) a),
       ap (λ (x : Running). x .t) is ∙ u .3,
     )
@@ -312,12 +341,14 @@ runAt g i m = record {
   touch = g .touch;
 }
 
-pub under-start : (s : List ℕ) → accepted (scheduleAnswer s) ≡ true → (g : Running) → g ≡ openedRun s → (rows : List Row) → rows ≡ openedRows (g .machine) → Under s (runAt g 0 (g .machine)) rows
-under-start s a g is rows =
-    subst (λ (z : Running). rows ≡ openedRows (z .machine) → Under s (runAt z 0 (z .machine)) rows) (sym is) (under-begun s a (openedRun s) refl rows)
+pub under-start : (s : List ℕ) → accepted (scheduleAnswer s) ≡ true → (g : Running) → g ≡ openedRun s → (rows since : List Row) → rows ≡ openedRows (g .machine) → since ≡ noSince
+    → Under s (runAt g 0 (g .machine)) rows since
+under-start s a g is rows since e l =
+    subst (λ (z : Running). rows ≡ openedRows (z .machine) → Under s (runAt z 0 (z .machine)) rows since) (sym is)
+    (λ e. under-begun s a (openedRun s) refl rows since e (ap length l ∙ length-no-since)) e
 
 -- an event e on the machine m, with the outcome o: t says whether it was taken
-module _ (s : List ℕ) (g : Running) (i : ℕ) (m : Machine) (rows : List Row) (u : Under s (runAt g i m) rows) (below : i < g .count) where
+module _ (s : List ℕ) (g : Running) (i : ℕ) (m : Machine) (rows since : List Row) (u : Under s (runAt g i m) rows since) (below : i < g .count) where
   abbrev z : Shape
   z = record { form = g .form; n = g .n; t = g .t }
 
@@ -338,14 +369,14 @@ module _ (s : List ℕ) (g : Running) (i : ℕ) (m : Machine) (rows : List Row) 
     is : further ≡ forwardRun s (runAt g i m)
     is = forward-is s (runAt g i m) z shape-now e o is-e is-o
 
-    pub further-under : not t ≡ false → (x : List Row) → x ≡ rowsAfter rows e o → Under s (runAt g (i + 1) (o .machine)) x
-    further-under h x q =
-        let v = under-next s (runAt g i m) rows u below further is t told h x q in
+    pub further-under : not t ≡ false → (x y : List Row) → rowlaws.Behind rows since m e o x y → Under s (runAt g (i + 1) (o .machine)) x y
+    further-under h x y q =
+        let v = under-next s (runAt g i m) rows since u below further is t told h x y q in
         let r = v .2 in
         (v .0, v .1, record { schedule = r .schedule; nodes = r .nodes; form = r .form; count = r .count; machine = r .machine; taken = r .taken; come = r .come }, v .3)
 
     pub further-small : not t ≡ false → Small (o .machine)
-    further-small = going-on-small s (runAt g i m) rows (u .1) (u .2 .count) below further is t told
+    further-small = going-on-small s (runAt g i m) rows since (u .1) (u .2 .count) below further is t told
 
     pub further-stop : not t ≡ true → (x : Machine) → RunIs s (record { answer = o .answer; machine = x; rows = rows })
-    further-stop = going-stop s (runAt g i m) rows (u .1) (u .2 .count) below further is t told
+    further-stop = going-stop s (runAt g i m) rows since (u .1) (u .2 .count) below further is t told

@@ -1,3 +1,4 @@
 pub mod RowLaws
+pub mod OverLaws
 pub mod GoingLaws
 pub mod PageLaws

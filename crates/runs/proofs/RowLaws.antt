@@ -13,18 +13,20 @@ use Rattle.lists.specs.Find.{pick}
 use Rattle.lists.specs.Tab.{tab, front}
 use Rattle.lists.proofs.TabLaws as tabs
 use Rattle.image.specs.declared.Content.{Content}
+use Rattle.image.specs.declared.Shape.{Shape}
 use Rattle.machine.specs.Line.{shapeOf, lineAt, cachedAt}
 use Rattle.machine.specs.declared.Machine.{Machine}
 use Rattle.machine.specs.declared.Event.{Event}
-use Rattle.endtable.specs.Rows.{rowAfter, countAfter}
+use Rattle.endtable.specs.Rows.{rowAfter, countAfter, noRow, joinedRow, rowOf}
+use Rattle.endtable.specs.Since.{sinceJoined, sinceAfter}
 use Rattle.endtable.specs.Tables.{tableAfter, countsAfter}
 use Rattle.machine.specs.declared.Acted.{Acted}
 use Rattle.endtable.specs.Opened.{blankTable, blankCounts}
 use Rattle.endtable.specs.Touched.{touchedRow}
 use Rattle.endtable.specs.declared.touched.Touched.{Touched}
 use Rattle.endtable.proofs.Openings as openings
-use Rattle.runs.specs.Rows.{atsOf, countsOf, noRow, noRows, rowAt, rowsOf, openedRows, rowJoined, rowsTouched, rowsAfter, atsTo, countsTo}
-use Rattle.runs.specs.declared.rows.Row.{Row}
+use Rattle.runs.specs.Rows.{atsOf, countsOf, noRows, rowAt, rowsOf, openedRows, overIn, rowsTouched, rowsAfter, sinceNow, atsTo, countsTo}
+use Rattle.endtable.specs.declared.row.Row.{Row}
 
 map-set : {A B : Type 0} (f : A → B) (l : List A) (i : ℕ) (v : A) → map f (set l i v) ≡ set (map f l) i (f v)
 map-set f [] i v = refl
@@ -59,49 +61,106 @@ count-of rows l = List·getD-map (λ (r : Row). r .count) rows l noRow
 
 -- ---- after an event
 
-pub touched-ats : (rows : List Row) (w : Touched) (next : Machine)
-    → atsOf (rowsTouched rows w next) ≡ tableAfter (atsOf rows) (countsOf rows) w (cachedAt next (lineAt (shapeOf next) (w .line)))
-unfolding tableAfter rowJoined
-touched-ats rows w next = by (ltb (w .line) 72)
+pub touched-ats : (rows since : List Row) (late : Bool) (w : Touched) (c : Content)
+    → atsOf (rowsTouched rows since late w c) ≡ tableAfter (atsOf rows) (countsOf rows) since late w c
+unfolding tableAfter joinedRow
+touched-ats rows since late w c = by (ltb (w .line) 72) (ltb (w .thread) 8) (w .persisted) late
   where
-    by : (b : Bool) → atsOf (pick b (set rows (w .line) (rowJoined (getD rows (w .line) noRow) (cachedAt next (lineAt (shapeOf next) (w .line))) (w .persisted))) rows)
-        ≡ pick b (set (atsOf rows) (w .line) (rowAfter (getD (atsOf rows) (w .line) []) (getD (countsOf rows) (w .line) 0) (cachedAt next (lineAt (shapeOf next) (w .line))) (w .persisted))) (atsOf rows)
-    by true =
-        map-set (λ (r : Row). r .at) rows (w .line) (rowJoined (getD rows (w .line) noRow) (cachedAt next (lineAt (shapeOf next) (w .line))) (w .persisted))
-        ∙ ap₂ (λ (a : List Content) (n : ℕ). set (atsOf rows) (w .line) (rowAfter a n (cachedAt next (lineAt (shapeOf next) (w .line))) (w .persisted))) (sym (at-of rows (w .line))) (sym (count-of rows (w .line)))
-    by false = refl
+    by : (x y p o : Bool)
+        → atsOf (pick x (pick y (pick p rows (pick o rows (set rows (w .line) (getD since (w .thread) noRow)))) (set rows (w .line) (joinedRow (getD rows (w .line) noRow) c (w .persisted)))) rows)
+        ≡ pick x (pick y (pick p (atsOf rows) (pick o (atsOf rows) (set (atsOf rows) (w .line) (getD since (w .thread) noRow .at))))
+        (set (atsOf rows) (w .line) (rowAfter (getD (atsOf rows) (w .line) []) (getD (countsOf rows) (w .line) 0) c (w .persisted)))) (atsOf rows)
+    by false y p o = refl
+    by true false p o =
+        map-set (λ (r : Row). r .at) rows (w .line) (joinedRow (getD rows (w .line) noRow) c (w .persisted))
+        ∙ ap₂ (λ (a : List Content) (n : ℕ). set (atsOf rows) (w .line) (rowAfter a n c (w .persisted))) (sym (at-of rows (w .line))) (sym (count-of rows (w .line)))
+    by true true true o = refl
+    by true true false true = refl
+    by true true false false = map-set (λ (r : Row). r .at) rows (w .line) (getD since (w .thread) noRow)
 
-pub touched-counts : (rows : List Row) (w : Touched) (next : Machine)
-    → countsOf (rowsTouched rows w next) ≡ countsAfter (atsOf rows) (countsOf rows) w (cachedAt next (lineAt (shapeOf next) (w .line)))
-unfolding countsAfter rowJoined
-touched-counts rows w next = by (ltb (w .line) 72)
+pub touched-counts : (rows since : List Row) (late : Bool) (w : Touched) (c : Content)
+    → countsOf (rowsTouched rows since late w c) ≡ countsAfter (atsOf rows) (countsOf rows) since late w c
+unfolding countsAfter joinedRow
+touched-counts rows since late w c = by (ltb (w .line) 72) (ltb (w .thread) 8) (w .persisted) late
   where
-    by : (b : Bool) → countsOf (pick b (set rows (w .line) (rowJoined (getD rows (w .line) noRow) (cachedAt next (lineAt (shapeOf next) (w .line))) (w .persisted))) rows)
-        ≡ pick b (set (countsOf rows) (w .line) (countAfter (getD (atsOf rows) (w .line) []) (getD (countsOf rows) (w .line) 0) (cachedAt next (lineAt (shapeOf next) (w .line))) (w .persisted))) (countsOf rows)
-    by true =
-        map-set (λ (r : Row). r .count) rows (w .line) (rowJoined (getD rows (w .line) noRow) (cachedAt next (lineAt (shapeOf next) (w .line))) (w .persisted))
-        ∙ ap₂ (λ (a : List Content) (n : ℕ). set (countsOf rows) (w .line) (countAfter a n (cachedAt next (lineAt (shapeOf next) (w .line))) (w .persisted))) (sym (at-of rows (w .line))) (sym (count-of rows (w .line)))
-    by false = refl
+    by : (x y p o : Bool)
+        → countsOf (pick x (pick y (pick p rows (pick o rows (set rows (w .line) (getD since (w .thread) noRow)))) (set rows (w .line) (joinedRow (getD rows (w .line) noRow) c (w .persisted)))) rows)
+        ≡ pick x (pick y (pick p (countsOf rows) (pick o (countsOf rows) (set (countsOf rows) (w .line) (getD since (w .thread) noRow .count))))
+        (set (countsOf rows) (w .line) (countAfter (getD (atsOf rows) (w .line) []) (getD (countsOf rows) (w .line) 0) c (w .persisted)))) (countsOf rows)
+    by false y p o = refl
+    by true false p o =
+        map-set (λ (r : Row). r .count) rows (w .line) (joinedRow (getD rows (w .line) noRow) c (w .persisted))
+        ∙ ap₂ (λ (a : List Content) (n : ℕ). set (countsOf rows) (w .line) (countAfter a n c (w .persisted))) (sym (at-of rows (w .line))) (sym (count-of rows (w .line)))
+    by true true true o = refl
+    by true true false true = refl
+    by true true false false = map-set (λ (r : Row). r .count) rows (w .line) (getD since (w .thread) noRow)
 
--- the three ways of the loop over the events: a crash, no line touched, a line touched
-module _ (rows : List Row) (e : Event) (o : Acted) where
-  pub after-crash : e .kind ≡ 5 → openedRows (o .machine) ≡ rowsAfter rows e o
-  unfolding rowsAfter
-  after-crash h = rw (eq-eqb (e .kind) 5 h)
+-- the ways of the loop over the events: both kinds of rows behind one
+abbrev pub Behind : List Row → List Row → Machine → Event → Acted → List Row → List Row → Type 0
+Behind rows since m e o x y = (x ≡ rowsAfter rows since m e o) × (y ≡ sinceNow since e o)
+
+module _ (rows since : List Row) (m : Machine) (e : Event) (o : Acted) where
+  pub after-crash : e .kind ≡ 5 → Behind rows since m e o (openedRows (o .machine)) since
+  unfolding rowsAfter sinceNow
+  after-crash h = (rw (eq-eqb (e .kind) 5 h), rw (eq-eqb (e .kind) 5 h))
 
   module _ (other : e .kind ≡ 5 → ⊥) (w : Touched) (is : w ≡ touchedRow (shapeOf (o .machine)) (o .touch)) where
-    touched-is : rowsTouched rows w (o .machine) ≡ rowsAfter rows e o
+    abbrev c : Content
+    c = cachedAt (o .machine) (lineAt (shapeOf (o .machine)) (w .line))
+
+    abbrev z : Shape
+    z = shapeOf (o .machine)
+
+    rows-are : rowsTouched rows since (overIn (m .«over_heads») (m .over) z (w .line) (w .thread)) w c ≡ rowsAfter rows since m e o
     unfolding rowsAfter
-    touched-is = rw (ne-eqb (e .kind) 5 other, ← is)
+    rows-are = rw (ne-eqb (e .kind) 5 other, ← is)
 
-    pub after-none : 72 ≤ w .line → rows ≡ rowsAfter rows e o
-    after-none h = sym (rw (le-ltb (w .line) 72 h)) ∙ touched-is
+    since-is : sinceAfter z (o .machine .threads) since w c ≡ sinceNow since e o
+    unfolding sinceNow
+    since-is = rw (ne-eqb (e .kind) 5 other, ← is)
 
-    pub after-touch : w .line < 72 → (c : Content) → c ≡ cachedAt (o .machine) (lineAt (shapeOf (o .machine)) (w .line)) → (r : Row)
-        → r ≡ rowJoined (getD rows (w .line) noRow) c (w .persisted) → set rows (w .line) r ≡ rowsAfter rows e o
-    after-touch h c cached r joined =
-        ap (set rows (w .line)) (joined ∙ ap (λ (x : Content). rowJoined (getD rows (w .line) noRow) x (w .persisted)) cached)
-        ∙ sym (rw (lt-ltb (w .line) 72 h)) ∙ touched-is
+    -- no line was touched
+    pub after-none : 72 ≤ w .line → Behind rows since m e o rows since
+    unfolding sinceAfter
+    after-none h = (sym (rw (le-ltb (w .line) 72 h)) ∙ rows-are, sym (rw (le-ltb (w .line) 72 h)) ∙ since-is)
+
+    module _ (h : w .line < 72) where
+      -- a line was stored to, or written back
+      module _ (t : 8 ≤ w .thread) (x : Content) (cached : x ≡ c) (r : Row) (joined : r ≡ joinedRow (getD rows (w .line) noRow) x (w .persisted)) where
+        rows-put : set rows (w .line) r ≡ rowsAfter rows since m e o
+        rows-put =
+            ap (set rows (w .line)) (joined ∙ ap (λ (x : Content). joinedRow (getD rows (w .line) noRow) x (w .persisted)) cached)
+            ∙ sym (rw (lt-ltb (w .line) 72 h, le-ltb (w .thread) 8 t)) ∙ rows-are
+
+        pub after-back : w .persisted ≡ true → Behind rows since m e o (set rows (w .line) r) since
+        unfolding sinceAfter
+        after-back p = (rows-put, sym (rw (lt-ltb (w .line) 72 h, le-ltb (w .thread) 8 t, p)) ∙ since-is)
+
+        pub after-store : w .persisted ≡ false → (y : List Row) → y ≡ sinceJoined z (o .machine .threads) since (w .line) x 8 → Behind rows since m e o (set rows (w .line) r) y
+        unfolding sinceAfter
+        after-store p y q =
+            (rows-put, q ∙ ap (λ (x : Content). sinceJoined z (o .machine .threads) since (w .line) x 8) cached ∙ sym (rw (lt-ltb (w .line) 72 h, le-ltb (w .thread) 8 t, p)) ∙ since-is)
+
+      -- a thread flushed it
+      module _ (t : w .thread < 8) where
+        pub after-flush : w .persisted ≡ true → (x : Content) → x ≡ c → (r : Row) → r ≡ rowOf x → Behind rows since m e o rows (set since (w .thread) r)
+        unfolding sinceAfter
+        after-flush p x cached r q = (
+          sym (rw (lt-ltb (w .line) 72 h, lt-ltb (w .thread) 8 t, p)) ∙ rows-are,
+          ap (set since (w .thread)) (q ∙ ap rowOf cached) ∙ sym (rw (lt-ltb (w .line) 72 h, lt-ltb (w .thread) 8 t, p)) ∙ since-is,
+        )
+
+        -- or fenced it
+        module _ (p : w .persisted ≡ false) (b : Bool) (told : b ≡ overIn (m .«over_heads») (m .over) z (w .line) (w .thread)) where
+          since-stays : since ≡ sinceNow since e o
+          unfolding sinceAfter
+          since-stays = sym (rw (lt-ltb (w .line) 72 h, lt-ltb (w .thread) 8 t, p)) ∙ since-is
+
+          pub after-later : b ≡ true → Behind rows since m e o rows since
+          after-later q = (sym (rw (lt-ltb (w .line) 72 h, lt-ltb (w .thread) 8 t, p, ← told, q)) ∙ rows-are, since-stays)
+
+          pub after-fence : b ≡ false → Behind rows since m e o (set rows (w .line) (getD since (w .thread) noRow)) since
+          after-fence q = (sym (rw (lt-ltb (w .line) 72 h, lt-ltb (w .thread) 8 t, p, ← told, q)) ∙ rows-are, since-stays)
 
 -- the loop that packs them
 pub rows-next : (t : List (List Content)) (cs : List ℕ) (i : ℕ) → i < 72 → set (rowsOf t cs i) i (rowAt t cs i) ≡ rowsOf t cs (i + 1)

@@ -15,12 +15,12 @@ use Rattle.page.specs.Refusals.{tableIn}
 use Rattle.endtable.specs.Tables.{Tables}
 use Rattle.endtable.specs.Benches.{Stands}
 use Rattle.runs.specs.Rows.{atsOf, countsOf}
-use Rattle.runs.specs.declared.rows.Row.{Row}
+use Rattle.endtable.specs.declared.row.Row.{Row}
 use Rattle.runs.specs.declared.running.Run.{Run}
 
--- the first i events were taken, and left the machine m and the rows; what is left of the run gives what the whole run gives
-pub record Going (s : List ℕ) (i : ℕ) (m : Machine) (rows : List Row) : Type 0 where
-  pub stands : Stands (benchTo s i) m (atsOf rows) (countsOf rows)
+-- the first i events were taken, and left the machine m, the rows of the lines and those since the flushes; what is left of the run gives what the whole run gives
+pub record Going (s : List ℕ) (i : ℕ) (m : Machine) (rows since : List Row) : Type 0 where
+  pub stands : Stands (benchTo s i) m (atsOf rows) (countsOf rows) since
   pub taken : accepted (ranTo s i .answer) ≡ true
   pub come : ranTo s i .bench ≡ benchTo s i
   pub answer : ran s .answer ≡ run i (benchTo s i) (drop i (eventsIn s)) .answer

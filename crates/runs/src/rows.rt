@@ -3,18 +3,12 @@ ghost use mathlib.Core.Path.{_≡_};
 ghost use Prim.Native.Nat.{_≤_, _<_};
 ghost use Rattle.image.specs.Form.{headLines};
 ghost use Rattle.machine.specs.Line.{shapeOf};
-ghost use Rattle.runs.specs.Rows.{rowsOf, openedRows, rowJoined, noRows};
+ghost use Rattle.runs.specs.Rows.{rowsOf, openedRows, noRows};
 use endtable::opened::opened_counts;
 use endtable::opened::opened_table;
-use endtable::row::count_after;
-use endtable::row::row_after;
+use endtable::row::Row;
 use image::Content;
 use machine::Machine;
-
-pub struct Row {
-    pub count: u8,
-    pub at: [Content; 16],
-}
 
 // Behind a contract, so that no goal has the rows written out.
 pub fn no_rows() -> [Row; 72]
@@ -55,14 +49,4 @@ pub fn opened_rows(m: Machine) -> [Row; 72]
     ensures { λ r. ⌜ r ≡ openedRows m ⌝ }
 {
     rows_of(opened_table(m), opened_counts(m))
-}
-
-// A line that was stored to, or persisted, and now has the cached content c.
-pub fn row_joined(row: Row, c: Content, persisted: bool) -> Row
-    ensures { λ r. ⌜ r ≡ rowJoined row c persisted ⌝ }
-{
-    let old = row.at;
-    let count = count_after(old, row.count, c, persisted);
-    let at = row_after(old, row.count, c, persisted);
-    Row { count, at }
 }

@@ -4,11 +4,16 @@ ghost use mathlib.Core.Bool.{true};
 ghost use Rattle.answer.specs.Answers.{accepted};
 ghost use Rattle.schedule.specs.Layout.{scheduleIn, scheduleAnswer};
 ghost use Rattle.runs.specs.Going.{RunIs};
-use crate::rows::Row;
+use crate::over::is_over;
 use crate::rows::opened_rows;
-use crate::rows::row_joined;
 use answer::Answer;
 use endtable::opened::cached_at;
+use endtable::row::Row;
+use endtable::row::row_joined;
+use endtable::row::row_of;
+use endtable::since::first_waiting;
+use endtable::since::no_since;
+use endtable::since::since_joined;
 use endtable::touched::touched_row;
 use image::Shape;
 use machine::Machine;
@@ -21,7 +26,8 @@ pub struct Run {
     pub rows: [Row; 72],
 }
 
-// Up to the first event that is refused.
+// Up to the first event that is refused. Beside the rows of the lines those since the flushes are kept, which nobody asks for in the end. The sets of the
+// threads over each line are copied before an event, and not the machine: a fence asks for those before it.
 pub fn run_events(s: &[u8], d: Schedule) -> Run
     requires { ⌜ (accepted (scheduleAnswer (now s)) ≡ true) × (d ≡ scheduleIn (now s)) ⌝ }
     ensures { λ r. ⌜ RunIs (now (s .entry)) r ⌝ }
@@ -29,6 +35,7 @@ pub fn run_events(s: &[u8], d: Schedule) -> Run
     let g = opened(s, d);
     let mut m = g.machine;
     let mut rows = opened_rows(m);
+    let mut since = no_since();
     let mut i = 0;
     while i < g.count {
         let e = codec::event_at(
@@ -40,6 +47,8 @@ pub fn run_events(s: &[u8], d: Schedule) -> Run
             },
             i,
         );
+        let heads = m.over_heads;
+        let nodes = m.over;
         let out = events::act(i as u32, m, e);
         let next = out.machine;
         m = next;
@@ -64,11 +73,33 @@ pub fn run_events(s: &[u8], d: Schedule) -> Run
         };
         let w = touched_row(z, touch);
         let l = w.line;
+        let k = w.thread;
         if 72 <= l {
             continue;
         }
-        let row = rows[l];
-        rows[l] = row_joined(row, cached_at(m, l), w.persisted);
+        if 8 <= k {
+            let c = cached_at(m, l);
+            let row = rows[l];
+            rows[l] = row_joined(row, c, w.persisted);
+            if w.persisted {
+                continue;
+            }
+            let threads = m.threads;
+            if 8 <= first_waiting(z, threads, l) {
+                continue;
+            }
+            since = since_joined(z, threads, since, l, c);
+            continue;
+        }
+        if w.persisted {
+            since[k] = row_of(cached_at(m, l));
+            continue;
+        }
+        if is_over(heads, nodes, z, l, k as u32) {
+            continue;
+        }
+        let row = since[k];
+        rows[l] = row;
     }
     Run {
         answer: Answer::Taken,

@@ -1,9 +1,9 @@
 // The rows of a run as a table of lines by sixteen contents, and its counts.
 ghost use mathlib.Core.Path.{_≡_};
 ghost use Rattle.runs.specs.Rows.{atsOf, countsOf};
-use crate::rows::Row;
 use endtable::opened::blank_counts;
 use endtable::opened::blank_table;
+use endtable::row::Row;
 use image::Content;
 
 pub fn table_of(rows: [Row; 72]) -> [[Content; 16]; 72]

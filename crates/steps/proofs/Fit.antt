@@ -9,13 +9,13 @@ use borrow.Author.Tests.{ltb-true, leb-true, eqb-true, eqb-false, not-true, lt-l
 use Rattle.lists.specs.Find.{pick, both, any}
 use Rattle.lists.proofs.BoolLaws.{both-true, both-of}
 use Rattle.lists.proofs.FindLaws.{any-hit}
-use Rattle.image.specs.Form.{known, topOf, headLines}
+use Rattle.image.specs.Form.{known, topOf, headLines, perDesk}
 use Rattle.image.specs.Refusals.{nodesFit, threadsFit}
 use Rattle.image.specs.declared.Content.{Content}
 use Rattle.machine.specs.Record.{none, node, kept, headAt, keptHead, thread}
-use Rattle.machine.specs.Stage.{lastStep, own, t, theHead, theNext, uses, stage}
+use Rattle.machine.specs.Stage.{isStep, own, t, theHead, theNext, uses, stage}
 use Rattle.machine.specs.Line.{shapeOf}
-use Rattle.machine.specs.Range.{isNode, isLink, isFlag, sizesFit, endsFit, freeFits, nodeFits, readFits, nextFits, threadFits, rangesFit, isIndex, headFits, indexFits, formFits, inRange}
+use Rattle.machine.specs.Range.{isNode, isLink, isFlag, sizesFit, endsFit, freeFits, nodeFits, readFits, nextFits, threadFits, rangesFit, isIndex, headFits, indexFits, formFits, flushesFit, inRange}
 use Rattle.machine.specs.declared.Machine.{Machine}
 use Rattle.machine.specs.declared.Node.{Node}
 use Rattle.machine.specs.declared.Thread.{Thread}
@@ -86,9 +86,13 @@ pub record NodeFit (n t : ℕ) (v : Node) (c : Content) : Type 0 where
   pub kept-flag : c .linked ≤ 1
   pub waits-in : v .waits < 2 ^ t
 
--- of n nodes, and steps up to s
-pub record ThreadFit (n s : ℕ) (v : Thread) : Type 0 where
-  pub step-in : v .step ≤ s
+-- a step of a machine, by whether it has a head line for each thread
+abbrev pub stepFits : Bool → ℕ → Bool
+stepFits d s = pick (leb s 19) true (pick (leb s 21) d (leb s 24))
+
+-- of n nodes
+pub record ThreadFit (n : ℕ) (d : Bool) (v : Thread) : Type 0 where
+  pub step-in : stepFits d (v .step) ≡ true
   pub node-link : Link n (v .node)
   pub tail-link : Link n (v .tail)
   pub head-link : Link n (v .head)
@@ -108,7 +112,7 @@ pub record SizeFit (n t head tail free last : ℕ) : Type 0 where
 pub record Fit (m : Machine) : Type 0 where
   pub sizes : SizeFit (m .n) (m .t) (m .head) (m .tail) (m .free) (m .last)
   pub nodes : (i : ℕ) → i < m .n → NodeFit (m .n) (m .t) (node m i) (kept m i)
-  pub threads : (k : ℕ) → k < m .t → ThreadFit (m .n) (lastStep m) (thread m k)
+  pub threads : (k : ℕ) → k < m .t → ThreadFit (m .n) (perDesk (m .form)) (thread m k)
 
 -- what thread k's next step uses
 pub record Used (m : Machine) (k : ℕ) : Type 0 where
@@ -175,7 +179,7 @@ of-node m i p =
 
 -- of a thread, with the tests that 18 adds
 record Tests (m : Machine) (k : ℕ) : Type 0 where
-  step-in : leb (thread m k .step) (lastStep m) ≡ true
+  step-in : isStep m (thread m k .step) ≡ true
   own-read : readFits m (uses (stage m k) own) (thread m k .node) ≡ true
   t-read : readFits m (uses (stage m k) t) (thread m k .tail) ≡ true
   head-read : readFits m (uses (stage m k) theHead) (thread m k .head) ≡ true
@@ -194,7 +198,7 @@ tests-of m k h =
     let d = readFits m (uses s theNext) (v .next) in
     let e = isLink m (v .held) in
     let f = nextFits m (eqb (v .step) 12) (v .tail) in
-    let p0 = both-true (leb (v .step) (lastStep m)) (both a (both b (both c (both d (both e f))))) h in
+    let p0 = both-true (isStep m (v .step)) (both a (both b (both c (both d (both e f))))) h in
     let p1 = both-true a (both b (both c (both d (both e f)))) (p0 .1) in
     let p2 = both-true b (both c (both d (both e f))) (p1 .1) in
     let p3 = both-true c (both d (both e f)) (p2 .1) in
@@ -210,9 +214,9 @@ tests-of m k h =
       t-next = p5 .1;
     }
 
-thread-tests : (m : Machine) (k : ℕ) → Tests m k → ThreadFit (m .n) (lastStep m) (thread m k)
+thread-tests : (m : Machine) (k : ℕ) → Tests m k → ThreadFit (m .n) (perDesk (m .form)) (thread m k)
 thread-tests m k h = record {
-  step-in = leb-true (thread m k .step) (lastStep m) (h .step-in);
+  step-in = h .step-in;
   node-link = read-link m (uses (stage m k) own) (thread m k .node) (h .own-read);
   tail-link = read-link m (uses (stage m k) t) (thread m k .tail) (h .t-read);
   head-link = read-link m (uses (stage m k) theHead) (thread m k .head) (h .head-read);
@@ -229,7 +233,7 @@ used-tests m k h = record {
   t-next = λ e. next-some m (eqb (thread m k .step) 12) (thread m k .tail) (h .t-next) (eq-eqb (thread m k .step) 12 e);
 }
 
-thread-of : (m : Machine) (k : ℕ) → threadNumbers m k ≡ true → ThreadFit (m .n) (lastStep m) (thread m k)
+thread-of : (m : Machine) (k : ℕ) → threadNumbers m k ≡ true → ThreadFit (m .n) (perDesk (m .form)) (thread m k)
 unfolding threadNumbers
 thread-of m k h =
     let v = thread m k in
@@ -238,10 +242,10 @@ thread-of m k h =
     let c = isLink m (v .head) in
     let d = isLink m (v .next) in
     let e = isLink m (v .held) in
-    let p0 = both-true (leb (v .step) (lastStep m)) (both a (both b (both c (both d e)))) h in
+    let p0 = both-true (isStep m (v .step)) (both a (both b (both c (both d e)))) h in
     let p = parts5 a b c d e (p0 .1) in
     record {
-      step-in = leb-true (v .step) (lastStep m) (p0 .0);
+      step-in = p0 .0;
       node-link = link-of (m .n) (v .node) (p .0);
       tail-link = link-of (m .n) (v .tail) (p .1);
       head-link = link-of (m .n) (v .head) (p .2);
@@ -249,7 +253,7 @@ thread-of m k h =
       held-link = link-of (m .n) (v .held) (p .4);
     }
 
-of-thread : (m : Machine) (k : ℕ) → ThreadFit (m .n) (lastStep m) (thread m k) → threadNumbers m k ≡ true
+of-thread : (m : Machine) (k : ℕ) → ThreadFit (m .n) (perDesk (m .form)) (thread m k) → threadNumbers m k ≡ true
 unfolding threadNumbers
 of-thread m k p =
     let v = thread m k in
@@ -259,7 +263,7 @@ of-thread m k p =
     let c = isLink m (v .head) in
     let d = isLink m (v .next) in
     let e = isLink m (v .held) in
-    both-of (leb (v .step) (lastStep m)) (both a (both b (both c (both d e)))) (le-leb (v .step) (lastStep m) (p .step-in))
+    both-of (isStep m (v .step)) (both a (both b (both c (both d e)))) (p .step-in)
     (both-of a (both b (both c (both d e))) (of-link n (v .node) (p .node-link))
     (both-of b (both c (both d e)) (of-link n (v .tail) (p .tail-link))
     (both-of c (both d e) (of-link n (v .head) (p .head-link))
@@ -291,7 +295,7 @@ narrow-of m h =
       thread = λ k l. leb-true (thread m k .index) top (all-of (λ k. isIndex m (thread m k .index)) (m .t) (c .1) k l);
     }
 
-of-narrow : (m : Machine) → Narrow m → formFits m ≡ true
+pub of-narrow : (m : Machine) → Narrow m → formFits m ≡ true
 unfolding formFits headFits indexFits
 of-narrow m w =
     let top = topOf (m .form) in
@@ -318,7 +322,7 @@ record Whole (m : Machine) (f : Machine → ℕ → Bool) : Type 0 where
 range-of : (m : Machine) → inRange m ≡ true → Whole m threadFits
 unfolding inRange rangesFit
 range-of m h₀ =
-    let h = both-true (rangesFit m) (formFits m) h₀ .0 in
+    let h = both-true (rangesFit m) (both (formFits m) (flushesFit m)) h₀ .0 in
     let ns = not (any (λ i. not (nodeFits m i)) (m .n)) in
     let ts = not (any (λ k. not (threadFits m k)) (m .t)) in
     let p = parts5 (sizesFit m) (endsFit m) (freeFits m) ns ts h in
@@ -341,14 +345,14 @@ fit-range m h =
 pub fit-numbers : (m : Machine) → numbersFit m ≡ true → Fit m
 unfolding numbersFit
 fit-numbers m h =
-    let w = numbers-of m (both-true (rangesKept m) (formFits m) h .0) in
+    let w = numbers-of m (both-true (rangesKept m) (both (formFits m) (flushesFit m)) h .0) in
     record { sizes = sizes-of m (w .sizes) (w .ends) (w .free); nodes = λ i l. node-of m i (w .nodes i l); threads = λ k l. thread-of m k (w .threads k l) }
 
 pub used-range : (m : Machine) (k : ℕ) → inRange m ≡ true → k < m .t → Used m k
 used-range m k h l = used-tests m k (tests-of m k (range-of m h .threads k l))
 
 -- and back
-ranges-kept : (m : Machine) → Fit m → rangesKept m ≡ true
+pub ranges-kept : (m : Machine) → Fit m → rangesKept m ≡ true
 unfolding rangesKept
 ranges-kept m f =
     let s = f .sizes in
@@ -363,20 +367,13 @@ ranges-kept m f =
     (both-of (freeFits m) (both ns ts) (lt-ltb (m .free) (2 ^ m .n) (s .free-in))
     (both-of ns ts (of-all (nodeFits m) (m .n) (λ i l. of-node m i (f .nodes i l))) (of-all (threadNumbers m) (m .t) (λ k l. of-thread m k (f .threads k l))))))
 
-pub numbers-fit : (m : Machine) → Fit m → Narrow m → numbersFit m ≡ true
-unfolding numbersFit
-numbers-fit m f w = both-of (rangesKept m) (formFits m) (ranges-kept m f) (of-narrow m w)
-
 pub narrow-range : (m : Machine) → inRange m ≡ true → Narrow m
 unfolding inRange
-narrow-range m h = narrow-of m (both-true (rangesFit m) (formFits m) h .1)
+narrow-range m h = narrow-of m (both-true (formFits m) (flushesFit m) (both-true (rangesFit m) (both (formFits m) (flushesFit m)) h .1) .0)
 
 pub narrow-numbers : (m : Machine) → numbersFit m ≡ true → Narrow m
 unfolding numbersFit
-narrow-numbers m h = narrow-of m (both-true (rangesKept m) (formFits m) h .1)
-
-pub range-numbers : (m : Machine) → inRange m ≡ true → numbersFit m ≡ true
-range-numbers m h = numbers-fit m (fit-range m h) (narrow-range m h)
+narrow-numbers m h = narrow-of m (both-true (formFits m) (flushesFit m) (both-true (rangesKept m) (both (formFits m) (flushesFit m)) h .1) .0)
 
 -- what one step needs follows from 18's test
 pub ready : (m : Machine) (k : ℕ) → inRange m ≡ true → k < m .t → Ready m k

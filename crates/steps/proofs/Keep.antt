@@ -15,7 +15,7 @@ use Rattle.lists.proofs.WordLaws as words
 use Rattle.image.specs.Layout.{noContent}
 use Rattle.image.specs.declared.Content.{Content}
 use Rattle.machine.specs.Record.{zeroNode, zeroThread, node, kept, withWaits, idleThread, putTail, putFree, putLast, putKeptHead, putHead, putHeadNode, putHeadAt, putNode, putKept, putThread}
-use Rattle.machine.specs.Stage.{lastStep}
+use Rattle.image.specs.Form.{perDesk}
 use Rattle.machine.specs.Retire.{nextFree, handOut, lastWait, releasedAt, released, left, others, retired}
 use Rattle.machine.specs.declared.Machine.{Machine}
 use Rattle.machine.specs.declared.Node.{Node}
@@ -37,11 +37,11 @@ none-link d = absurd (d refl)
 
 -- ---- one thing of the record replaced
 
-pub fit-thread : (m : Machine) (k : ℕ) (v : Thread) → Fit m → ThreadFit (m .n) (lastStep m) v → Fit (putThread m k v)
+pub fit-thread : (m : Machine) (k : ℕ) (v : Thread) → Fit m → ThreadFit (m .n) (perDesk (m .form)) v → Fit (putThread m k v)
 fit-thread m k v f p = record {
   sizes = f .sizes;
   nodes = f .nodes;
-  threads = λ j l. set-ind (ThreadFit (m .n) (lastStep m)) (m .threads) k j v zeroThread p (f .threads j l);
+  threads = λ j l. set-ind (ThreadFit (m .n) (perDesk (m .form))) (m .threads) k j v zeroThread p (f .threads j l);
 }
 
 pub fit-node : (m : Machine) (i : ℕ) (v : Node) → Fit m → Link (m .n) (v .next) → v .linked ≤ 1 → v .waits < 2 ^ m .t → Fit (putNode m i v)
@@ -53,8 +53,8 @@ fit-node m i v f a b w = record {
   threads = f .threads;
 }
 
-pub fit-kept : (m : Machine) (i : ℕ) (c : Content) → Fit m → c .linked ≤ 1 → Fit (putKept m i c)
-fit-kept m i c f b = record {
+pub fit-kept : (m : Machine) (i : ℕ) (c : Content) (w : ℕ) → Fit m → c .linked ≤ 1 → Fit (putKept m i c w)
+fit-kept m i c w f b = record {
   sizes = f .sizes;
   nodes = λ j l.
       set-ind (λ x. NodeFit (m .n) (m .t) (node m j) x) (m .kept) i j c noContent
@@ -62,8 +62,8 @@ fit-kept m i c f b = record {
   threads = f .threads;
 }
 
-pub fit-kept-head : (m : Machine) (k x : ℕ) → Fit m → Fit (putKeptHead m k x)
-fit-kept-head m k x f = record { sizes = f .sizes; nodes = f .nodes; threads = f .threads }
+pub fit-kept-head : (m : Machine) (k x w : ℕ) → Fit m → Fit (putKeptHead m k x w)
+fit-kept-head m k x w f = record { sizes = f .sizes; nodes = f .nodes; threads = f .threads }
 
 pub fit-tail : (m : Machine) (x : ℕ) → Fit m → x < m .n → Fit (putTail m x)
 fit-tail m x f h =
@@ -151,9 +151,9 @@ unfolding released
 fit-released m k zero f h = f
 fit-released m k (suc c) f h = fit-released-at (released m k c) k c (fit-released m k c f (omega arith)) (omega (arith, released-n m k c))
 
-idle-fit : {n s : ℕ} (x : ℕ) → Link n x → ThreadFit n s (idleThread x)
+idle-fit : {n : ℕ} {d : Bool} (x : ℕ) → Link n x → ThreadFit n d (idleThread x)
 idle-fit x h = record {
-  step-in = omega arith;
+  step-in = refl;
   node-link = none-link;
   tail-link = none-link;
   head-link = none-link;

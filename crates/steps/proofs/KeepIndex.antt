@@ -11,9 +11,10 @@ use Rattle.image.specs.Form.{topOf, headLines, perDesk}
 use Rattle.image.specs.Layout.{noContent}
 use Rattle.image.specs.declared.Content.{Content}
 use Rattle.image.proofs.HeadLaws.{lines-desks, lines-some}
-use Rattle.machine.specs.Record.{none, zeroNode, zeroThread, node, thread, kept, headAt, keptHead, contentOf, ownNode, readTail, readNext, readItem, readHead, atStep, withItem, withNext, withLinked, withIndex, withWaits, idleThread, putNode, putTail, putFree, putHead, putHeadNode, putHeadAt, putKept, putKeptHead, putThread}
-use Rattle.machine.specs.Stage.{Stage, noStep, A1, A2, A3, A4, A5, A6, A7, A8, A9, A10, A11, A12, D1, D2, D3, D4, D5, D6, D7, S3, S6, stage}
-use Rattle.machine.specs.Line.{shapeOf, ownHead, persist}
+use Rattle.machine.specs.Record.{none, zeroNode, zeroThread, node, thread, kept, headAt, keptHead, flushed, contentOf, ownNode, readTail, readNext, readItem, readHead, atStep, withItem, withNext, withLinked, withIndex, withWaits, idleThread, putNode, putTail, putFree, putHead, putHeadNode, putHeadAt, putKept, putKeptHead, putThread}
+use Rattle.machine.specs.Stage.{Stage, noStep, A1, A2, A3, A4, A5, A6, A7, A8, A9, A10, A11, A12, D1, D2, D3, D4, D5, D6, D7, S3, S6, F10, F3, F6, stage}
+use Rattle.machine.specs.Line.{shapeOf, ownHead, keeping, everyone, persist}
+use Rattle.machine.specs.Flush.{flush, overAfter, fence}
 use Rattle.machine.specs.declared.Line.{Line}
 use Rattle.machine.specs.declared.Line.the-variants.{OfHead as ofHead, OfNode as ofNode}
 use Rattle.answer.specs.declared.Answer.the-variants.{Full, WornOut}
@@ -25,6 +26,7 @@ use Rattle.machine.specs.declared.Thread.{Thread}
 use Rattle.machine.proofs.LineLaws.{LineIn}
 use Rattle.steps.proofs.Fit.{Narrow, Used}
 use Rattle.steps.proofs.Keep.{set-ind}
+use Rattle.steps.proofs.Flushes.{Flushes, fence-ind, fence-in}
 
 -- ---- one thing of the record replaced
 
@@ -44,16 +46,16 @@ narrow-node m i v w h = record {
   thread = w .thread;
 }
 
-narrow-kept : (m : Machine) (i : ℕ) (c : Content) → Narrow m → c .index ≤ topOf (m .form) → Narrow (putKept m i c)
-narrow-kept m i c w h = record {
+narrow-kept : (m : Machine) (i : ℕ) (c : Content) (o : ℕ) → Narrow m → c .index ≤ topOf (m .form) → Narrow (putKept m i c o)
+narrow-kept m i c o w h = record {
   form = w .form;
   head = w .head;
   node = λ j l. (w .node j l .0, set-ind (λ (x : Content). x .index ≤ topOf (m .form)) (m .kept) i j c noContent h (w .node j l .1));
   thread = w .thread;
 }
 
-narrow-kept-head : (m : Machine) (i x : ℕ) → Narrow m → x ≤ topOf (m .form) → Narrow (putKeptHead m i x)
-narrow-kept-head m i x w h = record {
+narrow-kept-head : (m : Machine) (i x o : ℕ) → Narrow m → x ≤ topOf (m .form) → Narrow (putKeptHead m i x o)
+narrow-kept-head m i x o w h = record {
   form = w .form;
   head = λ k l. (w .head k l .0, set-ind (λ (y : ℕ). y ≤ topOf (m .form)) (m .«kept_heads») i k x 0 h (w .head k l .1));
   node = w .node;
@@ -108,6 +110,19 @@ narrow-retired m k x w l =
     let v = withWaits (node m x) (others m k) in
     narrow-free (putNode m x v) (pick (eqb (others m k) 0) (with (m .free) x) (m .free)) (narrow-node m x v w (w .node x l .0))
 
+-- ---- a copy put in place, a flush, a fence
+
+narrow-keeping : (m : Machine) (l : Line) (c : Content) (o : ℕ) → Narrow m → c .index ≤ topOf (m .form) → Narrow (keeping m l c o)
+narrow-keeping m (ofHead k) c o w h = narrow-kept-head m k (c .index) o w h
+narrow-keeping m (ofNode i) c o w h = narrow-kept m i c o w h
+
+narrow-flush : (m : Machine) (k : ℕ) (l : Line) → Narrow m → Narrow (flush m k l)
+narrow-flush m k (ofHead h) w = record { form = w .form; head = w .head; node = w .node; thread = w .thread }
+narrow-flush m k (ofNode i) w = record { form = w .form; head = w .head; node = w .node; thread = w .thread }
+
+narrow-fence : (m : Machine) (k : ℕ) (l : Line) → Narrow m → flushed m k .index ≤ topOf (m .form) → Narrow (fence m k l)
+narrow-fence m k l w h = fence-ind Narrow m k l w (narrow-keeping m l (flushed m k) (overAfter m k l) w h)
+
 -- ---- the head line that a thread persists is one that there is
 
 pub own-in : (m : Machine) (k : ℕ) → k < m .t → ownHead m k < headLines (shapeOf m)
@@ -124,13 +139,13 @@ pick-index false x top h = h
 
 -- ---- each step
 
-module _ (m : Machine) (k : ℕ) (w : Narrow m) (u : Used m k) (l : k < m .t) (held-in : (thread m k .held ≡ none → ⊥) → thread m k .held < m .n) where
+module _ (m : Machine) (k : ℕ) (w : Narrow m) (g : Flushes m) (u : Used m k) (l₀ : k < m .t) (held-in : (thread m k .held ≡ none → ⊥) → thread m k .held < m .n) where
   -- thread k goes on with what it has read of Head
   goes : (m′ : Machine) → Narrow m′ → (v : Thread) → v .index ≤ topOf (m′ .form) → (s : ℕ) → Narrow (putThread m′ k (atStep v s))
   goes m′ w′ v h s = narrow-thread m′ k (atStep v s) w′ h
 
   mine : thread m k .index ≤ topOf (m .form)
-  mine = w .thread k l
+  mine = w .thread k l₀
 
   stores : (i : ℕ) (v : Node) (s : ℕ) → v .index ≤ topOf (m .form) → Narrow (putThread (putNode m i v) k (atStep (thread m k) s))
   stores i v s h = goes (putNode m i v) (narrow-node m i v w h) (thread m k) mine s
@@ -138,8 +153,16 @@ module _ (m : Machine) (k : ℕ) (w : Narrow m) (u : Used m k) (l : k < m .t) (h
   head-in : headAt m 0 ≤ topOf (m .form)
   head-in = w .head 0 (lines-some (shapeOf m) (omega arith)) .0
 
-  own-index : headAt m (ownHead m k) ≤ topOf (m .form)
-  own-index = w .head (ownHead m k) (own-in m k l) .0
+  -- thread k's flush of a line and its fence, and on to step s
+  flushes : (l : Line) (s : ℕ) → Narrow (going (flush m k l) k s .machine)
+  flushes (ofHead h) s = goes (flush m k (ofHead h)) (narrow-flush m k (ofHead h) w) (thread m k) mine s
+  flushes (ofNode i) s = goes (flush m k (ofNode i)) (narrow-flush m k (ofNode i) w) (thread m k) mine s
+
+  fenced : (l : Line) → Narrow (fence m k l)
+  fenced l = narrow-fence m k l w (g .index k l₀)
+
+  fences : (l : Line) (s : ℕ) → Narrow (going (fence m k l) k s .machine)
+  fences l s = let r = fence m k l in narrow-thread r k (atStep (thread r k) s) (fenced l) (fenced l .thread k (fence-in m k l l₀))
 
   A1-by : (b : Bool) → Narrow (pick b (answering Full m k) (moving (handOut m (nextFree m)) k (ownNode (thread m k) (nextFree m)) 2) .machine)
   A1-by true = narrow-left m k (thread m k .held) w
@@ -192,22 +215,23 @@ module _ (m : Machine) (k : ℕ) (w : Narrow m) (u : Used m k) (l : k < m .t) (h
   narrow-step A7 e = A7-by (leb (topOf (m .form)) (node m (thread m k .tail) .index)) refl
   narrow-step A8 e = A8-by (u .t-in (rw e)) (eqb (node m (thread m k .tail) .next) none)
   narrow-step A9 e = let i = thread m k .node in stores i (withLinked (node m i) 1) 10 (w .node i (u .own-in (rw e)) .0)
-  narrow-step A10 e =
-      let i = thread m k .node in
-      goes (putKept m i (contentOf (node m i))) (narrow-kept m i (contentOf (node m i)) w (w .node i (u .own-in (rw e)) .0)) (thread m k) mine 11
+  narrow-step A10 e = flushes (ofNode (thread m k .node)) 22
   narrow-step A11 e = A11-by (eqb (m .tail) (thread m k .tail))
   narrow-step A12 e = A12-by (eqb (m .tail) (thread m k .tail))
   narrow-step D1 e = let d = perDesk (m .form) in goes m w (readHead (thread m k) (m .head) (pick d 0 (headAt m 0))) (pick-index d (headAt m 0) (topOf (m .form)) head-in) 14
   narrow-step D2 e = let x = node m (thread m k .head) .next in goes m w (readNext (thread m k) x) mine (pick (eqb x none) (pick (perDesk (m .form)) 20 15) 16)
-  narrow-step D3 e = let h = ownHead m k in narrow-left (putKeptHead m h (headAt m h)) k (thread m k .held) (narrow-kept-head m h (headAt m h) w own-index)
+  narrow-step D3 e = flushes (ofHead (ownHead m k)) 23
   narrow-step D4 e =
       let d = perDesk (m .form) in
       D4-by (u .next-in (rw e)) (both (eqb (m .head) (thread m k .head)) (pick d true (eqb (headAt m 0) (thread m k .index)))) d
   narrow-step D5 e = goes m w (readItem (thread m k) (node m (thread m k .next) .item)) mine (pick (perDesk (m .form)) 21 18)
-  narrow-step D6 e = let h = ownHead m k in goes (putKeptHead m h (headAt m h)) (narrow-kept-head m h (headAt m h) w own-index) (thread m k) mine 19
+  narrow-step D6 e = flushes (ofHead (ownHead m k)) 24
   narrow-step D7 e = D7-by (eqb (thread m k .held) none) refl
   narrow-step S3 e = let i = thread m k .head in goes (putHeadAt m k (node m i .index)) (narrow-head-at m k (node m i .index) w (w .node i (u .head-in (rw e)) .0)) (thread m k) mine 15
   narrow-step S6 e = let i = thread m k .next in goes (putHeadAt m k (node m i .index)) (narrow-head-at m k (node m i .index) w (w .node i (u .next-in (rw e)) .0)) (thread m k) mine 18
+  narrow-step F10 e = fences (ofNode (thread m k .node)) 11
+  narrow-step F3 e = let r = fence m k (ofHead (ownHead m k)) in narrow-left r k (thread r k .held) (fenced (ofHead (ownHead m k)))
+  narrow-step F6 e = fences (ofHead (ownHead m k)) 19
 
 -- ---- a begin, a write-back
 
@@ -216,5 +240,5 @@ narrow-begun m k s v w =
     narrow-thread m k (record { step = s; node = 255; tail = 255; head = 255; index = 0; next = 255; item = v; held = thread m k .held }) w (omega arith)
 
 pub narrow-persist : (m : Machine) (l : Line) → Narrow m → LineIn (shapeOf m) l → Narrow (persist m l)
-narrow-persist m (ofHead k) w h = narrow-kept-head m k (headAt m k) w (w .head k h .0)
-narrow-persist m (ofNode i) w h = narrow-kept m i (contentOf (node m i)) w (w .node i h .0)
+narrow-persist m (ofHead k) w h = narrow-kept-head m k (headAt m k) (everyone m) w (w .head k h .0)
+narrow-persist m (ofNode i) w h = narrow-kept m i (contentOf (node m i)) (everyone m) w (w .node i h .0)

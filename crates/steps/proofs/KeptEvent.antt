@@ -29,7 +29,8 @@ use Rattle.machine.specs.declared.Out.{Out}
 use Rattle.machine.proofs.RangeLaws.{start-in-range}
 use Rattle.machine.proofs.LineLaws.{line-in}
 use Rattle.steps.specs.Numbers.{numbersFit}
-use Rattle.steps.proofs.Fit.{fit-range, narrow-range, range-numbers}
+use Rattle.steps.proofs.Fit.{fit-range, narrow-range}
+use Rattle.steps.proofs.Flushes.{range-numbers}
 use Rattle.steps.proofs.Own.{own-lines, own-shaped}
 use Rattle.steps.proofs.Kept.{kept-step, kept-begun, kept-persist}
 

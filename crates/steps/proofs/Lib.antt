@@ -2,6 +2,8 @@ pub mod StepLaws
 pub mod Fit
 pub mod Own
 pub mod Keep
+pub mod Flushes
 pub mod KeepIndex
+pub mod KeepFlush
 pub mod Kept
 pub mod KeptEvent

@@ -5,11 +5,13 @@ use machine::Machine;
 use machine::Thread;
 use machine::Touch;
 ghost use mathlib.Core.Path.{_≡_};
-ghost use Prim.Native.Nat.{ℕ, _<_, _≤_};
+ghost use Prim.Native.Nat.{ℕ, _<_};
 ghost use Rattle.machine.specs.Record.{thread};
 ghost use Rattle.machine.specs.Stage.{stage};
 ghost use Rattle.machine.specs.Event.{begun, stepped};
+ghost use mathlib.Core.Bool.{true, false};
 ghost use Rattle.steps.specs.Ready.{Ready};
+ghost use Rattle.steps.specs.Numbers.{ofEnqueue};
 
 // Thread k begins at step s with item v; it has read nothing.
 pub fn begin(m: Machine, k: usize, s: u8, v: u32) -> Machine
@@ -31,9 +33,19 @@ pub fn begin(m: Machine, k: usize, s: u8, v: u32) -> Machine
     r
 }
 
+// Whether a step number is one of an enqueue, or none: A1 to A12, or F10.
+fn is_of_enqueue(s: u8) -> bool
+    ensures { λ r. ⌜ r ≡ ofEnqueue s ⌝ }
+{
+    if s <= Machine::A12 {
+        return true;
+    }
+    s == Machine::F10
+}
+
 // One step of an enqueue, by its step number; a thread without an operation stays as it is.
 fn enqueue_step(m: Machine, k: usize) -> Acted
-    requires { ⌜ Ready m k × (thread m k .step ≤ 12) ⌝ }
+    requires { ⌜ Ready m k × (ofEnqueue (thread m k .step) ≡ true) ⌝ }
     ensures { λ r. ⌜ r ≡ stepped m k (stage m k) ⌝ }
 {
     let threads = m.threads;
@@ -52,7 +64,8 @@ fn enqueue_step(m: Machine, k: usize) -> Acted
         Machine::A10 => enqueue::a10(m, k),
         Machine::A11 => enqueue::a11(m, k),
         Machine::A12 => enqueue::a12(m, k),
-        0 | 13..=255 => Acted {
+        Machine::F10 => enqueue::f10(m, k),
+        0 | 13..=21 | 23..=255 => Acted {
             answer: Answer::Taken,
             machine: m,
             touch: Touch::Nothing,
@@ -62,7 +75,7 @@ fn enqueue_step(m: Machine, k: usize) -> Acted
 
 // One step of a dequeue, by its step number; a number that is no step leaves the machine as it is.
 fn dequeue_step(m: Machine, k: usize) -> Acted
-    requires { ⌜ Ready m k × (12 < thread m k .step) ⌝ }
+    requires { ⌜ Ready m k × (ofEnqueue (thread m k .step) ≡ false) ⌝ }
     ensures { λ r. ⌜ r ≡ stepped m k (stage m k) ⌝ }
 {
     let threads = m.threads;
@@ -78,7 +91,9 @@ fn dequeue_step(m: Machine, k: usize) -> Acted
         Machine::D7 => dequeue::d7(m, k),
         Machine::S3 => dequeue::s3(m, k),
         Machine::S6 => dequeue::s6(m, k),
-        0..=12 | 22..=255 => Acted {
+        Machine::F3 => dequeue::f3(m, k),
+        Machine::F6 => dequeue::f6(m, k),
+        0..=12 | 22 | 25..=255 => Acted {
             answer: Answer::Taken,
             machine: m,
             touch: Touch::Nothing,
@@ -93,7 +108,7 @@ pub fn one_step(m: Machine, k: usize) -> Acted
 {
     let threads = m.threads;
     let th = threads[k];
-    if th.step <= Machine::A12 {
+    if is_of_enqueue(th.step) {
         return enqueue_step(m, k);
     }
     dequeue_step(m, k)

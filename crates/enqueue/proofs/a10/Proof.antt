@@ -8,8 +8,8 @@ mul-th c = search needs
 element-copy-out-th : tie.Need-element-copy-out-th
 element-copy-out-th c = search needs
 
-persist-line-requires : tie.Need-persist-line-requires
-persist-line-requires c κs = search needs
+flush-line-requires : tie.Need-flush-line-requires
+flush-line-requires c κs = search needs
 
 mul-r : tie.Need-mul-r
 mul-r c = search needs
@@ -17,8 +17,11 @@ mul-r c = search needs
 way-write-given-r : tie.Need-way-write-given-r
 way-write-given-r c = search needs
 
+cast-t16 : tie.Need-cast-t16
+cast-t16 c = search needs
+
 returns : tie.Need-returns
-returns c = rw (c .before .persist-line .ensures)
+returns c = rw (c .before .flush-line .ensures)
 
 pub a10-spec : {M : Type 1} → statement M
 a10-spec =
@@ -26,7 +29,8 @@ a10-spec =
     (tie.spec
     mul-th
     element-copy-out-th
-    persist-line-requires
+    flush-line-requires
     mul-r
     way-write-given-r
+    cast-t16
     returns)

@@ -77,6 +77,15 @@ uses-requires-22 c κs = search needs
 uses-requires-23 : tie.Need-uses-requires-23
 uses-requires-23 c κs = search needs
 
+uses-requires-24 : tie.Need-uses-requires-24
+uses-requires-24 c κs = search needs
+
+uses-requires-25 : tie.Need-uses-requires-25
+uses-requires-25 c κs = search needs
+
+uses-requires-26 : tie.Need-uses-requires-26
+uses-requires-26 c κs = search needs
+
 returns : tie.Need-returns
 returns c = rw (c .before .match .keys1) (c .uses .ensures)
 
@@ -144,17 +153,28 @@ returns-22 : tie.Need-returns-22
 returns-22 c = rw (c .before .match .keys22) (c .uses22 .ensures)
 
 returns-23 : tie.Need-returns-23
-returns-23 c =
+returns-23 c = rw (c .before .match .keys23) (c .uses23 .ensures)
+
+returns-24 : tie.Need-returns-24
+returns-24 c = rw (c .before .match .keys24) (c .uses24 .ensures)
+
+returns-25 : tie.Need-returns-25
+returns-25 c = rw (c .before .match .keys25) (c .uses25 .ensures)
+
+returns-26 : tie.Need-returns-26
+returns-26 c =
     let s = c .before .before .args .s in
     let r = c .before .match .rest in
-    let h0 : 4 ≤ s = words.past 0 s (omega arith) (r .0 .0 .0 .0 .0 .0 .0 .0 .0 .0 .0 .0 .0 .0 .0 .0 .0 .0 .0 .0 .0 .1) (r .0 .0 .0 .0 .0 .0 .0 .0 .0 .0 .0 .0 .0 .0 .0 .0 .0 .0 .0 .0 .1) (r .0 .0 .0 .0 .0 .0 .0 .0 .0 .0 .0 .0 .0 .0 .0 .0 .0 .0 .0 .1) (r .0 .0 .0 .0 .0 .0 .0 .0 .0 .0 .0 .0 .0 .0 .0 .0 .0 .0 .1) in
-    let h1 : 8 ≤ s = words.past 4 s h0 (r .0 .0 .0 .0 .0 .0 .0 .0 .0 .0 .0 .0 .0 .0 .0 .0 .0 .1) (r .0 .0 .0 .0 .0 .0 .0 .0 .0 .0 .0 .0 .0 .0 .0 .0 .1) (r .0 .0 .0 .0 .0 .0 .0 .0 .0 .0 .0 .0 .0 .0 .0 .1) (r .0 .0 .0 .0 .0 .0 .0 .0 .0 .0 .0 .0 .0 .0 .1) in
-    let h2 : 12 ≤ s = words.past 8 s h1 (r .0 .0 .0 .0 .0 .0 .0 .0 .0 .0 .0 .0 .0 .1) (r .0 .0 .0 .0 .0 .0 .0 .0 .0 .0 .0 .0 .1) (r .0 .0 .0 .0 .0 .0 .0 .0 .0 .0 .0 .1) (r .0 .0 .0 .0 .0 .0 .0 .0 .0 .0 .1) in
-    let h3 : 16 ≤ s = words.past 12 s h2 (r .0 .0 .0 .0 .0 .0 .0 .0 .0 .1) (r .0 .0 .0 .0 .0 .0 .0 .0 .1) (r .0 .0 .0 .0 .0 .0 .0 .1) (r .0 .0 .0 .0 .0 .0 .1) in
-    let h4 : 20 ≤ s = words.past 16 s h3 (r .0 .0 .0 .0 .0 .1) (r .0 .0 .0 .0 .1) (r .0 .0 .0 .1) (r .0 .0 .1) in
-    let h5 : 22 ≤ s = words.past2 20 s h4 (r .0 .1) (r .1) in
-    let e : stageOf s ≡ noStep = List·getD-eq-default stages noStep h5 in
-    rw e (c .uses23 .ensures)
+    let q = r .0 .0 .0 in
+    let h0 : 4 ≤ s = words.past 0 s (omega arith) (q .0 .0 .0 .0 .0 .0 .0 .0 .0 .0 .0 .0 .0 .0 .0 .0 .0 .0 .0 .0 .0 .1) (q .0 .0 .0 .0 .0 .0 .0 .0 .0 .0 .0 .0 .0 .0 .0 .0 .0 .0 .0 .0 .1) (q .0 .0 .0 .0 .0 .0 .0 .0 .0 .0 .0 .0 .0 .0 .0 .0 .0 .0 .0 .1) (q .0 .0 .0 .0 .0 .0 .0 .0 .0 .0 .0 .0 .0 .0 .0 .0 .0 .0 .1) in
+    let h1 : 8 ≤ s = words.past 4 s h0 (q .0 .0 .0 .0 .0 .0 .0 .0 .0 .0 .0 .0 .0 .0 .0 .0 .0 .1) (q .0 .0 .0 .0 .0 .0 .0 .0 .0 .0 .0 .0 .0 .0 .0 .0 .1) (q .0 .0 .0 .0 .0 .0 .0 .0 .0 .0 .0 .0 .0 .0 .0 .1) (q .0 .0 .0 .0 .0 .0 .0 .0 .0 .0 .0 .0 .0 .0 .1) in
+    let h2 : 12 ≤ s = words.past 8 s h1 (q .0 .0 .0 .0 .0 .0 .0 .0 .0 .0 .0 .0 .0 .1) (q .0 .0 .0 .0 .0 .0 .0 .0 .0 .0 .0 .0 .1) (q .0 .0 .0 .0 .0 .0 .0 .0 .0 .0 .0 .1) (q .0 .0 .0 .0 .0 .0 .0 .0 .0 .0 .1) in
+    let h3 : 16 ≤ s = words.past 12 s h2 (q .0 .0 .0 .0 .0 .0 .0 .0 .0 .1) (q .0 .0 .0 .0 .0 .0 .0 .0 .1) (q .0 .0 .0 .0 .0 .0 .0 .1) (q .0 .0 .0 .0 .0 .0 .1) in
+    let h4 : 20 ≤ s = words.past 16 s h3 (q .0 .0 .0 .0 .0 .1) (q .0 .0 .0 .0 .1) (q .0 .0 .0 .1) (q .0 .0 .1) in
+    let h5 : 22 ≤ s = words.past2 20 s h4 (q .0 .1) (q .1) in
+    let h6 : 25 ≤ s = words.past3 22 s h5 (r .0 .0 .1) (r .0 .1) (r .1) in
+    let e : stageOf s ≡ noStep = List·getD-eq-default stages noStep h6 in
+    rw e (c .uses26 .ensures)
 
 pub used-by-spec : {M : Type 1} → statement M
 used-by-spec =
@@ -183,6 +203,9 @@ used-by-spec =
     uses-requires-21
     uses-requires-22
     uses-requires-23
+    uses-requires-24
+    uses-requires-25
+    uses-requires-26
     returns
     returns-2
     returns-3
@@ -205,4 +228,7 @@ used-by-spec =
     returns-20
     returns-21
     returns-22
-    returns-23)
+    returns-23
+    returns-24
+    returns-25
+    returns-26)

@@ -40,6 +40,12 @@ s3-requires c κs = let r = c .before .before .before .pre .0 in (r .thread-in, 
 s6-requires : tie.Need-s6-requires
 s6-requires c κs = let r = c .before .before .before .pre .0 in (r .thread-in, r .next-in (rw (c .match .keys9)))
 
+f3-requires : tie.Need-f3-requires
+f3-requires c κs = search needs
+
+f6-requires : tie.Need-f6-requires
+f6-requires c κs = search needs
+
 returns : tie.Need-returns
 returns c = rw (c .d1 .ensures, c .before .match .keys1)
 
@@ -68,12 +74,24 @@ returns-9 : tie.Need-returns-9
 returns-9 c = rw (c .s6 .ensures, c .before .match .keys9)
 
 returns-10 : tie.Need-returns-10
-returns-10 c =
-    let a = c .before .before .before .args in
+returns-10 c = rw (c .f3 .ensures, c .before .match .keys10)
+
+returns-11 : tie.Need-returns-11
+returns-11 c = rw (c .f6 .ensures, c .before .match .keys11)
+
+-- F10 is a step of an enqueue
+returns-12 : tie.Need-returns-12
+returns-12 c = let b = c .before .before .before in absurd (laws.dequeue-past (thread (b .args .m) (b .args .k) .step) (b .pre .1) .1 (c .match .keys12))
+
+returns-13 : tie.Need-returns-13
+returns-13 c =
+    let b = c .before .before .before in
     let r = c .match .rest in
-    let s = thread (a .m) (a .k) .step in
-    let d : 19 < s = laws.past 19 s (laws.past 18 s (laws.past 17 s (laws.past 16 s (laws.past 15 s (laws.past 14 s (laws.past 13 s (omega arith) (r .0 .0 .0 .0 .0 .0 .0 .0 .1)) (r .0 .0 .0 .0 .0 .0 .0 .1)) (r .0 .0 .0 .0 .0 .0 .1)) (r .0 .0 .0 .0 .0 .1)) (r .0 .0 .0 .0 .1)) (r .0 .0 .0 .1)) (r .0 .0 .1) in
-    let h : 21 < s = laws.past 21 s (laws.past 20 s d (r .0 .1)) (r .1) in
+    let q = r .0 .0 in
+    let s = thread (b .args .m) (b .args .k) .step in
+    let p = laws.dequeue-past s (b .pre .1) in
+    let d : 19 < s = laws.past 19 s (laws.past 18 s (laws.past 17 s (laws.past 16 s (laws.past 15 s (laws.past 14 s (laws.past 13 s (p .0) (q .0 .0 .0 .0 .0 .0 .0 .0 .0 .1)) (q .0 .0 .0 .0 .0 .0 .0 .0 .1)) (q .0 .0 .0 .0 .0 .0 .0 .1)) (q .0 .0 .0 .0 .0 .0 .1)) (q .0 .0 .0 .0 .0 .1)) (q .0 .0 .0 .0 .1)) (q .0 .0 .0 .1) in
+    let h : 24 < s = laws.past 24 s (laws.past 23 s (laws.past 22 s (laws.past 21 s (laws.past 20 s d (q .0 .0 .1)) (q .0 .1)) (p .1)) (q .1)) (r .0 .1) in
     rw (no-step s h)
 
 pub dequeue-step-spec : {M : Type 1} → statement M
@@ -91,6 +109,8 @@ dequeue-step-spec =
     d7-requires
     s3-requires
     s6-requires
+    f3-requires
+    f6-requires
     returns
     returns-2
     returns-3
@@ -100,4 +120,7 @@ dequeue-step-spec =
     returns-7
     returns-8
     returns-9
-    returns-10)
+    returns-10
+    returns-11
+    returns-12
+    returns-13)

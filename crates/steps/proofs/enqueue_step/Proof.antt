@@ -1,4 +1,4 @@
-use Rattle.steps.proofs.StepLaws.{past}
+use Rattle.steps.proofs.StepLaws.{past, enqueue-low}
 use Rattle.machine.specs.Record.{thread}
 use Prim.Native.Nat.{_≤_}
 use native.Mathlib.Omega.{arith}
@@ -40,13 +40,16 @@ a9-requires : tie.Need-a9-requires
 a9-requires c κs = let r = c .before .before .before .pre .0 in (r .thread-in, r .own-in (rw (c .match .keys9)))
 
 a10-requires : tie.Need-a10-requires
-a10-requires c κs = let r = c .before .before .before .pre .0 in (r .thread-in, r .own-in (rw (c .match .keys10)))
+a10-requires c κs = let r = c .before .before .before .pre .0 in (r .thread-in, r .threads-in, r .own-in (rw (c .match .keys10)))
 
 a11-requires : tie.Need-a11-requires
 a11-requires c κs = search needs
 
 a12-requires : tie.Need-a12-requires
 a12-requires c κs = let r = c .before .before .before .pre .0 in (r .thread-in, r .t-in (rw (c .match .keys12)))
+
+f10-requires : tie.Need-f10-requires
+f10-requires c κs = let r = c .before .before .before .pre .0 in (r .thread-in, r .threads-in, r .own-in (rw (c .match .keys13)))
 
 returns : tie.Need-returns
 returns c = rw (c .a1 .ensures, c .before .match .keys1)
@@ -85,15 +88,19 @@ returns-12 : tie.Need-returns-12
 returns-12 c = rw (c .a12 .ensures, c .before .match .keys12)
 
 returns-13 : tie.Need-returns-13
-returns-13 c = rw (c .match .keys13)
+returns-13 c = rw (c .f10 .ensures, c .before .match .keys13)
 
 returns-14 : tie.Need-returns-14
-returns-14 c =
+returns-14 c = rw (c .match .keys14)
+
+returns-15 : tie.Need-returns-15
+returns-15 c =
     let a = c .before .before .before .args in
     let s = thread (a .m) (a .k) .step in
     let r = c .match .rest in
-    let h : 13 ≤ s = past 12 s (past 11 s (past 10 s (past 9 s (past 8 s (past 7 s (past 6 s (past 5 s (past 4 s (past 3 s (past 2 s (past 1 s (past 0 s (omega arith) (r .1)) (r .0 .0 .0 .0 .0 .0 .0 .0 .0 .0 .0 .0 .1)) (r .0 .0 .0 .0 .0 .0 .0 .0 .0 .0 .0 .1)) (r .0 .0 .0 .0 .0 .0 .0 .0 .0 .0 .1)) (r .0 .0 .0 .0 .0 .0 .0 .0 .0 .1)) (r .0 .0 .0 .0 .0 .0 .0 .0 .1)) (r .0 .0 .0 .0 .0 .0 .0 .1)) (r .0 .0 .0 .0 .0 .0 .1)) (r .0 .0 .0 .0 .0 .1)) (r .0 .0 .0 .0 .1)) (r .0 .0 .0 .1)) (r .0 .0 .1)) (r .0 .1) in
-    absurd (omega arith)
+    let q = r .0 in
+    let h : 13 ≤ s = past 12 s (past 11 s (past 10 s (past 9 s (past 8 s (past 7 s (past 6 s (past 5 s (past 4 s (past 3 s (past 2 s (past 1 s (past 0 s (omega arith) (r .1)) (q .0 .0 .0 .0 .0 .0 .0 .0 .0 .0 .0 .0 .1)) (q .0 .0 .0 .0 .0 .0 .0 .0 .0 .0 .0 .1)) (q .0 .0 .0 .0 .0 .0 .0 .0 .0 .0 .1)) (q .0 .0 .0 .0 .0 .0 .0 .0 .0 .1)) (q .0 .0 .0 .0 .0 .0 .0 .0 .1)) (q .0 .0 .0 .0 .0 .0 .0 .1)) (q .0 .0 .0 .0 .0 .0 .1)) (q .0 .0 .0 .0 .0 .1)) (q .0 .0 .0 .0 .1)) (q .0 .0 .0 .1)) (q .0 .0 .1)) (q .0 .1) in
+    absurd (omega (arith, enqueue-low s (c .before .before .before .pre .1) (q .1)))
 
 pub enqueue-step-spec : {M : Type 1} → statement M
 enqueue-step-spec =
@@ -113,6 +120,7 @@ enqueue-step-spec =
     a10-requires
     a11-requires
     a12-requires
+    f10-requires
     returns
     returns-2
     returns-3
@@ -126,4 +134,5 @@ enqueue-step-spec =
     returns-11
     returns-12
     returns-13
-    returns-14)
+    returns-14
+    returns-15)

@@ -81,7 +81,7 @@ persist-line-requires c κs =
     let z = c .before .before .before .before .before .before .before .before .before in
     let a = z .args in
     let e : c .before .before .before .before .before .before .before .before .head-lines .result ≡ headLines (shapeOf (a .m)) = c .before .before .before .before .before .before .before .before .head-lines .ensures in
-    there (a .m) _ (a .e .number) (z .pre) (omega (arith, e, c .before .before .before .before .before .if1 .left)) (c .before .before .line-at .ensures)
+    (range.in-range (a .m) (z .pre) .sizes .threads-high, there (a .m) _ (a .e .number) (z .pre) (omega (arith, e, c .before .before .before .before .before .if1 .left)) (c .before .before .line-at .ensures))
 
 returns-4 : tie.Need-returns-4
 returns-4 c =
