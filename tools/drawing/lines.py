@@ -30,7 +30,7 @@ def line_lane(d, line, y, h):
             if p.by == "write-back":
                 diamond(d, line, e, mid, "#ffffff", "is written back", "")
             else:
-                diamond(d, line, e, mid, INK, "is persisted", ", by " + p.by)
+                diamond(d, line, e, mid, INK, "is persisted", ", by " + p.by + (", as it was at event %d" % p.since if p.since < e else ""))
     else:
         still(d, line, mid)
     fan(d, line, mid, kept)
