@@ -13,8 +13,9 @@ use Rattle.image.specs.Form.{known, widthOf, topOf, headsAt, nodeSize, headerSi
 use Rattle.image.specs.Layout.{noContents, marked, formIn, readNodes, imageIn, sameContent, noHeads, headsOf, readHeads, shapeIn}
 use Rattle.image.specs.Recovered.{largest, headOf, recovered, twins, hasTwin, firstTwin, dummyOf, firstUnclear}
 use Rattle.image.specs.Refusals.{startable, sound, imageAnswer}
-use Rattle.machine.specs.Record.{blankNodes, idleThreads}
+use Rattle.machine.specs.Record.{blankNodes, idleThreads, noFlushed, noSets}
 use Rattle.machine.specs.Line.{lineAt, putLine}
+use Rattle.machine.specs.Flush.{lateAfter, overAfter}
 use Rattle.machine.specs.Start.{insert, risen, behind, lastOf, startWith}
 use Rattle.machine.specs.Retire.{nextFree, releasedAt, released, others, retired}
 use Rattle.machine.specs.Event.{eventAt}
@@ -52,11 +53,12 @@ written =
     -- P1 with node 1's line written back; and so twice, as a probe doubles it
     ∷ record { schedule = schedule 1 (zeroNodes 2 0) (p1 9 ++ back 2 0); page = "UQS 1 threads 1 nodes 2 events 11 endings 1\n0 0 7\n" }
     ∷ record { schedule = schedule 1 (zeroNodes 2 0) (p1 9 ++ back 2 0 ++ back 2 0); page = "refused 19 at 11\n" }
-    -- P2: A10 has persisted it
-    ∷ record { schedule = schedule 1 (zeroNodes 2 0) (p1 10 ++ back 2 0); page = "refused 19 at 11\n" }
-    -- P3 with Head's line written back; and so behind D6
-    ∷ record { schedule = schedule 1 (zeroNodes 2 0) (p3 3 ++ back 0 0); page = "UQS 1 threads 1 nodes 2 events 17 endings 1\n0 1 -\n" }
-    ∷ record { schedule = schedule 1 (zeroNodes 2 0) (p3 5 ++ back 0 0); page = "refused 19 at 18\n" }
+    -- P2: A10's flush alone cleans nothing; its fence has persisted the line, or finds that it is
+    ∷ record { schedule = schedule 1 (zeroNodes 2 0) (p1 10 ++ back 2 0 ++ step 1 0); page = "UQS 1 threads 1 nodes 2 events 13 endings 1\n0 0 7\n" }
+    ∷ record { schedule = schedule 1 (zeroNodes 2 0) (p1 11 ++ back 2 0); page = "refused 19 at 12\n" }
+    -- P3 with Head's line written back; and so behind F6
+    ∷ record { schedule = schedule 1 (zeroNodes 2 0) (p3 3 ++ back 0 0); page = "UQS 1 threads 1 nodes 2 events 18 endings 1\n0 1 -\n" }
+    ∷ record { schedule = schedule 1 (zeroNodes 2 0) (p3 6 ++ back 0 0); page = "refused 19 at 20\n" }
     -- by content: node 1's line has two contents, the present one is the persisted one, and its write-back is refused though it is no double
     ∷ record {
       schedule = schedule 1 (zeroNodes 2 4294967295) cameBack;
@@ -75,7 +77,7 @@ pub clean-hold : allShown written ≡ true
 unfolding allShown written cameBack back p1 p3 sameBytes four enqueue dequeue crash step zeroNodes schedule
     least around any count tab joined over front text digitsOf decimal has with without wordOf
     noContents atW known widthOf topOf headsAt nodeSize headerSize marked formIn nodePlace readNodes imageIn recovered twins hasTwin firstTwin dummyOf firstUnclear startable sound imageAnswer
-    blankNodes idleThreads insert risen behind lastOf startWith nextFree releasedAt released others retired eventAt scheduleIn eventsIn scheduleAnswer run ran
+    blankNodes idleThreads noFlushed noSets lateAfter overAfter insert risen behind lastOf startWith nextFree releasedAt released others retired eventAt scheduleIn eventsIn scheduleAnswer run ran
     headLines ownThreads perDesk imageSize shapeIn noHeads headsOf readHeads largest headOf lineAt putLine sameContent joins gathered contentsOf tableOf choices product imageOf endings
     tableIn firstCrowded tableAnswer pageAnswer endingCount
     itemsOf spaced endingLine linesFrom firstLine refusedLine printed

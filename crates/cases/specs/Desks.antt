@@ -13,8 +13,9 @@ use Rattle.image.specs.Form.{known, widthOf, topOf, headsAt, nodeSize, headerSi
 use Rattle.image.specs.Layout.{noContents, marked, formIn, readNodes, imageIn, sameContent, noHeads, headsOf, readHeads, shapeIn}
 use Rattle.image.specs.Recovered.{largest, headOf, recovered, twins, hasTwin, firstTwin, dummyOf, firstUnclear}
 use Rattle.image.specs.Refusals.{startable, sound, imageAnswer}
-use Rattle.machine.specs.Record.{blankNodes, idleThreads}
+use Rattle.machine.specs.Record.{blankNodes, idleThreads, noFlushed, noSets}
 use Rattle.machine.specs.Line.{lineAt, putLine}
+use Rattle.machine.specs.Flush.{lateAfter, overAfter}
 use Rattle.machine.specs.Start.{insert, risen, behind, lastOf, startWith}
 use Rattle.machine.specs.Retire.{nextFree, releasedAt, released, others, retired}
 use Rattle.machine.specs.Event.{eventAt}
@@ -39,7 +40,7 @@ deskNodes n heads = 85 ∷ 81 ∷ 80 ∷ 1 ∷ 0 ∷ n ∷ length heads ∷ four
 
 -- thread 0 enqueues 7, thread 1 begins a dequeue and takes c steps
 unfoldable pub byOne : ℕ → List ℕ
-byOne c = p1 11 ++ dequeue 1 ++ step c 1
+byOne c = p1 12 ++ dequeue 1 ++ step c 1
 
 unfoldable pub desks : List Case
 desks =
@@ -53,8 +54,8 @@ desks =
     }
     -- P2
     ∷ record {
-      schedule = schedule 1 (deskNodes 2 (0 ∷ [])) (p1 10);
-      page = "UQS 1 threads 1 nodes 2 events 11 endings 1\n0 0 7\n";
+      schedule = schedule 1 (deskNodes 2 (0 ∷ [])) (p1 11);
+      page = "UQS 1 threads 1 nodes 2 events 12 endings 1\n0 0 7\n";
       reply = 0;
       places = 2 ∷ 0 ∷ 0 ∷ 0 ∷ 0 ∷ 0 ∷ [];
       held = [];
@@ -62,7 +63,7 @@ desks =
     -- P3: D4 stores a node number, which is in no line: one ending
     ∷ record {
       schedule = schedule 1 (deskNodes 2 (0 ∷ [])) (p3 3);
-      page = "UQS 1 threads 1 nodes 2 events 16 endings 1\n0 0 7\n";
+      page = "UQS 1 threads 1 nodes 2 events 17 endings 1\n0 0 7\n";
       reply = 0;
       places = 1 ∷ 0 ∷ 0 ∷ 0 ∷ 0 ∷ 1 ∷ [];
       held = [];
@@ -70,23 +71,31 @@ desks =
     -- its fifth step stores the new dummy's index in the thread's line
     ∷ record {
       schedule = schedule 1 (deskNodes 2 (0 ∷ [])) (p3 5);
-      page = "UQS 1 threads 1 nodes 2 events 18 endings 2\n0 0 7\n1 1 -\n";
+      page = "UQS 1 threads 1 nodes 2 events 19 endings 2\n0 0 7\n1 1 -\n";
       reply = 0;
       places = 1 ∷ 0 ∷ 0 ∷ 0 ∷ 0 ∷ 1 ∷ [];
       held = [];
     }
-    -- P4: the sixth persists that line
+    -- the sixth flushes that line
     ∷ record {
       schedule = schedule 1 (deskNodes 2 (0 ∷ [])) (p3 6);
-      page = "UQS 1 threads 1 nodes 2 events 19 endings 1\n0 1 -\n";
+      page = "UQS 1 threads 1 nodes 2 events 20 endings 2\n0 0 7\n1 1 -\n";
+      reply = 0;
+      places = 1 ∷ 0 ∷ 0 ∷ 0 ∷ 0 ∷ 1 ∷ [];
+      held = [];
+    }
+    -- P4: the seventh is the fence
+    ∷ record {
+      schedule = schedule 1 (deskNodes 2 (0 ∷ [])) (p3 7);
+      page = "UQS 1 threads 1 nodes 2 events 21 endings 1\n0 1 -\n";
       reply = 0;
       places = 1 ∷ 0 ∷ 0 ∷ 0 ∷ 0 ∷ 1 ∷ [];
       held = [];
     }
     -- P5: finish that dequeue, begin an enqueue: its first step answers Full, because node 0 is held
     ∷ record {
-      schedule = schedule 1 (deskNodes 2 (0 ∷ [])) (p3 7 ++ enqueue 0 8 ++ step 1 0);
-      page = "UQS 1 threads 1 nodes 2 events 22 endings 1\n0 1 -\n";
+      schedule = schedule 1 (deskNodes 2 (0 ∷ [])) (p3 8 ++ enqueue 0 8 ++ step 1 0);
+      page = "UQS 1 threads 1 nodes 2 events 24 endings 1\n0 1 -\n";
       reply = 2;
       places = 1 ∷ 0 ∷ 0 ∷ 1 ∷ 0 ∷ 0 ∷ [];
       held = 0 ∷ [];
@@ -94,47 +103,47 @@ desks =
     -- thread 1 dequeues: its line is the largest, and line 0 stays 0
     ∷ record {
       schedule = schedule 2 (deskNodes 2 (0 ∷ 0 ∷ [])) (byOne 5);
-      page = "UQS 1 threads 2 nodes 2 events 18 endings 2\n0 0 7\n1 1 -\n";
+      page = "UQS 1 threads 2 nodes 2 events 19 endings 2\n0 0 7\n1 1 -\n";
       reply = 0;
       places = 1 ∷ 0 ∷ 0 ∷ 0 ∷ 0 ∷ 1 ∷ [];
       held = [];
     }
     -- it answers the item
     ∷ record {
-      schedule = schedule 2 (deskNodes 2 (0 ∷ 0 ∷ [])) (byOne 7);
-      page = "UQS 1 threads 2 nodes 2 events 20 endings 1\n0 1 -\n";
+      schedule = schedule 2 (deskNodes 2 (0 ∷ 0 ∷ [])) (byOne 8);
+      page = "UQS 1 threads 2 nodes 2 events 22 endings 1\n0 1 -\n";
       reply = 4;
       places = 1 ∷ 0 ∷ 0 ∷ 1 ∷ 0 ∷ 0 ∷ [];
       held = 0 ∷ [];
     }
     -- then thread 0 finds nothing: it stores the index of the node it found last; two endings that print the same line
     ∷ record {
-      schedule = schedule 2 (deskNodes 2 (0 ∷ 0 ∷ [])) (byOne 7 ++ dequeue 0 ++ step 3 0);
-      page = "UQS 1 threads 2 nodes 2 events 24 endings 2\n0 1 -\n1 1 -\n";
+      schedule = schedule 2 (deskNodes 2 (0 ∷ 0 ∷ [])) (byOne 8 ++ dequeue 0 ++ step 3 0);
+      page = "UQS 1 threads 2 nodes 2 events 26 endings 2\n0 1 -\n1 1 -\n";
       reply = 0;
       places = 1 ∷ 0 ∷ 0 ∷ 1 ∷ 0 ∷ 0 ∷ [];
       held = 0 ∷ [];
     }
-    -- persists it, and answers Empty
+    -- flushes it, and answers Empty at the fence
     ∷ record {
-      schedule = schedule 2 (deskNodes 2 (0 ∷ 0 ∷ [])) (byOne 7 ++ dequeue 0 ++ step 4 0);
-      page = "UQS 1 threads 2 nodes 2 events 25 endings 1\n0 1 -\n";
+      schedule = schedule 2 (deskNodes 2 (0 ∷ 0 ∷ [])) (byOne 8 ++ dequeue 0 ++ step 5 0);
+      page = "UQS 1 threads 2 nodes 2 events 28 endings 1\n0 1 -\n";
       reply = 5;
       places = 1 ∷ 0 ∷ 0 ∷ 1 ∷ 0 ∷ 0 ∷ [];
       held = 0 ∷ [];
     }
-    -- a crash between the store and the persist: the item is still queued, and thread 0 takes it
+    -- a crash between the store and the fence: the item is still queued, and thread 0 takes it
     ∷ record {
-      schedule = schedule 2 (deskNodes 2 (0 ∷ 0 ∷ [])) (byOne 5 ++ crash ++ dequeue 0 ++ step 7 0);
-      page = "UQS 1 threads 2 nodes 2 events 27 endings 1\n0 1 -\n";
+      schedule = schedule 2 (deskNodes 2 (0 ∷ 0 ∷ [])) (byOne 5 ++ crash ++ dequeue 0 ++ step 8 0);
+      page = "UQS 1 threads 2 nodes 2 events 29 endings 1\n0 1 -\n";
       reply = 4;
       places = 1 ∷ 0 ∷ 0 ∷ 1 ∷ 0 ∷ 0 ∷ [];
       held = 0 ∷ [];
     }
-    -- a crash behind the persist: recovery takes the largest and alters none; the dummy's cached index is the head index
+    -- a crash behind the fence: recovery takes the largest and alters none; the dummy's cached index is the head index
     ∷ record {
-      schedule = schedule 2 (deskNodes 2 (0 ∷ 0 ∷ [])) (byOne 6 ++ crash);
-      page = "UQS 1 threads 2 nodes 2 events 20 endings 2\n0 1 -\n1 1 -\n";
+      schedule = schedule 2 (deskNodes 2 (0 ∷ 0 ∷ [])) (byOne 7 ++ crash);
+      page = "UQS 1 threads 2 nodes 2 events 22 endings 2\n0 1 -\n1 1 -\n";
       reply = 0;
       places = 1 ∷ 1 ∷ 0 ∷ 0 ∷ 0 ∷ 0 ∷ [];
       held = [];
@@ -167,7 +176,7 @@ pub desks-hold : allRight desks ≡ true
 unfolding fours deskNodes byOne desks allRight right p1 p3 sameBytes lastAnswer sixPlaces heldBelow four enqueue dequeue crash step schedule
     least around any count tab joined over front text digitsOf decimal has with without wordOf
     noContents atW known widthOf topOf headsAt nodeSize headerSize marked formIn nodePlace readNodes imageIn recovered twins hasTwin firstTwin dummyOf firstUnclear startable sound imageAnswer
-    blankNodes idleThreads insert risen behind lastOf startWith nextFree releasedAt released others retired eventAt
+    blankNodes idleThreads noFlushed noSets lateAfter overAfter insert risen behind lastOf startWith nextFree releasedAt released others retired eventAt
     reached isHeld inEnqueue inDequeue scheduleIn eventsIn scheduleAnswer run ran
     headLines ownThreads perDesk imageSize shapeIn noHeads headsOf readHeads largest headOf lineAt putLine sameContent joins gathered contentsOf tableOf choices product imageOf endings
     tableIn firstCrowded tableAnswer pageAnswer endingCount
@@ -178,7 +187,7 @@ pub turned-away-hold : allShown turnedAway ≡ true
 unfolding fours deskNodes turnedAway allShown sameBytes four schedule
     least around any count tab joined over front text digitsOf decimal has with without wordOf
     noContents atW known widthOf topOf headsAt nodeSize headerSize marked formIn nodePlace readNodes imageIn recovered twins hasTwin firstTwin dummyOf firstUnclear startable sound imageAnswer
-    blankNodes idleThreads insert risen behind lastOf startWith nextFree releasedAt released others retired eventAt
+    blankNodes idleThreads noFlushed noSets lateAfter overAfter insert risen behind lastOf startWith nextFree releasedAt released others retired eventAt
     reached isHeld inEnqueue inDequeue scheduleIn eventsIn scheduleAnswer run ran
     headLines ownThreads perDesk imageSize shapeIn noHeads headsOf readHeads largest headOf lineAt putLine sameContent joins gathered contentsOf tableOf choices product imageOf endings
     tableIn firstCrowded tableAnswer pageAnswer endingCount

@@ -13,8 +13,9 @@ use Rattle.image.specs.Form.{known, widthOf, topOf, headsAt, nodeSize, headerSi
 use Rattle.image.specs.Layout.{noContents, marked, formIn, readNodes, imageIn, sameContent, noHeads, headsOf, readHeads, shapeIn}
 use Rattle.image.specs.Recovered.{largest, headOf, recovered, twins, hasTwin, firstTwin, dummyOf, firstUnclear, headTooWide, firstTooWide}
 use Rattle.image.specs.Refusals.{startable, sound, fitting, whole}
-use Rattle.machine.specs.Record.{blankNodes, idleThreads}
+use Rattle.machine.specs.Record.{blankNodes, idleThreads, noFlushed, noSets}
 use Rattle.machine.specs.Line.{lineAt, putLine}
+use Rattle.machine.specs.Flush.{lateAfter, overAfter}
 use Rattle.machine.specs.Start.{insert, risen, behind, lastOf, startWith, startAnswer}
 use Rattle.machine.specs.Retire.{nextFree, releasedAt, released, others, retired}
 use Rattle.machine.specs.Event.{eventAt}
@@ -36,12 +37,12 @@ P6 = schedule 2 (zeroNodes 3 0) p6
 unfoldable pub P7 : List ℕ
 P7 = schedule 2 (zeroNodes 3 0) (p6 ++ step 1 0)
 
--- the operations of both: thread 0's enqueue of 5 is not answered, thread 1's of 6, begun at event 9, was answered Done at event 23
+-- the operations of both: thread 0's enqueue of 5 is not answered, thread 1's of 6, begun at event 9, was answered Done at event 24
 abbrev five : Operation
 five = record { thread = 0; call = puts 5; began = 0; reply = nothing; ended = 0 }
 
 abbrev six : Operation
-six = record { thread = 1; call = puts 6; began = 9; reply = done; ended = 23 }
+six = record { thread = 1; call = puts 6; began = 9; reply = done; ended = 24 }
 
 never : {A : Type 0} → _≡_ {A = Bool} false true → A
 never e = let z : _≡_ {A = ℕ} 0 1 = cc in absurd (omega arith)
@@ -85,7 +86,7 @@ lawful-five-six = record { order = 0 ∷ 1 ∷ []; within = within; once = (diff
 -- every ending of P6
 pub P6-recovers : (k : ℕ) → k < 3 → Recovers P6 (endingIn P6 k)
 unfolding P6 P7 p6 four enqueue step zeroNodes schedule least around any tab front has with without wordOf noContents atW known widthOf topOf headsAt nodeSize headerSize marked formIn nodePlace readNodes imageIn
-    recovered twins hasTwin firstTwin dummyOf firstUnclear startable sound headTooWide firstTooWide fitting whole blankNodes idleThreads insert risen behind lastOf startWith startAnswer
+    recovered twins hasTwin firstTwin dummyOf firstUnclear startable sound headTooWide firstTooWide fitting whole blankNodes idleThreads noFlushed noSets lateAfter overAfter insert risen behind lastOf startWith startAnswer
     nextFree releasedAt released others retired eventAt scheduleIn eventsIn run ran headLines ownThreads perDesk imageSize shapeIn noHeads headsOf readHeads largest headOf lineAt putLine sameContent joins gathered contentsOf tableOf
     choices imageOf ending tableIn endingIn operations serveAll itemsFrom
 P6-recovers zero h = record { starts = refl; lawful = lawful-six }
@@ -96,7 +97,7 @@ P6-recovers (suc (suc (suc k))) h = absurd (omega arith)
 -- and of P7, whose fourth has both items
 pub P7-recovers : (k : ℕ) → k < 4 → Recovers P7 (endingIn P7 k)
 unfolding P6 P7 p6 four enqueue step zeroNodes schedule least around any tab front has with without wordOf noContents atW known widthOf topOf headsAt nodeSize headerSize marked formIn nodePlace readNodes imageIn
-    recovered twins hasTwin firstTwin dummyOf firstUnclear startable sound headTooWide firstTooWide fitting whole blankNodes idleThreads insert risen behind lastOf startWith startAnswer
+    recovered twins hasTwin firstTwin dummyOf firstUnclear startable sound headTooWide firstTooWide fitting whole blankNodes idleThreads noFlushed noSets lateAfter overAfter insert risen behind lastOf startWith startAnswer
     nextFree releasedAt released others retired eventAt scheduleIn eventsIn run ran headLines ownThreads perDesk imageSize shapeIn noHeads headsOf readHeads largest headOf lineAt putLine sameContent joins gathered contentsOf tableOf
     choices imageOf ending tableIn endingIn operations serveAll itemsFrom
 P7-recovers zero h = record { starts = refl; lawful = lawful-six }

@@ -6,3 +6,4 @@ pub mod Asked
 pub mod Same
 pub mod Clean
 pub mod Desks
+pub mod Fences

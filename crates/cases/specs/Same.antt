@@ -10,7 +10,7 @@ use Rattle.image.specs.Bytes.{atW}
 use Rattle.image.specs.Form.{known, widthOf, topOf, headsAt, nodeSize, headerSize, headLines, ownThreads, perDesk, nodePlace, imageSize}
 use Rattle.image.specs.Layout.{noContents, readNodes, imageIn, noHeads, headsOf, readHeads, marked, formIn, shapeIn}
 use Rattle.image.specs.Recovered.{largest, headOf, recovered, dummyOf}
-use Rattle.machine.specs.Record.{blankNodes, idleThreads}
+use Rattle.machine.specs.Record.{blankNodes, idleThreads, noFlushed, noSets}
 use Rattle.machine.specs.Start.{risen, behind, lastOf, startWith, freshOf}
 use Rattle.machine.specs.declared.Machine.{Machine}
 use Rattle.schedule.specs.Layout.{scheduleIn, eventsIn}
@@ -41,7 +41,7 @@ pub record SamePoint (c : Point) : Type 0 where
 
 pub same-points : (c : Point) → SamePoint c
 unfolding starred p1 p3 four enqueue dequeue step zeroNodes schedule least tab front wordOf noContents atW known widthOf topOf headsAt nodeSize headerSize marked formIn nodePlace readNodes imageIn
-    headLines ownThreads perDesk imageSize shapeIn noHeads headsOf readHeads largest headOf recovered dummyOf blankNodes idleThreads risen behind lastOf startWith scheduleIn eventsIn
+    headLines ownThreads perDesk imageSize shapeIn noHeads headsOf readHeads largest headOf recovered dummyOf blankNodes idleThreads noFlushed noSets risen behind lastOf startWith scheduleIn eventsIn
 same-points P1 = record { starts = refl; events = refl }
 same-points P2 = record { starts = refl; events = refl }
 same-points P3 = record { starts = refl; events = refl }

@@ -19,8 +19,9 @@ use Rattle.image.specs.Form.{known, widthOf, topOf, headsAt, nodeSize, headerSi
 use Rattle.image.specs.Layout.{noContents, marked, formIn, readNodes, imageIn, sameContent, noHeads, headsOf, readHeads, shapeIn}
 use Rattle.image.specs.Recovered.{largest, headOf, recovered, twins, hasTwin, firstTwin, dummyOf, firstUnclear}
 use Rattle.image.specs.Refusals.{startable, sound, imageAnswer}
-use Rattle.machine.specs.Record.{blankNodes, idleThreads}
+use Rattle.machine.specs.Record.{blankNodes, idleThreads, noFlushed, noSets}
 use Rattle.machine.specs.Line.{lineAt, putLine}
+use Rattle.machine.specs.Flush.{lateAfter, overAfter}
 use Rattle.machine.specs.Start.{insert, risen, behind, lastOf, startWith}
 use Rattle.machine.specs.Retire.{nextFree, releasedAt, released, others, retired}
 use Rattle.machine.specs.Event.{eventAt}
@@ -43,17 +44,17 @@ pub record Case : Type 0 where
   pub places : List ℕ
   pub held : List ℕ
 
--- P1: N = 2, T = 1, all-zero image, one begin of an enqueue of 7, nine steps. P2: a tenth step
+-- P1: N = 2, T = 1, all-zero image, one begin of an enqueue of 7, nine steps. P2: two more, a flush and a fence
 unfoldable pub p1 : ℕ → List ℕ
 p1 c = enqueue 0 7 ++ step c 0
 
--- P3: after eleven steps in all, a dequeue with three steps. P4: two more
+-- P3: after twelve steps in all, a dequeue with three steps. P4: three more
 unfoldable pub p3 : ℕ → List ℕ
-p3 c = p1 11 ++ dequeue 0 ++ step c 0
+p3 c = p1 12 ++ dequeue 0 ++ step c 0
 
--- P6: thread 0 begins 5 and takes eight steps; thread 1 begins 6 and takes fourteen. P7: thread 0's ninth
+-- P6: thread 0 begins 5 and takes eight steps; thread 1 begins 6 and takes fifteen. P7: thread 0's ninth
 unfoldable pub p6 : List ℕ
-p6 = enqueue 0 5 ++ step 8 0 ++ enqueue 1 6 ++ step 14 1
+p6 = enqueue 0 5 ++ step 8 0 ++ enqueue 1 6 ++ step 15 1
 
 unfoldable pub starred : List Case
 starred =
@@ -67,8 +68,8 @@ starred =
     }
     -- P2
     ∷ record {
-      schedule = schedule 1 (zeroNodes 2 0) (p1 10);
-      page = "UQS 1 threads 1 nodes 2 events 11 endings 1\n0 0 7\n";
+      schedule = schedule 1 (zeroNodes 2 0) (p1 11);
+      page = "UQS 1 threads 1 nodes 2 events 12 endings 1\n0 0 7\n";
       reply = 0;
       places = 2 ∷ 0 ∷ 0 ∷ 0 ∷ 0 ∷ 0 ∷ [];
       held = [];
@@ -76,23 +77,23 @@ starred =
     -- P3
     ∷ record {
       schedule = schedule 1 (zeroNodes 2 0) (p3 3);
-      page = "UQS 1 threads 1 nodes 2 events 16 endings 2\n0 0 7\n1 1 -\n";
+      page = "UQS 1 threads 1 nodes 2 events 17 endings 2\n0 0 7\n1 1 -\n";
       reply = 0;
       places = 1 ∷ 0 ∷ 0 ∷ 0 ∷ 0 ∷ 1 ∷ [];
       held = [];
     }
     -- P4
     ∷ record {
-      schedule = schedule 1 (zeroNodes 2 0) (p3 5);
-      page = "UQS 1 threads 1 nodes 2 events 18 endings 1\n0 1 -\n";
+      schedule = schedule 1 (zeroNodes 2 0) (p3 6);
+      page = "UQS 1 threads 1 nodes 2 events 20 endings 1\n0 1 -\n";
       reply = 0;
       places = 1 ∷ 0 ∷ 0 ∷ 0 ∷ 0 ∷ 1 ∷ [];
       held = [];
     }
     -- P5: finish that dequeue, begin an enqueue: its first step answers Full, because node 0 is held
     ∷ record {
-      schedule = schedule 1 (zeroNodes 2 0) (p3 6 ++ enqueue 0 8 ++ step 1 0);
-      page = "UQS 1 threads 1 nodes 2 events 21 endings 1\n0 1 -\n";
+      schedule = schedule 1 (zeroNodes 2 0) (p3 7 ++ enqueue 0 8 ++ step 1 0);
+      page = "UQS 1 threads 1 nodes 2 events 23 endings 1\n0 1 -\n";
       reply = 2;
       places = 1 ∷ 0 ∷ 0 ∷ 1 ∷ 0 ∷ 0 ∷ [];
       held = 0 ∷ [];
@@ -100,7 +101,7 @@ starred =
     -- P6: N = 3, T = 2
     ∷ record {
       schedule = schedule 2 (zeroNodes 3 0) p6;
-      page = "UQS 1 threads 2 nodes 3 events 24 endings 3\n0 0 6\n1 0 6\n2 0 6\n";
+      page = "UQS 1 threads 2 nodes 3 events 25 endings 3\n0 0 6\n1 0 6\n2 0 6\n";
       reply = 1;
       places = 3 ∷ 0 ∷ 0 ∷ 0 ∷ 0 ∷ 0 ∷ [];
       held = [];
@@ -108,7 +109,7 @@ starred =
     -- P7
     ∷ record {
       schedule = schedule 2 (zeroNodes 3 0) (p6 ++ step 1 0);
-      page = "UQS 1 threads 2 nodes 3 events 25 endings 4\n0 0 6\n1 0 6\n2 0 6\n3 0 5 6\n";
+      page = "UQS 1 threads 2 nodes 3 events 26 endings 4\n0 0 6\n1 0 6\n2 0 6\n3 0 5 6\n";
       reply = 0;
       places = 3 ∷ 0 ∷ 0 ∷ 0 ∷ 0 ∷ 0 ∷ [];
       held = [];
@@ -175,7 +176,7 @@ pub starred-hold : allRight starred ≡ true
 unfolding allRight right starred p1 p3 p6 sameBytes lastAnswer sixPlaces heldBelow four enqueue dequeue step zeroNodes schedule
     least around any count tab joined over front text digitsOf decimal has with without wordOf
     noContents atW known widthOf topOf headsAt nodeSize headerSize marked formIn nodePlace readNodes imageIn recovered twins hasTwin firstTwin dummyOf firstUnclear startable sound imageAnswer
-    blankNodes idleThreads insert risen behind lastOf startWith nextFree releasedAt released others retired eventAt
+    blankNodes idleThreads noFlushed noSets lateAfter overAfter insert risen behind lastOf startWith nextFree releasedAt released others retired eventAt
     reached isHeld inEnqueue inDequeue scheduleIn eventsIn scheduleAnswer run ran
     headLines ownThreads perDesk imageSize shapeIn noHeads headsOf readHeads largest headOf lineAt putLine sameContent joins gathered contentsOf tableOf choices product imageOf endings
     tableIn firstCrowded tableAnswer pageAnswer endingCount

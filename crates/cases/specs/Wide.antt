@@ -13,8 +13,9 @@ use Rattle.image.specs.Form.{known, widthOf, topOf, headsAt, nodeSize, headerSi
 use Rattle.image.specs.Layout.{noContents, marked, formIn, headBytes, bodyBytes, imageBytes, readNodes, imageIn, sameContent, noHeads, headsOf, readHeads, shapeIn, markBytes}
 use Rattle.image.specs.Recovered.{largest, headOf, recovered, twins, hasTwin, firstTwin, dummyOf, firstUnclear}
 use Rattle.image.specs.Refusals.{startable, sound, imageAnswer}
-use Rattle.machine.specs.Record.{blankNodes, idleThreads}
+use Rattle.machine.specs.Record.{blankNodes, idleThreads, noFlushed, noSets}
 use Rattle.machine.specs.Line.{lineAt, putLine}
+use Rattle.machine.specs.Flush.{lateAfter, overAfter}
 use Rattle.machine.specs.Start.{insert, risen, behind, lastOf, startWith}
 use Rattle.machine.specs.Retire.{nextFree, releasedAt, released, others, retired}
 use Rattle.machine.specs.Event.{eventAt}
@@ -56,8 +57,8 @@ widest =
     }
     -- at the top of 32 bits it goes on: linked with index 4,294,967,296 and persisted
     ∷ record {
-      schedule = schedule 1 (wideNodes 2 4294967295) (p1 11);
-      page = "UQS 1 threads 1 nodes 2 events 12 endings 2\n0 4294967295 7\n1 4294967295 7\n";
+      schedule = schedule 1 (wideNodes 2 4294967295) (p1 12);
+      page = "UQS 1 threads 1 nodes 2 events 13 endings 2\n0 4294967295 7\n1 4294967295 7\n";
       reply = 1;
       places = 2 ∷ 0 ∷ 0 ∷ 0 ∷ 0 ∷ 0 ∷ [];
       held = [];
@@ -69,7 +70,7 @@ pub wide-hold : allRight (map onWide (take 9 starred) ++ widest) ≡ true
 unfolding widely onWide wideNodes widest bytesIn imageBytes markBytes headBytes bodyBytes allRight right starred p1 p3 p6 sameBytes lastAnswer sixPlaces heldBelow four enqueue dequeue step zeroNodes schedule
     least around any count tab joined over front text digitsOf decimal has with without wordOf
     noContents atW known widthOf topOf headsAt nodeSize headerSize marked formIn nodePlace readNodes imageIn recovered twins hasTwin firstTwin dummyOf firstUnclear startable sound imageAnswer
-    blankNodes idleThreads insert risen behind lastOf startWith nextFree releasedAt released others retired eventAt
+    blankNodes idleThreads noFlushed noSets lateAfter overAfter insert risen behind lastOf startWith nextFree releasedAt released others retired eventAt
     reached isHeld inEnqueue inDequeue scheduleIn eventsIn scheduleAnswer run ran
     headLines ownThreads perDesk imageSize shapeIn noHeads headsOf readHeads largest headOf lineAt putLine sameContent joins gathered contentsOf tableOf choices product imageOf endings
     tableIn firstCrowded tableAnswer pageAnswer endingCount

@@ -5,12 +5,12 @@ ghost use Prim.Native.Nat.{_≤_};
 ghost use Rattle.lists.specs.Find.{any};
 ghost use Rattle.machine.specs.Range.{flushesFit};
 ghost use Rattle.range.specs.Parts.{flushIn, badFlush, badSet};
+use super::set_fits;
 use image::Content;
 use image::Shape;
 use image::head_lines;
 use image::top_of;
 use machine::Machine;
-use super::set_fits;
 
 // What a thread has flushed, and who has flushed since.
 fn flush_fits(top: u64, t: u8, c: Content, late: u8) -> bool

@@ -1,4 +1,4 @@
--- 2,083 bytes with a record's mark and version, read as a record and written again are the bytes. Assumes nothing.
+-- 2,267 bytes with a record's mark and version, read as a record and written again are the bytes. Assumes nothing.
 use Prim.Native.Nat.{ℕ, _+_, _*_, _≤_, _<_}
 use mathlib.Core.Path.{_≡_, sym, ap, ap₂, _∙_}
 use mathlib.Core.Bool.{true}
@@ -15,8 +15,8 @@ use Rattle.lists.proofs.TabLaws as tabs
 use Rattle.image.specs.Bytes.{le4, at1, at4}
 use Rattle.image.proofs.ByteLaws as num
 use Rattle.image.specs.Layout.{marked, noContent, noContents, noHeads}
-use Rattle.machine.specs.Record.{zeroNode, zeroThread, blankNodes, idleThreads}
-use Rattle.record.specs.Layout.{recordSize, isRecord, le8, at8, headBytes, nodeBytes, threadBytes, longPart, nodePart, threadPart, recordBytes, longIn, nodeIn, keptIn, threadIn, recordIn}
+use Rattle.machine.specs.Record.{zeroNode, zeroThread, blankNodes, idleThreads, noFlushed, noSets}
+use Rattle.record.specs.Layout.{recordSize, isRecord, le8, at8, headBytes, nodeBytes, threadBytes, longPart, nodePart, threadPart, coreBytes, flushBytes, flushPart, setBytes, flushesBytes, recordBytes, longIn, nodeIn, keptIn, threadIn, flushIn, setIn, recordIn}
 
 module _ (s : List ℕ) (bytes : num.Bytes s) (size : length s ≡ recordSize) (mark : isRecord s ≡ true) where
   -- what stands from place p on
@@ -42,13 +42,13 @@ module _ (s : List ℕ) (bytes : num.Bytes s) (size : length s ≡ recordSize) (
       ∙ tabs.tab-same (λ k. getD s (p + j + k) 0) (λ k. from p (j + k)) 8 (λ k l. ap (λ (i : ℕ). getD s i 0) (add-assoc p j k))
 
   -- the mark and the version are these bytes
-  marks : (at1 s 0 ≡ 85) × (at1 s 1 ≡ 81) × (at1 s 2 ≡ 77) × (at1 s 3 ≡ 3) × (at1 s 4 ≡ 0)
+  marks : (at1 s 0 ≡ 85) × (at1 s 1 ≡ 81) × (at1 s 2 ≡ 77) × (at1 s 3 ≡ 4) × (at1 s 4 ≡ 0)
   unfolding marked
   marks =
       let a = both-true (eqb (at1 s 0) 85) _ mark in
       let b = both-true (eqb (at1 s 1) 81) _ (a .1) in
       let c = both-true (eqb (at1 s 2) 77) _ (b .1) in
-      let d = both-true (eqb (at1 s 3) 3) _ (c .1) in
+      let d = both-true (eqb (at1 s 3) 4) _ (c .1) in
       (eqb-true _ _ (a .0), eqb-true _ _ (b .0), eqb-true _ _ (c .0), eqb-true _ _ (d .0), eqb-true _ _ (d .1))
 
   head-there : headBytes (recordIn s) ≡ tab (λ j. getD s (0 + j) 0) 18
@@ -100,9 +100,9 @@ module _ (s : List ℕ) (bytes : num.Bytes s) (size : length s ≡ recordSize) (
   parts : (a b p : ℕ) → take a (drop p s) ++ take b (drop (p + a) s) ≡ take (a + b) (drop p s)
   parts a b p = sym (take-add a b (drop p s) ∙ ap (λ (l : List ℕ). take a (drop p s) ++ take b l) (drop-drop a p s))
 
-  pub there-and-back : recordBytes (recordIn s) ≡ s
-  unfolding recordBytes recordIn tab
-  there-and-back =
+  core-there : coreBytes (recordIn s) ≡ take 2083 s
+  unfolding coreBytes recordIn tab
+  core-there =
       let a : headBytes (recordIn s) ≡ take 18 s = head-there ∙ sym (tabs.take-drop-tab s 0 0 18 (omega arith)) in
       let x = row (longPart (recordIn s .heads)) 18 8 8 (omega arith) (λ i q. omega arith) (λ i q. long-there 18 i q (omega arith)) in
       let y = row (longPart (recordIn s .«kept_heads»)) 82 8 8 (omega arith) (λ i q. omega arith) (λ i q. long-there 82 i q (omega arith)) in
@@ -115,4 +115,32 @@ module _ (s : List ℕ) (bytes : num.Bytes s) (size : length s ≡ recordSize) (
       let g : take 64 (drop 18 s) ++ take 2001 (drop 82 s) ≡ take 2065 (drop 18 s) = parts 64 2001 18 in
       ap₂ join a (ap₂ join x (ap₂ join y (ap₂ join b (ap₂ join c l ∙ d) ∙ e) ∙ f) ∙ g)
       ∙ sym (take-add 18 2065 s)
-      ∙ take-all recordSize s (omega arith)
+
+  -- what is known of flushes
+  flush-there : (i : ℕ) → i < 8 → flushPart (recordIn s .flushed) i ≡ tab (λ j. getD s (2083 + i * 13 + j) 0) 13
+  unfolding recordIn flushPart flushIn tab
+  flush-there i h =
+      let at = 2083 + i * 13 in
+      ap flushBytes (tabs.front-at (flushIn s) 8 noFlushed i noContent h)
+      ∙ (let a = long-more at 1 (omega arith) in
+      let b = word-more at 9 (omega arith) in
+      λ t. byte-first at t ∷ (a t ++ b t))
+
+  sets-there : (p n : ℕ) → p + n ≤ length s → setBytes (front (setIn s p) n (noSets n)) n ≡ take n (drop p s)
+  unfolding setBytes setIn
+  sets-there p n h =
+      tabs.tab-same (λ i. getD (front (setIn s p) n (noSets n)) i 0) (λ i. getD s (p + i) 0) n (λ i l. tabs.front-at (setIn s p) n (noSets n) i 0 l)
+      ∙ sym (tabs.take-drop-tab s 0 p n h)
+
+  flushes-there : flushesBytes (recordIn s) ≡ take 184 (drop 2083 s)
+  unfolding flushesBytes recordIn
+  flushes-there =
+      let a = row (flushPart (recordIn s .flushed)) 2083 13 8 (omega arith) (λ i q. omega arith) flush-there in
+      let b = sets-there 2187 8 (omega arith) in
+      let c = sets-there 2195 8 (omega arith) in
+      let d = sets-there 2203 64 (omega arith) in
+      ap₂ join a (ap₂ join b (ap₂ join c d ∙ parts 8 64 2195) ∙ parts 8 72 2187) ∙ parts 104 80 2083
+
+  pub there-and-back : recordBytes (recordIn s) ≡ s
+  unfolding recordBytes
+  there-and-back = ap₂ join core-there flushes-there ∙ sym (take-add 2083 184 s) ∙ take-all recordSize s (omega arith)

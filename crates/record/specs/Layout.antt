@@ -1,20 +1,21 @@
--- A machine record as 2,083 bytes, little-endian, every field of it: 18 for the mark "UQM", version 3 (16 bits) and what stands alone,
+-- A machine record as 2,267 bytes, little-endian, every field of it: 18 for the mark "UQM", version 4 (16 bits) and what stands alone,
 -- 8 for each of the 8 head lines' indices and 8 for each persisted copy of them, 28 for each of the 64 nodes with its persisted copy,
--- 18 for each of the 8 threads, and behind them 1 for the node last handed out.
+-- 18 for each of the 8 threads, and behind them 1 for the node last handed out. Then what is known of flushes: 13 for what each thread has flushed,
+-- and sets of threads, a byte each: for each thread those that have flushed since, those over each of the 8 head lines, those over each of the 64 nodes.
 use Prim.Native.Nat.{ℕ, _+_, _*_}
 use mathlib.Core.Bool.{Bool, true, false, not}
 use mathlib.Core.List.{List, [], _∷_, _++_}
 use lib.ListN.{length, getD}
 use lib.Dec.{eqb, ltb}
 use Rattle.lists.specs.Find.{pick}
-use Rattle.lists.specs.Tab.{joined, front, over}
+use Rattle.lists.specs.Tab.{tab, joined, front, over}
 use Rattle.answer.specs.Answers.{check, accepted}
 use Rattle.answer.specs.declared.Answer.{Answer}
 use Rattle.answer.specs.declared.Answer.the-variants.{Taken, Length, Mark, Room}
 use Rattle.image.specs.Bytes.{le, atW, at1, at4, le4}
-use Rattle.image.specs.Layout.{marked, noContents, noHeads}
+use Rattle.image.specs.Layout.{marked, noContent, noContents, noHeads}
 use Rattle.image.specs.declared.Content.{Content}
-use Rattle.machine.specs.Record.{node, kept, thread, blankNodes, idleThreads}
+use Rattle.machine.specs.Record.{node, kept, thread, blankNodes, idleThreads, noFlushed, noSets}
 use Rattle.machine.specs.Start.{blankMachine}
 use Rattle.machine.specs.declared.Machine.{Machine}
 use Rattle.machine.specs.declared.Node.{Node}
@@ -30,16 +31,16 @@ abbrev pub at8 : List ℕ → ℕ → ℕ
 at8 = atW 8
 
 abbrev pub recordSize : ℕ
-recordSize = 2083
+recordSize = 2267
 
--- the mark "UQM" and version 3: a host that holds bytes of another layout is told
+-- the mark "UQM" and version 4: a host that holds bytes of another layout is told
 abbrev pub isRecord : List ℕ → Bool
-isRecord = marked 85 81 77 3
+isRecord = marked 85 81 77 4
 
 -- ---- to bytes
 
 abbrev pub headBytes : Machine → List ℕ
-headBytes m = 85 ∷ 81 ∷ 77 ∷ 3 ∷ 0 ∷ m .form ∷ m .n ∷ m .t ∷ m .head ∷ m .tail ∷ le8 (m .free)
+headBytes m = 85 ∷ 81 ∷ 77 ∷ 4 ∷ 0 ∷ m .form ∷ m .n ∷ m .t ∷ m .head ∷ m .tail ∷ le8 (m .free)
 
 abbrev pub nodeBytes : Node → Content → List ℕ
 nodeBytes v p =
@@ -60,11 +61,30 @@ nodePart m i = nodeBytes (node m i) (kept m i)
 unfoldable pub threadPart : Machine → ℕ → List ℕ
 threadPart m k = threadBytes (thread m k)
 
-unfoldable pub recordBytes : Machine → List ℕ
-recordBytes m =
+-- all but what is known of flushes: 2,083 bytes
+unfoldable pub coreBytes : Machine → List ℕ
+coreBytes m =
     headBytes m
     ++ (joined (longPart (m .heads)) 8
     ++ (joined (longPart (m .«kept_heads»)) 8 ++ (joined (nodePart m) 64 ++ (joined (threadPart m) 8 ++ (m .last ∷ [])))))
+
+-- what a thread has flushed
+abbrev pub flushBytes : Content → List ℕ
+flushBytes c = c .linked ∷ (le8 (c .index) ++ le4 (c .item))
+
+unfoldable pub flushPart : List Content → ℕ → List ℕ
+flushPart l k = flushBytes (getD l k noContent)
+
+-- n sets of threads
+unfoldable pub setBytes : List ℕ → ℕ → List ℕ
+setBytes l n = tab (λ i. getD l i 0) n
+
+-- what is known of flushes: 184 bytes
+unfoldable pub flushesBytes : Machine → List ℕ
+flushesBytes m = joined (flushPart (m .flushed)) 8 ++ (setBytes (m .late) 8 ++ (setBytes (m .«over_heads») 8 ++ setBytes (m .over) 64))
+
+unfoldable pub recordBytes : Machine → List ℕ
+recordBytes m = coreBytes m ++ flushesBytes m
 
 -- ---- from bytes
 
@@ -105,6 +125,15 @@ keptIn s i = readKept s (146 + i * 28)
 unfoldable pub threadIn : List ℕ → ℕ → Thread
 threadIn s k = readThread s (1938 + k * 18)
 
+abbrev pub readFlush : List ℕ → ℕ → Content
+readFlush s at = record { linked = at1 s at; index = at8 s (at + 1); item = at4 s (at + 9) }
+
+unfoldable pub flushIn : List ℕ → ℕ → Content
+flushIn s k = readFlush s (2083 + k * 13)
+
+unfoldable pub setIn : List ℕ → ℕ → ℕ → ℕ
+setIn s at i = at1 s (at + i)
+
 unfoldable pub recordIn : List ℕ → Machine
 recordIn s = record {
   form = at1 s 5;
@@ -119,11 +148,15 @@ recordIn s = record {
   kept = front (keptIn s) 64 noContents;
   threads = front (threadIn s) 8 idleThreads;
   last = at1 s 2082;
+  flushed = front (flushIn s) 8 noFlushed;
+  late = front (setIn s 2187) 8 (noSets 8);
+  «over_heads» = front (setIn s 2195) 8 (noSets 8);
+  over = front (setIn s 2203) 64 (noSets 64);
 }
 
 -- ---- the two calls
 
--- 1, then 2: there are 2,083 bytes, and they begin with mark and version. The record itself is not tested here
+-- 1, then 2: there are 2,267 bytes, and they begin with mark and version. The record itself is not tested here
 unfoldable pub readAnswer : List ℕ → Answer
 readAnswer s = check (not (eqb (length s) recordSize)) Length (check (not (isRecord s)) Mark Taken)
 

@@ -16,9 +16,9 @@ use reading::record_in;
 use writing::put_record;
 
 // The size of a record's bytes.
-pub const SIZE: usize = 2083;
+pub const SIZE: usize = 2267;
 
-// The record that 2,083 bytes are, or 1, or 2; the record is not tested.
+// The record that 2,267 bytes are, or 1, or 2; the record is not tested.
 pub fn read_record(s: &[u8]) -> Out
     ensures answers { λ r. ⌜ told (r .answer) ≡ told (readRecord (now (s .entry)) .answer) ⌝ }
     ensures machine { λ r. ⌜ r .machine ≡ readRecord (now (s .entry)) .machine ⌝ }
@@ -44,7 +44,7 @@ pub fn read_record(s: &[u8]) -> Out
     }
 }
 
-// Writes the record, untested, into the first 2,083 bytes of the buffer, or nothing and 17.
+// Writes the record, untested, into the first 2,267 bytes of the buffer, or nothing and 17.
 pub fn write_record(m: Machine, b: &mut [u8]) -> Answer
     ensures answers { λ r. ⌜ told r ≡ told (recordAnswer (length (now (b .entry)))) ⌝ }
     ensures bytes { λ r. ⌜ now (b .exit) ≡ recordWritten m (now (b .entry)) ⌝ }

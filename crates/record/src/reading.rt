@@ -4,8 +4,8 @@ ghost use Prim.Native.Nat.{_+_, _≤_};
 ghost use lib.ListN.{length};
 ghost use Rattle.lists.specs.Tab.{front};
 ghost use Rattle.image.specs.Layout.{noContents, noHeads};
-ghost use Rattle.machine.specs.Record.{blankNodes, idleThreads};
-ghost use Rattle.record.specs.Layout.{recordSize, isRecord, readNode, readKept, readThread, longIn, nodeIn, keptIn, threadIn, recordIn};
+ghost use Rattle.machine.specs.Record.{blankNodes, idleThreads, noFlushed, noSets};
+ghost use Rattle.record.specs.Layout.{recordSize, isRecord, readNode, readKept, readThread, longIn, nodeIn, keptIn, threadIn, readFlush, flushIn, setIn, recordIn};
 use codec::long_at;
 use codec::word_at;
 use image::Content;
@@ -16,6 +16,9 @@ use machine::Node;
 use machine::Thread;
 use machine::blank::blank_nodes;
 use machine::blank::idle_threads;
+use machine::blank::no_flushed;
+use machine::blank::no_node_sets;
+use machine::blank::no_sets;
 
 // Whether the bytes begin with a record's mark and version.
 pub fn is_record(s: &[u8]) -> bool
@@ -31,7 +34,7 @@ pub fn is_record(s: &[u8]) -> bool
     if s[2] != 77 {
         return false;
     }
-    if s[3] != 3 {
+    if s[3] != 4 {
         return false;
     }
     s[4] == 0
@@ -140,6 +143,62 @@ fn threads_in(s: &[u8]) -> [Thread; 8]
     l
 }
 
+fn flush_at(s: &[u8], at: usize) -> Content
+    requires { ⌜ at + 13 ≤ length (now s) ⌝ }
+    ensures { λ r. ⌜ r ≡ readFlush (now (s .entry)) at ⌝ }
+{
+    let index = long_at(s, at + 1);
+    let item = word_at(s, at + 9);
+    Content {
+        linked: s[at],
+        index,
+        item,
+    }
+}
+
+// What each thread has flushed.
+fn flushed_in(s: &[u8]) -> [Content; 8]
+    requires { ⌜ recordSize ≤ length (now s) ⌝ }
+    ensures { λ r. ⌜ r ≡ front (flushIn (now (s .entry))) 8 noFlushed ⌝ }
+{
+    let mut l = no_flushed();
+    let mut i = 0;
+    while i < 8 {
+        let v = flush_at(s, 2083 + i * 13);
+        l[i] = v;
+        i += 1;
+    }
+    l
+}
+
+// The eight sets of threads from a place on, one for each thread or for each head line.
+fn sets_in(s: &[u8], at: usize) -> [u8; 8]
+    requires { ⌜ (at ≤ 2195) × (recordSize ≤ length (now s)) ⌝ }
+    ensures { λ r. ⌜ r ≡ front (setIn (now (s .entry)) at) 8 (noSets 8) ⌝ }
+{
+    let mut l = no_sets();
+    let mut i = 0;
+    while i < 8 {
+        l[i] = s[at + i];
+        i += 1;
+    }
+    l
+}
+
+// One for each node.
+fn node_sets_in(s: &[u8]) -> [u8; 64]
+    requires { ⌜ recordSize ≤ length (now s) ⌝ }
+    ensures { λ r. ⌜ r ≡ front (setIn (now (s .entry)) 2203) 64 (noSets 64) ⌝ }
+{
+    let mut l = no_node_sets();
+    let mut i = 0;
+    while i < 64 {
+        l[i] = s[2203 + i];
+        i += 1;
+    }
+    l
+}
+
 pub fn record_in(s: &[u8]) -> Machine
     requires { ⌜ recordSize ≤ length (now s) ⌝ }
     ensures { λ r. ⌜ r ≡ recordIn (now (s .entry)) ⌝ }
@@ -150,6 +209,10 @@ pub fn record_in(s: &[u8]) -> Machine
     let nodes = nodes_in(s);
     let kept = kept_in(s);
     let threads = threads_in(s);
+    let flushed = flushed_in(s);
+    let late = sets_in(s, 2187);
+    let over_heads = sets_in(s, 2195);
+    let over = node_sets_in(s);
     Machine {
         form: s[5],
         n: s[6],
@@ -163,5 +226,9 @@ pub fn record_in(s: &[u8]) -> Machine
         kept,
         threads,
         last: s[2082],
+        flushed,
+        late,
+        over_heads,
+        over,
     }
 }

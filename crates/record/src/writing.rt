@@ -3,7 +3,7 @@ ghost use mathlib.Core.Path.{_≡_};
 ghost use Prim.Native.Nat.{_+_, _≤_};
 ghost use lib.ListN.{length};
 ghost use Rattle.lists.specs.Tab.{over, joined};
-ghost use Rattle.record.specs.Layout.{recordSize, le8, headBytes, nodeBytes, threadBytes, longPart, nodePart, threadPart, recordBytes};
+ghost use Rattle.record.specs.Layout.{recordSize, le8, headBytes, nodeBytes, threadBytes, longPart, nodePart, threadPart, coreBytes, flushBytes, flushPart, setBytes, recordBytes};
 use image::Content;
 use machine::Machine;
 use machine::Node;
@@ -88,7 +88,7 @@ fn head_bytes(m: Machine) -> [u8; 18]
         85,
         81,
         77,
-        3,
+        4,
         0,
         m.form,
         m.n,
@@ -158,9 +158,54 @@ fn put_threads(b: &mut [u8], m: Machine)
     }
 }
 
-pub fn put_record(b: &mut [u8], m: Machine)
+fn flush_bytes(c: Content) -> [u8; 13]
+    ensures { λ r. ⌜ r ≡ flushBytes c ⌝ }
+{
+    [
+        c.linked,
+        (c.index % 256) as u8,
+        (c.index / 256 % 256) as u8,
+        (c.index / 256 / 256 % 256) as u8,
+        (c.index / 256 / 256 / 256 % 256) as u8,
+        (c.index / 256 / 256 / 256 / 256 % 256) as u8,
+        (c.index / 256 / 256 / 256 / 256 / 256 % 256) as u8,
+        (c.index / 256 / 256 / 256 / 256 / 256 / 256 % 256) as u8,
+        (c.index / 256 / 256 / 256 / 256 / 256 / 256 / 256 % 256) as u8,
+        (c.item % 256) as u8,
+        (c.item / 256 % 256) as u8,
+        (c.item / 256 / 256 % 256) as u8,
+        (c.item / 256 / 256 / 256 % 256) as u8,
+    ]
+}
+
+// What each thread has flushed.
+fn put_flushed(b: &mut [u8], l: [Content; 8])
     requires { ⌜ recordSize ≤ length (now b) ⌝ }
-    ensures { λ _. ⌜ now (b .exit) ≡ over (now (b .entry)) 0 (recordBytes m) ⌝ }
+    ensures { λ _. ⌜ now (b .exit) ≡ over (now (b .entry)) 2083 (joined (flushPart l) 8) ⌝ }
+{
+    let mut i = 0;
+    while i < 8 {
+        let c = l[i];
+        let a = flush_bytes(c);
+        copy(b, 2083 + i * 13, &a);
+        i += 1;
+    }
+}
+
+// The sets of threads, each a byte.
+fn put_sets(b: &mut [u8], late: [u8; 8], heads: [u8; 8], nodes: [u8; 64])
+    requires { ⌜ recordSize ≤ length (now b) ⌝ }
+    ensures { λ _. ⌜ now (b .exit) ≡ over (over (over (now (b .entry)) 2187 (setBytes late 8)) 2195 (setBytes heads 8)) 2203 (setBytes nodes 64) ⌝ }
+{
+    copy(b, 2187, &late);
+    copy(b, 2195, &heads);
+    copy(b, 2203, &nodes);
+}
+
+// All but what is known of flushes.
+fn put_core(b: &mut [u8], m: Machine)
+    requires { ⌜ recordSize ≤ length (now b) ⌝ }
+    ensures { λ _. ⌜ now (b .exit) ≡ over (now (b .entry)) 0 (coreBytes m) ⌝ }
 {
     let heads = m.heads;
     let kept_heads = m.kept_heads;
@@ -171,4 +216,17 @@ pub fn put_record(b: &mut [u8], m: Machine)
     put_nodes(b, m);
     put_threads(b, m);
     b[2082] = m.last;
+}
+
+pub fn put_record(b: &mut [u8], m: Machine)
+    requires { ⌜ recordSize ≤ length (now b) ⌝ }
+    ensures { λ _. ⌜ now (b .exit) ≡ over (now (b .entry)) 0 (recordBytes m) ⌝ }
+{
+    let flushed = m.flushed;
+    let late = m.late;
+    let over_heads = m.over_heads;
+    let over = m.over;
+    put_core(b, m);
+    put_flushed(b, flushed);
+    put_sets(b, late, over_heads, over);
 }
