@@ -15,6 +15,7 @@ sys.path.insert(0, os.path.dirname(os.path.dirname(os.path.abspath(__file__))))
 from drawing.page import page
 
 LARGE = 2000              # so many endings are put together as images; of more the printed page alone is compared
+PLACES = 64               # so many contents of a line `explain` keeps apart
 
 # an index by the mark and version of an image
 INDEX = {b"UQI\1\0": "I", b"UQI\2\0": "Q", b"UQP\1\0": "I"}
@@ -139,6 +140,21 @@ def names_of(start):
     return heads + ["node %d" % i for i in range(start[5])]
 
 
+def places_of(rows):
+    """Each content row, and its place in its line's list: the contents from the one on that the line had at the last start or `persist` says, each once."""
+    held = {}
+    for row in rows:
+        if row[0] == "start":
+            held = {}
+        elif row[0] == "content":
+            e, line, content = -1 if row[1] == "-" else int(row[1]), held.setdefault(row[2], []), tuple(row[4:])
+            line.append((e, content))
+            yield row, list(dict.fromkeys(c for _, c in line)).index(content)
+        elif row[0] == "persist":
+            since, line = int(row[4] if len(row) > 4 else row[1]), held[row[2]]
+            held[row[2]] = [c for c in line if c[0] <= since][-1:] + [c for c in line if c[0] > since]
+
+
 def wrong_beside(start, rows, second):
     """What is not as the second program has it; `start` is the start image."""
     count, images, total = second
@@ -153,6 +169,8 @@ def wrong_beside(start, rows, second):
 def wrong_with(schedule, explain, endings, second):
     text = printed(explain + " columns", schedule)
     rows = [line.split("\t") for line in text.splitlines()]
+    if any(int(row[3]) != min(place, PLACES) for row, place in places_of(rows)):
+        yield "the place of a content is not that in its line's list"
     page_lines = printed(endings, schedule).splitlines()
     if lines_of_page(rows) != (page_lines if second is None else page_lines[1:]):
         yield "its rows are not the printed page"

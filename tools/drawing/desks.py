@@ -3,7 +3,7 @@ from collections import namedtuple
 
 from . import words
 from .layout import LABEL
-from .marks import CACHE_EDGE, CACHE_FILL, GREY, INK, fit, tw
+from .marks import CACHE_EDGE, CACHE_FILL, GREY, HALF, INK, fit, tw
 
 # an operation: its begin, its events, and the one that answered it
 Op = namedtuple("Op", "begin events end")
@@ -82,20 +82,20 @@ def begin_box(d, k, ev, boxes, tip):
 
 def step_box(d, k, ev, boxes, tip):
     s, x, half = d.svg, d.x(ev.e), d.cw / 2
-    stored, saved = bool(ev.contents), ev.persist is not None
+    stored, flushed, saved = bool(ev.contents), ev.flush is not None, ev.persist is not None
     what = "event %d, desk %d: %s, %s" % (ev.e, k, ev.step, words.step(d.run, ev.step))
     if ev.answer is not None:
         what += "; answers " + ev.answer
     if d.names:
         s.rect(x - half + 1, boxes.top, d.cw - 2, boxes.height,
-               INK if saved else CACHE_FILL if stored else "#ffffff", INK if saved or not stored else CACHE_EDGE,
+               INK if saved else HALF if flushed else CACHE_FILL if stored else "#ffffff", INK if saved or not stored else CACHE_EDGE,
                1.3 if stored else 0.8, 1.5, what)
         s.text(x, boxes.mid + 3.4, ev.step, min(10.2, d.cw * 0.44), "#ffffff" if saved else INK,
-               stored or saved, "middle", title=what)
+               stored or flushed or saved, "middle", title=what)
         return
     w = max(1.1, d.cw * 0.45)
-    if saved:
-        s.rect(x - w * 0.8, boxes.top, w * 1.6, boxes.height, INK, title=what)
+    if saved or flushed:
+        s.rect(x - w * 0.8, boxes.top, w * 1.6, boxes.height, INK if saved else HALF, title=what)
     elif stored:
         s.rect(x - w / 2, boxes.top + 1.5, w, boxes.height - 3, CACHE_EDGE, title=what)
     else:

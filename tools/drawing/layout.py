@@ -47,7 +47,8 @@ class Layout:
         for line in self.touched:
             last = self.blocks[line][-1]
             if last.a is not None:
-                tail = max(tail, min(96, self.svg.width(last.content, self.fs) + 26 - (after - self.x(last.a))))
+                behind = max([last.a] + [e for e, _ in self.marks[line] + self.flushes[line]])
+                tail = max(tail, min(96, self.svg.width(last.content, self.fs) + 26 - (after - self.x(behind))))
         self.x_stop = after + tail
 
     def x(self, e):

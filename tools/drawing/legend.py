@@ -1,9 +1,7 @@
 """What the marks mean: one strip below the drawing."""
 from .columns import Content
 from .layout import LABEL
-from .marks import CACHE_EDGE, CACHE_FILL, INK, PALE, RULE, tw
-
-HALF = "#9a9a9a"
+from .marks import CACHE_EDGE, CACHE_FILL, HALF, INK, PALE, RULE, tw
 
 
 class Strip:
@@ -43,8 +41,11 @@ def steps(d, strip):
     strip.entry(22, "step", box(22, "A5", "#ffffff", INK, 0.8, INK, False, lambda x, m: s.rect(x + 9, m - 3, 2, 6, "#5d5d5d")))
     strip.entry(22, "step that changed a line's content", box(
         22, "A9", CACHE_FILL, CACHE_EDGE, 1.3, INK, True, lambda x, m: s.rect(x + 9, m - 5, 2, 10, CACHE_EDGE)))
+    if any(d.flushes.values()):
+        strip.entry(24, "step that flushed a line", box(
+            24, "A10", HALF, INK, 0.8, INK, True, lambda x, m: s.rect(x + 8, m - 6, 3, 12, HALF)))
     strip.entry(24, "step that persisted a line", box(
-        24, "A10", INK, INK, 1, "#ffffff", True, lambda x, m: s.rect(x + 8, m - 6, 3, 12, INK)))
+        24, "F10", INK, INK, 1, "#ffffff", True, lambda x, m: s.rect(x + 8, m - 6, 3, 12, INK)))
     strip.entry(24, "operation, from begin to answer",
                 lambda x, m: (s.rect(x, m - 2.5, 24, 5, "#b9b9b9"), s.line(x + 24, m - 7, x + 24, m + 7, INK, 2)))
 

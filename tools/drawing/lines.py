@@ -1,10 +1,8 @@
 """A line's lane: a block for each content, a diamond where it was persisted, the fan at the stop."""
 from .columns import LETTERS
 from .layout import LABEL
-from .marks import CACHE_EDGE, CACHE_FILL, GREY, INK, PALE, tw
+from .marks import CACHE_EDGE, CACHE_FILL, GREY, HALF, INK, PALE, tw
 from .words import in_words
-
-HALF = "#9a9a9a"          # a flush: asked for, not yet assured
 
 
 def untouched_lane(d, lines, y, h):
@@ -32,7 +30,7 @@ def line_lane(d, line, y, h):
             if p.by == "write-back":
                 diamond(d, line, e, mid, "#ffffff", "is written back", "")
             else:
-                diamond(d, line, e, mid, INK, "is persisted", ", by " + p.by)
+                diamond(d, line, e, mid, INK, "is persisted", ", by " + p.by + (", as it was at event %d" % p.since if p.since < e else ""))
     else:
         still(d, line, mid)
     fan(d, line, mid, kept)
@@ -71,13 +69,11 @@ def block_mark(d, line, block, mid):
     letter = d.letter(line, block.content) if in_cache else None
     tip = block_words(d, line, block, in_cache, letter)
     s.rect(xa, mid - bh / 2, xb - xa, bh, fill, edge, sw, 2, tip)
-    room, tx = xb - xa - 6, xa + 5
-    if any(e == block.a for e, _ in d.marks[line]):       # the diamond stands there
-        room -= bh * 0.36
-        tx += bh * 0.36
     r = 6.2 if d.names else 4.9
     kept = d.run.kept.get(line, [])
-    if letter is not None and len(kept) > 1 and room >= 2 * r + 1:
+    badged = letter is not None and len(kept) > 1
+    tx, room = room_in(d, line, xa, xb, s.width(block.content, d.fs) + 1 + (2 * r + 2.5 if badged else 0))
+    if badged and room >= 2 * r + 1:
         s.badge(tx + r - 1.5, mid, letter, len(kept), r, tip)
         tx += 2 * r + 2.5
         room -= 2 * r + 2.5
@@ -85,6 +81,17 @@ def block_mark(d, line, block, mid):
         if s.width(block.content, size) <= room - 1:
             s.content(tx, mid + size * 0.36, block.content, size, ink, title=tip)
             break
+
+
+def room_in(d, line, xa, xb, wanted):
+    """Where a block's words begin, and their room: the first stretch without a diamond that is wide enough, else the widest."""
+    reach, left, rooms = d.block_h * 0.36, xa + 5, []
+    for x in sorted({d.x(e) for e, _ in d.marks[line] + d.flushes[line] if e in d.column and xa <= d.x(e) < xb}):
+        if x > xa:
+            rooms.append((left, x - reach - 2 - left))
+        left = x + reach + 5
+    rooms.append((left, xb - 1 - left))
+    return next((r for r in rooms if r[1] >= wanted), max(rooms, key=lambda r: r[1]))
 
 
 def block_words(d, line, block, in_cache, letter):

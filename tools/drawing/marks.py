@@ -5,6 +5,7 @@ from .columns import LETTERS
 
 INK, GREY, PALE, RULE = "#1b1b1b", "#6a6a6a", "#a9a9a9", "#dcdcdc"
 CACHE_FILL, CACHE_EDGE = "#ffe9b8", "#8a5a00"
+HALF = "#9a9a9a"          # a flush: asked for, not yet assured
 RED = "#b00020"
 # tints of the queues (fill, edge), told apart by their tag Q1, Q2, .. as well
 TINTS = [("#d9ecf7", "#0a6aa6"), ("#f7ddd0", "#b34a00"), ("#d8efe4", "#00785a"), ("#efdfeb", "#8d3c70"),

@@ -1,19 +1,24 @@
 """What steps, contents and refusals are in words."""
 
 STEPS = {
-    "A1": "takes the lowest-numbered free node", "A2": "item stored", "A3": "next set to none",
+    "A1": "takes the first free node after the one last handed out", "A2": "item stored", "A3": "next set to none",
     "A4": "linked set to 0", "A5": "Tail read as t", "A6": "next of t read",
     "A7": "index set to t's index + 1", "A8": "becomes t's next, if that is none",
-    "A9": "linked set to 1", "A10": "the node's line is flushed", "F10": "the fence: what was flushed is persisted, or something later",
+    "A9": "linked set to 1", "A10": "the node's line is flushed",
+    "F10": "waits: the node's line as it was at the flush is persisted, or something later",
     "A11": "Tail becomes the new node if it is still t", "A12": "Tail becomes t's next if it is still t",
-    "D1": "Head read", "D2": "next of that node read", "D3": "the head line is flushed", "F3": "the fence, Empty",
+    "D1": "Head read", "D2": "next of that node read", "D3": "line 0 is flushed",
+    "F3": "waits: line 0 as it was at the flush is persisted, or something later; Empty",
     "D4": "Head moves on, if it is still the pair read", "D5": "item of the next node read",
-    "D6": "the head line is flushed", "F6": "the fence", "D7": "the node held before is retired, the old dummy is held",
+    "D6": "line 0 is flushed", "F6": "waits: line 0 as it was at the flush is persisted, or something later",
+    "D7": "the node held before is retired, the old dummy is held",
     "S3": "the index of the node found last stored in its head line", "S6": "the new dummy's index stored in its head line",
 }
 # where each desk has a head line of its own
 OWN_HEADS = {
     "D3": "its head line is flushed", "D4": "Head moves on, if it is still the node read", "D6": "its head line is flushed",
+    "F3": "waits: its head line as it was at the flush is persisted, or something later; Empty",
+    "F6": "waits: its head line as it was at the flush is persisted, or something later",
 }
 KINDS = {"1": "begin an enqueue", "2": "begin a dequeue", "3": "a step", "4": "a write-back", "5": "a crash",
          "6": "begin an enqueue on queue 1", "7": "begin a dequeue on queue 1"}

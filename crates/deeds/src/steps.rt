@@ -2,6 +2,8 @@
 use compare::text::put_all;
 use machine::Machine;
 use machine::Thread;
+use telling::fences::fence_line;
+use telling::fences::is_over;
 use telling::lines::cached_of;
 use telling::lines::thread_of;
 use telling::shapes::per_desk;
@@ -123,7 +125,7 @@ fn enqueue_deed(
         Machine::A7 => a7(out, at, b, th, after),
         Machine::A8 => a8(out, at, b, th),
         Machine::A9 => said(out, at, b"linked of node ", node, b" set to 1"),
-        Machine::A10 => said(out, at, b"the line of node ", node, b" is persisted"),
+        Machine::A10 => said(out, at, b"the line of node ", node, b" is flushed"),
         _ => tail_moves(out, at, m, after, b.tail),
     }
 }
@@ -176,12 +178,18 @@ fn index_stored(out: &mut [u8; 65536], at: usize, m: Machine, i: u8) -> usize {
     )
 }
 
-// D3 and D6.
-fn head_persisted(out: &mut [u8; 65536], at: usize, m: Machine) -> usize {
+// The head line that the desk flushes and waits for.
+fn own_line(out: &mut [u8; 65536], at: usize, m: Machine) -> usize {
     if per_desk(shape_of(m)) {
-        return put_all(out, at, b"its head line is persisted");
+        return put_all(out, at, b"its head line");
     }
-    put_all(out, at, b"the line of Head is persisted")
+    put_all(out, at, b"the line of Head")
+}
+
+// D3 and D6.
+fn head_flushed(out: &mut [u8; 65536], at: usize, m: Machine) -> usize {
+    let first = own_line(out, at, m);
+    put_all(out, first, b" is flushed")
 }
 
 fn d7(out: &mut [u8; 65536], at: usize, b: Thread) -> usize {
@@ -222,14 +230,39 @@ fn dequeue_deed(
         Machine::D7 => d7(out, at, b),
         Machine::S3 => index_stored(out, at, m, b.head),
         Machine::S6 => index_stored(out, at, m, b.next),
-        _ => head_persisted(out, at, m),
+        _ => head_flushed(out, at, m),
     }
+}
+
+// F10, F3 and F6, of the line.
+fn fence_deed(out: &mut [u8; 65536], at: usize, k: u8, b: Thread, m: Machine, line: u8) -> usize {
+    let first = put_all(out, at, b"waits at the fence: ");
+    if is_over(m, line, k) {
+        return put_all(
+            out,
+            first,
+            b"what is persisted is later than the flush and stays",
+        );
+    }
+    let mut second = first;
+    if b.step == Machine::F10 {
+        let next = said(out, first, b"the line of node ", b.node as u64, b"");
+        second = next;
+    } else {
+        let next = own_line(out, first, m);
+        second = next;
+    }
+    put_all(out, second, b" is persisted as it was at the flush")
 }
 
 // What the step of thread k did.
 pub fn deed(out: &mut [u8; 65536], at: usize, k: u8, m: Machine, after: Machine) -> usize {
     let b = thread_of(m, k);
     let th = thread_of(after, k);
+    let line = fence_line(shape_of(m), k, b);
+    if line < 255 {
+        return fence_deed(out, at, k, b, m, line);
+    }
     if b.step <= Machine::A12 {
         return enqueue_deed(out, at, b, th, m, after);
     }

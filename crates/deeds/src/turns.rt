@@ -3,18 +3,21 @@ use crate::steps::deed;
 use answer::Told;
 use compare::text::put;
 use compare::text::put_all;
-use image::Shape;
 use machine::Event;
 use machine::Machine;
-use machine::Thread;
+use telling::fences::fence_line;
+use telling::fences::fenced;
+use telling::fences::flush_line;
+use telling::fences::flush_of;
+use telling::fences::flushed;
+use telling::fences::is_over;
+use telling::fences::joined_since;
 use telling::lines::begun;
 use telling::lines::cached_of;
 use telling::lines::joined;
 use telling::lines::same;
 use telling::lines::thread_of;
-use telling::shapes::head_line;
 use telling::shapes::line_total;
-use telling::shapes::node_line;
 use telling::shapes::shape_of;
 use telling::starts::content_row;
 use telling::starts::started;
@@ -56,7 +59,7 @@ fn changed(
     out: &mut [u8; 65536],
     at: usize,
     columns: bool,
-    book: &mut [u64; 9288],
+    book: &mut [u64; 10328],
     i: u16,
     line: u8,
     m: Machine,
@@ -67,6 +70,7 @@ fn changed(
         return at;
     }
     let j = joined(book, line, c);
+    joined_since(book, m, line, c);
     let z = shape_of(after);
     if columns {
         return content_row(out, at, (i as usize) + 1, z, line, j, c);
@@ -81,7 +85,7 @@ fn changes(
     out: &mut [u8; 65536],
     at: usize,
     columns: bool,
-    book: &mut [u64; 9288],
+    book: &mut [u64; 10328],
     i: u16,
     m: Machine,
     after: Machine,
@@ -97,40 +101,81 @@ fn changes(
     place
 }
 
-// A10, D3, D6 and a write-back: the line's list begins anew.
-fn persisted(
+// A row's line and step, behind its event.
+fn of_line(out: &mut [u8; 65536], at: usize, line: u8, step: u8) -> usize {
+    let first = field(out, at, line as u64);
+    let second = put(out, first, b'\t');
+    step_name(out, second, step)
+}
+
+// A10, D3 and D6: the contents from here on are kept apart until the fence.
+fn flushes(
     out: &mut [u8; 65536],
     at: usize,
     columns: bool,
-    book: &mut [u64; 9288],
+    book: &mut [u64; 10328],
     i: u16,
+    k: u8,
     line: u8,
-    after: Machine,
+    m: Machine,
     step: u8,
 ) -> usize {
-    begun(book, line, cached_of(after, line));
+    flushed(book, k, cached_of(m, line), i);
+    if !columns {
+        return at;
+    }
+    let first = row(out, at, b"flush", i);
+    let last = of_line(out, first, line, step);
+    end(out, last)
+}
+
+// F10, F3 and F6: the line's list begins with the content at the flush, unless what is persisted is later.
+fn waits(
+    out: &mut [u8; 65536],
+    at: usize,
+    columns: bool,
+    book: &mut [u64; 10328],
+    i: u16,
+    k: u8,
+    line: u8,
+    m: Machine,
+    step: u8,
+) -> usize {
+    if is_over(m, line, k) {
+        return at;
+    }
+    fenced(book, k, line);
     if !columns {
         return at;
     }
     let first = row(out, at, b"persist", i);
-    let second = field(out, first, line as u64);
-    if step == 0 {
-        return put_all(out, second, b"\twrite-back\n");
-    }
-    let third = put(out, second, b'\t');
-    let last = step_name(out, third, step);
+    let second = of_line(out, first, line, step);
+    let since = flush_of(book, k);
+    let last = field(out, second, since);
     end(out, last)
 }
 
-// The line that desk k persists by its step, 255 where it persists none.
-fn persists(z: Shape, k: u8, th: Thread) -> u8 {
-    let step = th.step;
-    match step {
-        Machine::A10 => node_line(z, th.node),
-        Machine::D3 => head_line(z, k),
-        Machine::D6 => head_line(z, k),
-        _ => 255,
+// What desk k's step did to the line that it flushes or waits for.
+fn assured(
+    out: &mut [u8; 65536],
+    at: usize,
+    columns: bool,
+    book: &mut [u64; 10328],
+    i: u16,
+    k: u8,
+    m: Machine,
+) -> usize {
+    let z = shape_of(m);
+    let th = thread_of(m, k);
+    let line = flush_line(z, k, th);
+    if line < 255 {
+        return flushes(out, at, columns, book, i, k, line, m, th.step);
     }
+    let awaited = fence_line(z, k, th);
+    if awaited < 255 {
+        return waits(out, at, columns, book, i, k, awaited, m, th.step);
+    }
+    at
 }
 
 fn reply_words(out: &mut [u8; 65536], at: usize, reply: u8) -> usize {
@@ -183,7 +228,7 @@ fn stepped(
     out: &mut [u8; 65536],
     at: usize,
     columns: bool,
-    book: &mut [u64; 9288],
+    book: &mut [u64; 10328],
     i: u16,
     k: u8,
     m: Machine,
@@ -198,12 +243,7 @@ fn stepped(
     }
     let z = shape_of(m);
     let first = changes(out, place, columns, book, i, m, after, line_total(z));
-    let mut second = first;
-    let line = persists(z, k, th);
-    if line < 255 {
-        let next = persisted(out, first, columns, book, i, line, after, th.step);
-        second = next;
-    }
+    let second = assured(out, first, columns, book, i, k, m);
     let last = answered(out, second, columns, i, k, t);
     if columns {
         return last;
@@ -211,20 +251,23 @@ fn stepped(
     end(out, last)
 }
 
+// A write-back: the line's list begins anew.
 fn written_back(
     out: &mut [u8; 65536],
     at: usize,
     columns: bool,
-    book: &mut [u64; 9288],
+    book: &mut [u64; 10328],
     i: u16,
     line: u8,
     after: Machine,
 ) -> usize {
-    let place = persisted(out, at, columns, book, i, line, after, 0);
+    begun(book, line, cached_of(after, line));
     if columns {
-        return place;
+        let first = row(out, at, b"persist", i);
+        let second = field(out, first, line as u64);
+        return put_all(out, second, b"\twrite-back\n");
     }
-    let first = said(out, place, b"", i as u64, b"  ");
+    let first = said(out, at, b"", i as u64, b"  ");
     let second = line_words(out, first, shape_of(after), line);
     put_all(out, second, b" is written back\n")
 }
@@ -234,7 +277,7 @@ pub fn happened(
     out: &mut [u8; 65536],
     at: usize,
     columns: bool,
-    book: &mut [u64; 9288],
+    book: &mut [u64; 10328],
     i: u16,
     e: Event,
     m: Machine,

@@ -79,7 +79,7 @@ fn events_told(
     out: &mut [u8; 65536],
     at: usize,
     columns: bool,
-    book: &mut [u64; 9288],
+    book: &mut [u64; 10328],
     s: &[u8],
     start: Machine,
     count: usize,
@@ -129,7 +129,7 @@ fn endings_told(
     out: &mut [u8; 65536],
     at: usize,
     how: Asked,
-    book: &mut [u64; 9288],
+    book: &mut [u64; 10328],
     s: &[u8],
     m: Machine,
     count: u32,
@@ -169,7 +169,7 @@ fn stop_told(
     out: &mut [u8; 65536],
     at: usize,
     how: Asked,
-    book: &mut [u64; 9288],
+    book: &mut [u64; 10328],
     s: &[u8],
     m: Machine,
 ) -> usize {
@@ -193,7 +193,7 @@ fn run_told(
     out: &mut [u8; 65536],
     at: usize,
     how: Asked,
-    book: &mut [u64; 9288],
+    book: &mut [u64; 10328],
     s: &[u8],
     d: Schedule,
 ) -> usize {
@@ -227,7 +227,7 @@ fn shape_said(s: &[u8]) -> Shape {
     codec::shape_in(&s[8..])
 }
 
-fn explained(out: &mut [u8; 65536], how: Asked, book: &mut [u64; 9288], s: &[u8]) -> usize {
+fn explained(out: &mut [u8; 65536], how: Asked, book: &mut [u64; 10328], s: &[u8]) -> usize {
     let mut place = 0;
     if how.columns {
         let next = put_all(out, 0, b"columns\t1\n");
@@ -263,7 +263,7 @@ fn main() {
         return;
     }
     let mut out = [0u8; 65536];
-    let mut book = [0u64; 9288];
+    let mut book = [0u64; 10328];
     let bytes = got.bytes;
     let at = explained(&mut out, how, &mut book, &s[..bytes]);
     finish(&out, at);

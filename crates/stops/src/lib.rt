@@ -58,7 +58,7 @@ pub fn next_steps(out: &mut [u8; 65536], at: usize, columns: bool, m: Machine, n
 }
 
 // The contents of a line as the public call has them, into the book.
-fn line_called(s: &[u8], book: &mut [u64; 9288], line: u8) {
+fn line_called(s: &[u8], book: &mut [u64; 10328], line: u8) {
     let r = pages::line_contents(s, line as u32);
     let contents = r.contents;
     let c = contents[0];
@@ -73,7 +73,7 @@ fn line_called(s: &[u8], book: &mut [u64; 9288], line: u8) {
     }
 }
 
-pub fn lines_called(s: &[u8], book: &mut [u64; 9288], n: u8) {
+pub fn lines_called(s: &[u8], book: &mut [u64; 10328], n: u8) {
     let mut line: u8 = 0;
     while line < n {
         line_called(s, book, line);
@@ -108,7 +108,7 @@ fn line_kept(
     out: &mut [u8; 65536],
     at: usize,
     columns: bool,
-    book: &mut [u64; 9288],
+    book: &mut [u64; 10328],
     z: Shape,
     line: u8,
 ) -> usize {
@@ -133,7 +133,7 @@ pub fn lines_kept(
     out: &mut [u8; 65536],
     at: usize,
     columns: bool,
-    book: &mut [u64; 9288],
+    book: &mut [u64; 10328],
     z: Shape,
     n: u8,
 ) -> usize {
@@ -159,14 +159,14 @@ fn content_in(g: Image, line: u8) -> Content {
 }
 
 // The letter of a line with a choice.
-fn choice(out: &mut [u8; 65536], at: usize, book: &mut [u64; 9288], g: Image, line: u8) -> usize {
+fn choice(out: &mut [u8; 65536], at: usize, book: &mut [u64; 10328], g: Image, line: u8) -> usize {
     if count_of(book, line) < 2 {
         return at;
     }
     letter(out, at, seat_of(book, line, content_in(g, line)))
 }
 
-fn has_choice(book: &mut [u64; 9288], n: u8) -> bool {
+fn has_choice(book: &mut [u64; 10328], n: u8) -> bool {
     let mut line: u8 = 0;
     while line < n {
         if count_of(book, line) > 1 {
@@ -177,7 +177,7 @@ fn has_choice(book: &mut [u64; 9288], n: u8) -> bool {
     false
 }
 
-fn choices(out: &mut [u8; 65536], at: usize, book: &mut [u64; 9288], g: Image, n: u8) -> usize {
+fn choices(out: &mut [u8; 65536], at: usize, book: &mut [u64; 10328], g: Image, n: u8) -> usize {
     if !has_choice(book, n) {
         return put(out, at, b'-');
     }
@@ -230,7 +230,7 @@ pub fn ended_at(s: &[u8], m: Machine, k: u64) -> Ended {
 fn ending_row(
     out: &mut [u8; 65536],
     at: usize,
-    book: &mut [u64; 9288],
+    book: &mut [u64; 10328],
     k: u32,
     e: Ended,
     n: u8,
@@ -254,7 +254,7 @@ pub fn endings(
     out: &mut [u8; 65536],
     at: usize,
     s: &[u8],
-    book: &mut [u64; 9288],
+    book: &mut [u64; 10328],
     m: Machine,
     count: u32,
     n: u8,
@@ -269,7 +269,7 @@ pub fn endings(
     place
 }
 
-fn line_in(out: &mut [u8; 65536], at: usize, book: &mut [u64; 9288], g: Image, line: u8) -> usize {
+fn line_in(out: &mut [u8; 65536], at: usize, book: &mut [u64; 10328], g: Image, line: u8) -> usize {
     let c = content_in(g, line);
     let z = image_shape(g);
     let first = put_all(out, at, b"  ");
@@ -281,7 +281,7 @@ fn line_in(out: &mut [u8; 65536], at: usize, book: &mut [u64; 9288], g: Image, l
     end(out, last)
 }
 
-fn lines_in(out: &mut [u8; 65536], at: usize, book: &mut [u64; 9288], g: Image, n: u8) -> usize {
+fn lines_in(out: &mut [u8; 65536], at: usize, book: &mut [u64; 10328], g: Image, n: u8) -> usize {
     let mut place = at;
     let mut line: u8 = 0;
     while line < n {
@@ -296,7 +296,7 @@ fn lines_in(out: &mut [u8; 65536], at: usize, book: &mut [u64; 9288], g: Image, 
 pub fn ending_words(
     out: &mut [u8; 65536],
     at: usize,
-    book: &mut [u64; 9288],
+    book: &mut [u64; 10328],
     k: u64,
     e: Ended,
     n: u8,

@@ -1,5 +1,5 @@
 // What lines hold, and the book of each line's contents since it was last persisted: per line 64 places of index, then of linked and
-// item, and how many are used. More are not kept: a page takes 16.
+// item, and how many are used. More are not kept: a page takes 16. Behind the lines stands what is known of flushes (fences.rt).
 use crate::shapes::line_of;
 use crate::shapes::shape_of;
 use image::Content;
@@ -96,25 +96,25 @@ pub fn same(a: Content, b: Content) -> bool {
     a.linked == b.linked && a.index == b.index && a.item == b.item
 }
 
-fn get(book: &[u64; 9288], i: usize) -> u64 {
-    if i < 9288 {
+pub(crate) fn get(book: &[u64; 10328], i: usize) -> u64 {
+    if i < 10328 {
         return book[i];
     }
     0
 }
 
-fn set(book: &mut [u64; 9288], i: usize, x: u64) {
-    if i < 9288 {
+pub(crate) fn set(book: &mut [u64; 10328], i: usize, x: u64) {
+    if i < 10328 {
         book[i] = x;
     }
 }
 
-pub fn count_of(book: &[u64; 9288], line: u8) -> u8 {
+pub fn count_of(book: &[u64; 10328], line: u8) -> u8 {
     let n = get(book, (line as usize) * 129 + 128);
     (n % 65) as u8
 }
 
-pub fn content_at(book: &[u64; 9288], line: u8, j: u8) -> Content {
+pub fn content_at(book: &[u64; 10328], line: u8, j: u8) -> Content {
     let at = (line as usize) * 129 + (j as usize) * 2;
     let index = get(book, at);
     let rest = get(book, at + 1);
@@ -125,7 +125,7 @@ pub fn content_at(book: &[u64; 9288], line: u8, j: u8) -> Content {
     }
 }
 
-fn put_at(book: &mut [u64; 9288], line: u8, j: u8, c: Content) {
+fn put_at(book: &mut [u64; 10328], line: u8, j: u8, c: Content) {
     let at = (line as usize) * 129 + (j as usize) * 2;
     set(book, at, c.index);
     set(
@@ -136,7 +136,7 @@ fn put_at(book: &mut [u64; 9288], line: u8, j: u8, c: Content) {
 }
 
 // The place of a content in a line's list; where it is not there, how many there are.
-pub fn seat_of(book: &[u64; 9288], line: u8, c: Content) -> u8 {
+pub fn seat_of(book: &[u64; 10328], line: u8, c: Content) -> u8 {
     let n = count_of(book, line);
     let mut j = 0;
     while j < n {
@@ -150,7 +150,7 @@ pub fn seat_of(book: &[u64; 9288], line: u8, c: Content) -> u8 {
 }
 
 // The line's cached content became c: it joins the list unless it is there. Its place.
-pub fn joined(book: &mut [u64; 9288], line: u8, c: Content) -> u8 {
+pub fn joined(book: &mut [u64; 10328], line: u8, c: Content) -> u8 {
     let n = count_of(book, line);
     let j = seat_of(book, line, c);
     if j == n && j < PLACES {
@@ -161,7 +161,7 @@ pub fn joined(book: &mut [u64; 9288], line: u8, c: Content) -> u8 {
 }
 
 // The line's list begins anew with c.
-pub fn begun(book: &mut [u64; 9288], line: u8, c: Content) {
+pub fn begun(book: &mut [u64; 10328], line: u8, c: Content) {
     put_at(book, line, 0, c);
     set(book, (line as usize) * 129 + 128, 1);
 }

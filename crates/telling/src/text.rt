@@ -56,11 +56,14 @@ fn numbered(out: &mut [u8; 65536], at: usize, step: u8) -> usize {
     said(out, at, b"D", (step - Machine::A12) as u64, b"")
 }
 
-// The same, and the stores S3 and S6 of "UQP".
+// The same, the stores S3 and S6 of "UQP", and the fences F10, F3 and F6.
 pub fn step_name(out: &mut [u8; 65536], at: usize, step: u8) -> usize {
     match step {
         Machine::S3 => put_all(out, at, b"S3"),
         Machine::S6 => put_all(out, at, b"S6"),
+        Machine::F10 => put_all(out, at, b"F10"),
+        Machine::F3 => put_all(out, at, b"F3"),
+        Machine::F6 => put_all(out, at, b"F6"),
         _ => numbered(out, at, step),
     }
 }
