@@ -5,10 +5,12 @@ use mathlib.Core.List.{List, [], _∷_, _++_, map}
 use lib.Dec.{eqb, ltb}
 use Rattle.lists.specs.Find.{pick, both}
 use Rattle.answer.specs.Answers.{told}
-use Rattle.machine.specs.Record.{node, thread}
+use Rattle.machine.specs.Record.{node, thread, zeroNode, zeroThread}
 use Rattle.machine.specs.Stage.{A8, A9, D4, D5, number}
 use Rattle.machine.specs.Event.{Deed, unknown, enqueues, dequeues, steps, writesBack, crashes, deedOf, eventAt}
 use Rattle.machine.specs.declared.Machine.{Machine}
+use Rattle.machine.specs.declared.Node.{Node}
+use Rattle.machine.specs.declared.Thread.{Thread}
 use Rattle.machine.specs.declared.Event.{Event}
 use Rattle.machine.specs.declared.Acted.{Acted}
 use Rattle.schedule.specs.Layout.{eventIn, countIn}
@@ -17,6 +19,14 @@ use Rattle.schedule.specs.Running.{benchTo}
 use Rattle.parcels.specs.declared.News.{News}
 use Rattle.parcels.specs.declared.Parcel.{Parcel}
 
+-- ---- a thread and a node of a record; a number beyond the record's places names nothing
+
+abbrev pub threadAt : Machine → ℕ → Thread
+threadAt m k = pick (ltb k 8) (thread m k) zeroThread
+
+abbrev pub nodeAt : Machine → ℕ → Node
+nodeAt m i = pick (ltb i 64) (node m i) zeroNode
+
 -- ---- what a step of thread k tells: nothing (0), a link (1), an answer that is no item (2), a node taken (3), an item answered (4)
 
 abbrev pub tells : ℕ → ℕ → ℕ → ℕ → ℕ → News
@@ -24,11 +34,11 @@ tells w k i r x = record { what = w; thread = k; node = i; said = r; index = x }
 
 -- "its link step was done": A8 went on to A9; m is the machine before the step, m′ after it
 abbrev pub links : Machine → Machine → ℕ → Bool
-links m m′ k = both (eqb (thread m k .step) (number A8)) (eqb (thread m′ k .step) (number A9))
+links m m′ k = both (eqb (threadAt m k .step) (number A8)) (eqb (threadAt m′ k .step) (number A9))
 
 -- a dequeue took the next node that it had read: D4 went on to D5
 abbrev pub takes : Machine → Machine → ℕ → Bool
-takes m m′ k = both (eqb (thread m k .step) (number D4)) (eqb (thread m′ k .step) (number D5))
+takes m m′ k = both (eqb (threadAt m k .step) (number D4)) (eqb (threadAt m′ k .step) (number D5))
 
 -- by what the step answered, as `told` numbers it: 4 is an item
 abbrev pub saidNews : ℕ → ℕ → News
@@ -37,8 +47,8 @@ saidNews k r = pick (eqb r 0) (tells 0 k 0 0 0) (pick (eqb r 4) (tells 4 k 0 0 0
 -- the index of the node linked, or taken, is that at the step
 unfoldable pub newsOf : Machine → ℕ → ℕ → Machine → News
 newsOf m k r m′ =
-    pick (links m m′ k) (tells 1 k (thread m k .node) 0 (node m (thread m k .node) .index))
-    (pick (takes m m′ k) (tells 3 k 0 0 (node m (thread m k .next) .index)) (saidNews k r))
+    pick (links m m′ k) (tells 1 k (threadAt m k .node) 0 (nodeAt m (threadAt m k .node) .index))
+    (pick (takes m m′ k) (tells 3 k 0 0 (nodeAt m (threadAt m k .next) .index)) (saidNews k r))
 
 -- ---- what is known of an enqueue: what it has answered (0: nothing yet), where it was linked (node 255: nowhere), which thread's dequeue took
 -- it (255: none), whether that one answered with it

@@ -10,19 +10,18 @@ use Rattle.lists.specs.Tab.{over}
 use Rattle.answer.specs.Answers.{check, accepted}
 use Rattle.answer.specs.declared.Answer.{Answer}
 use Rattle.answer.specs.declared.Answer.the-variants.{Taken, Room}
-use Rattle.machine.specs.Record.{node}
 use Rattle.machine.specs.declared.Machine.{Machine}
-use Rattle.parcels.specs.Parcel.{noParcel, isLinked, parcelsIn}
+use Rattle.parcels.specs.Parcel.{nodeAt, noParcel, isLinked, parcelsIn}
 use Rattle.parcels.specs.Despatch.{handedOut, turnedAway, entryBytes}
 use Rattle.parcels.specs.declared.Parcel.{Parcel}
 
 -- the dummy's cached index is the head index
 abbrev pub headIn : Machine → ℕ
-headIn m = node m (m .head) .index
+headIn m = nodeAt m (m .head) .index
 
 abbrev pub queuedIn : Machine → Parcel → Bool
 queuedIn m p =
-    let v = node m (p .node) in
+    let v = nodeAt m (p .node) in
     both (isLinked p) (both (both (eqb (v .linked) 1) (ltb (headIn m) (v .index))) (eqb (v .index) (p .index)))
 
 abbrev pub aloneIn : Machine → Parcel → Bool

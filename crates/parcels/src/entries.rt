@@ -4,7 +4,7 @@ ghost use mathlib.Core.Bool.{Bool};
 ghost use Prim.Native.Nat.{_+_, _≤_};
 ghost use lib.ListN.{length};
 ghost use Rattle.lists.specs.Tab.{over};
-ghost use Rattle.machine.specs.Record.{node};
+ghost use Rattle.parcels.specs.Parcel.{nodeAt};
 ghost use Rattle.parcels.specs.Despatch.{entryBytes};
 ghost use Rattle.parcels.specs.Started.{headIn, queuedIn, aloneIn, groupIn, noParcels};
 use crate::Parcel;
@@ -29,7 +29,7 @@ pub fn no_parcels() -> [Parcel; 4096]
 }
 
 fn node_at(m: Machine, i: u8) -> Node
-    ensures { λ r. ⌜ r ≡ node m i ⌝ }
+    ensures { λ r. ⌜ r ≡ nodeAt m i ⌝ }
 {
     if 64 <= i {
         return Node {

@@ -1,10 +1,9 @@
 // What a step tells the desk, and what an enqueue's parcel is after it.
 ghost use mathlib.Core.Path.{_≡_};
 ghost use Rattle.answer.specs.Answers.{told};
-ghost use Rattle.machine.specs.Record.{node, thread};
 ghost use lib.Dec.{eqb};
 ghost use Rattle.lists.specs.Find.{both};
-ghost use Rattle.parcels.specs.Parcel.{tells, saidNews, newsOf, isOf, hasIndex, fresh as freshOf, moved as movedOf};
+ghost use Rattle.parcels.specs.Parcel.{threadAt, nodeAt, tells, saidNews, newsOf, isOf, hasIndex, fresh as freshOf, moved as movedOf};
 use crate::News;
 use crate::Parcel;
 use crate::said::said_of;
@@ -14,7 +13,7 @@ use machine::Out;
 use machine::Thread;
 
 fn thread_at(m: Machine, k: u8) -> Thread
-    ensures { λ r. ⌜ r ≡ thread m k ⌝ }
+    ensures { λ r. ⌜ r ≡ threadAt m k ⌝ }
 {
     if 8 <= k {
         return Thread {
@@ -32,7 +31,7 @@ fn thread_at(m: Machine, k: u8) -> Thread
 }
 
 fn index_at(m: Machine, i: u8) -> u64
-    ensures { λ r. ⌜ r ≡ node m i .index ⌝ }
+    ensures { λ r. ⌜ r ≡ nodeAt m i .index ⌝ }
 {
     if 64 <= i {
         return 0;
@@ -68,7 +67,7 @@ fn said_news(k: u8, said: u8) -> News
 
 // Whether thread k went from step x to step y.
 fn is_gone(m: Machine, after: Machine, k: u8, x: u8, y: u8) -> bool
-    ensures { λ r. ⌜ r ≡ both (eqb (thread m k .step) x) (eqb (thread after k .step) y) ⌝ }
+    ensures { λ r. ⌜ r ≡ both (eqb (threadAt m k .step) x) (eqb (threadAt after k .step) y) ⌝ }
 {
     let v = thread_at(m, k);
     if v.step != x {
