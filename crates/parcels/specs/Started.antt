@@ -1,5 +1,5 @@
 -- The same as the code finds it: the ending is a machine that was started from its image.
-use Prim.Native.Nat.{ℕ, zero, suc, _*_}
+use Prim.Native.Nat.{ℕ, zero, suc, _-_, _*_}
 use mathlib.Core.Path.{_≡_}
 use mathlib.Core.Bool.{Bool, true, false, not}
 use mathlib.Core.List.{List, [], _++_}
@@ -11,9 +11,17 @@ use Rattle.answer.specs.Answers.{check, accepted}
 use Rattle.answer.specs.declared.Answer.{Answer}
 use Rattle.answer.specs.declared.Answer.the-variants.{Taken, Room}
 use Rattle.machine.specs.declared.Machine.{Machine}
+use Rattle.schedule.specs.Layout.{countIn}
 use Rattle.parcels.specs.Parcel.{nodeAt, noParcel, isLinked, parcelsIn}
 use Rattle.parcels.specs.Despatch.{handedOut, turnedAway, entryBytes}
 use Rattle.parcels.specs.declared.Parcel.{Parcel}
+
+-- how many bytes an ending takes: as many as the schedule's image
+abbrev pub endSize : List ℕ → ℕ
+endSize s = length s - 8 - countIn s * 6
+
+unfoldable pub noBytes : List ℕ
+noBytes = replicate 1024 0
 
 -- the dummy's cached index is the head index
 abbrev pub headIn : Machine → ℕ
