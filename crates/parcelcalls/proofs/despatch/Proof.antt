@@ -17,7 +17,7 @@ same-length c = search needs
 
 returns : tie.Need-returns
 returns c =
-    let e = c .before .before .before .before .before .despatch .ensures in
+    let e = c .before .before .before .before .despatch .ensures in
     (c .packed-of .ensures ∙ rw (e .0, e .1 .0), e .1 .1)
 
 pub despatch-spec : {M : Type 1} → statement M
