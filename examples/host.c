@@ -105,6 +105,21 @@ static void contents(void) {
     expect("no room for four", uq_line(schedule, P1_BYTES, 2, buffer, 4 * 13 - 1), refusal(UQ_ROOM, 0));
 }
 
+/* The despatch desk's list of P1: in ending 3 its enqueue is still queued, in the others it was never in. */
+static void despatch(void) {
+    uint8_t schedule[P1_BYTES], buffer[UQ_ENTRY + 1];
+    put_p1(schedule);
+    for (uint64_t k = 0; k < 4; k++) {
+        uint8_t wanted[UQ_ENTRY] = {0, 0, 0, k == 3 ? UQ_STILL_QUEUED : UQ_NEVER_IN, 7, 0, 0, 0};
+        buffer[UQ_ENTRY] = 99;
+        expect("entries of P1's list", uq_despatch(schedule, P1_BYTES, k, buffer, sizeof buffer), 256 * 1);
+        expect("its entry", same(buffer, wanted, UQ_ENTRY), 1);
+        expect("the byte behind it", buffer[UQ_ENTRY], 99);
+    }
+    expect("no list of ending 4", uq_despatch(schedule, P1_BYTES, 4, buffer, 0), refusal(UQ_NO_ENDING, 0));
+    expect("no room for an entry", uq_despatch(schedule, P1_BYTES, 0, buffer, UQ_ENTRY - 1), refusal(UQ_ROOM, 0));
+}
+
 /* P1's page, whole and piece by piece, and the line of a refusal. */
 static void text(void) {
     static const uint8_t page[] = "UQS 1 threads 1 nodes 2 events 10 endings 4\n0 0 -\n1 0 -\n2 0 -\n3 0 7\n";
@@ -384,6 +399,7 @@ int main(void) {
     history();
     endings();
     contents();
+    despatch();
     text();
     refusals();
     mending();

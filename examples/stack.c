@@ -153,6 +153,11 @@ static void replay(void) {
     result = uq_replay(file, to, buffer, sizeof buffer);
 }
 
+static void despatch(void) {
+    static uint8_t list[UQ_MAX_ENTRIES];
+    result = uq_despatch(schedule, length, 0, list, sizeof list);
+}
+
 static void (*call)(void);
 static uint8_t *entry;
 
@@ -217,5 +222,6 @@ int main(void) {
     measure("uq_judge", judge);
     measure("uq_mend", mend);
     measure("uq_replay", replay);
+    measure("uq_despatch", despatch);
     return bad;
 }

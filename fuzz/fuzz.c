@@ -12,6 +12,7 @@ static int agree(u64 seed, u64 number)
     return agree_on_bytes(bytes, length) && agree_on_ending(bytes, length) && agree_on_line(bytes, length)
         && agree_on_lines(bytes, length) && agree_on_start(bytes, length) && agree_on_conversions(bytes, length, number)
         && agree_on_desks(bytes, length, number) && agree_on_record(seed, number) && agree_on_mended() && agree_on_probe(bytes, length)
+        && agree_on_list(bytes, length)
         && (number % HISTORY_EVERY != 0 || agree_on_history(seed, number));
 }
 
@@ -31,6 +32,14 @@ static void put_probes(void)
     put_counts(probe_numbers_seen, NUMBERS);
     put_text(", differing ");
     put_number(probes_differing);
+}
+
+static void put_lists(void)
+{
+    put_text("; of lists:");
+    put_counts(list_numbers_seen, NUMBERS);
+    put_text(", groups");
+    put_counts(groups_seen, 6);
 }
 
 static void put_histories(void)
@@ -69,6 +78,7 @@ int main(int count, char **words)
     put_counts(numbers_seen, NUMBERS);
     put_histories();
     put_probes();
+    put_lists();
     put_text("\n");
     flush_output();
     return 0;

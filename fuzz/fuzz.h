@@ -30,6 +30,10 @@ extern u64 numbers_seen[NUMBERS];
 int agree_on_probe(const u8 *bytes, u64 length);
 extern u64 probe_numbers_seen[NUMBERS], probes_differing;
 
+/* lists.c: the despatch desk's list of a schedule at some ending */
+int agree_on_list(const u8 *bytes, u64 length);
+extern u64 list_numbers_seen[NUMBERS], groups_seen[6];
+
 /* of the histories alone: how often each number was given back, and each verdict (0 unlawful, 1 lawful, 2 undecided) */
 enum { VERDICTS = 3 };
 extern u64 history_numbers_seen[NUMBERS], verdicts_seen[VERDICTS];

@@ -51,8 +51,13 @@ enum {
     UQ_MAX_HISTORY = 859, /* 3 + 4 for each item, and 22 for each operation */
     UQ_MAX_ORDER = 16,
     UQ_MAX_PROBE = 50006, /* 8 + 14 + 13N, and 12 for each event */
-    UQ_BOTH = 10
+    UQ_BOTH = 10,
+    UQ_ENTRY = 8,          /* of uq_despatch */
+    UQ_MAX_ENTRIES = 32768 /* 8 for each event */
 };
+
+/* In which group an entry of uq_despatch stands. */
+enum { UQ_HANDED_OUT = 1, UQ_STILL_QUEUED = 2, UQ_TURNED_AWAY = 3, UQ_TAKEN_ALONE = 4, UQ_NEVER_IN = 5 };
 
 /* What uq_judge says of a history. */
 enum { UQ_UNLAWFUL = 0, UQ_LAWFUL = 1, UQ_UNDECIDED = 2 };
@@ -189,6 +194,11 @@ uint64_t uq_judge(const uint8_t *history, size_t length, uint8_t *order, size_t 
    Then the first 10 bytes of `buffer` get: observed answer, its item (4), the machine's answer, its item (4); the bytes after them stay. Nothing is written where all agree.
    A refusal has number 1 to 13 or 19 and its place, or 17 where `room` is below 10, and writes nothing. */
 uint64_t uq_replay(const uint8_t *file, size_t length, uint8_t *buffer, size_t room);
+
+/* The despatch desk's list (request 114): what became of each enqueue begun since the schedule's last start, at ending k, into the buffer's first bytes;
+   the bytes after them stay. UQ_ENTRY bytes an entry, in begin order: the number of the begin event (2, little-endian), the thread, the group
+   (UQ_HANDED_OUT to UQ_NEVER_IN), the item (4). The value is the number of entries. Refused as the page is, then 16, then 17. */
+uint64_t uq_despatch(const uint8_t *schedule, size_t length, uint64_t k, uint8_t *buffer, size_t room);
 
 /* The number: 0 where the call was taken. */
 static inline uint32_t uq_number(uint64_t result) { return (uint32_t)(result % 256); }

@@ -11,8 +11,10 @@
 //   f  N and T: the same for a fresh machine, with the record's sum
 //   v  N, T, a number and a count: that many events drawn from the number, on one record: `TAKEN ITEMS SUM`
 //   w  the same, by the call on a kept record
+//   l  an ending's number (4 bytes) and a schedule: `refused N at P`, or `list COUNT` and ` ITEM:GROUP` for each entry of the despatch desk's list
 //   q  a probe file: `refused N at P`, `all agree`, or `event E recorded ANSWER ITEM given ANSWER ITEM` of the first that differs
 mod kept;
+mod listing;
 mod moments;
 mod probes;
 mod records;
@@ -22,6 +24,7 @@ mod traces;
 
 use compare::text::finish;
 use libc::STDIN_FILENO;
+use listing::answer_list;
 use probes::answer_probe;
 use records::answer_places;
 use records::answer_record;
@@ -47,6 +50,7 @@ fn answer_one(mode: u8, s: &[u8], out: &mut [u8; 65536], at: usize) -> usize {
         b'v' => answer_soak(s, out, at, false),
         b'w' => answer_soak(s, out, at, true),
         b'q' => answer_probe(s, out, at),
+        b'l' => answer_list(s, out, at),
         _ => at,
     }
 }

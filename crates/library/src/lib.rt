@@ -1,6 +1,7 @@
 // The static library: the public calls on bytes, under C's names. include/uq.h declares them and says how the returned number is taken apart.
 // Each call takes numbers and lent bytes only, returns one number, and has no `requires`.
 pub mod conversions;
+pub mod despatch;
 pub mod histories;
 pub mod line;
 pub mod mend;

@@ -94,6 +94,9 @@ replaced p q m e crashes h =
 pub taken-is : (p : ℕ) (m : Machine) (e : Event) → Takes p m e → eventAt p m e ≡ done m e (deedOf (e .kind))
 taken-is p m e h = passes p m e (tests p m e h)
 
+pub placed : (p q : ℕ) (m : Machine) (e : Event) → Takes p m e → eventAt q m e ≡ eventAt p m e
+placed p q m e h = passes q m e (replaced p q m e (deedOf (e .kind)) (tests p m e h)) ∙ sym (taken-is p m e h)
+
 module _ (p q : ℕ) (m m′ : Machine) (a : Alike m m′) (e : Event) (ne : Crash e → ⊥) (h : Takes p m e) where
   -- where both take it they answer the same
   pub alike-reply : Takes q m′ e → eventAt q m′ e .answer ≡ eventAt p m e .answer

@@ -1,4 +1,3 @@
-pub mod EndingBytes
 pub mod ListLaws
 pub mod ByteLaws
 pub mod NoteLaws

@@ -46,7 +46,7 @@ use Rattle.plainruns.proofs.TurnLaws as turns
 use Rattle.plainruns.proofs.PlayLaws.{played-same}
 use Rattle.plainway.specs.Plainly.{plainRoom, allBytes}
 use Rattle.plainway.specs.Noting.{isNoted, baseIn, runsIn, imageAt, imagesTo, NotedTo}
-use Rattle.plainway.proofs.EndingBytes as bytes
+use Rattle.endread.proofs.Bytes as bytes
 use Rattle.plainway.proofs.ListLaws as lists
 
 -- ---- the runs in their order

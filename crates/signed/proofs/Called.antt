@@ -23,7 +23,8 @@ use Rattle.calls.specs.Packed.{packed}
 use Rattle.calls.proofs.Apart.{number-back, value-back, place-back}
 use Rattle.signed.specs.Signed.{endingSize}
 use Rattle.signed.specs.Called.{CountsC, WritesC, PageC, SignedC, AllSignedC}
-use Rattle.signed.proofs.Demand3.{demand3, count-all, ending-taken, ending-held}
+use Rattle.endread.proofs.Bytes.{ending-taken, ending-held}
+use Rattle.signed.proofs.Demand3.{demand3, count-all}
 
 module _ (s : List ℕ) (bytes : Bytes s) (r : ℕ) (c : CountsC s r) where
   is : r ≡ packed (told (pageAnswer s)) (countOf s)

@@ -5,9 +5,7 @@ use mathlib.Core.Bool.{true, false}
 use mathlib.Core.List.{List}
 use denote.Ref.{now}
 use lib.ListN.{length}
-use borrow.Author.Tests.{le-ltb, lt-leb}
 use Rattle.lists.specs.Tab.{over}
-use Rattle.lists.proofs.BoolLaws.{yes-of}
 use Rattle.answer.specs.Answers.{told, accepted}
 use Rattle.answer.specs.declared.Told.{Told}
 use Rattle.answer.specs.declared.Answer.{Answer}
@@ -19,6 +17,7 @@ use Rattle.lawful.specs.Demand3.{Bytes, Demand3}
 use Rattle.pageproof.proofs.Holds.{page-holds}
 use Rattle.lawproof.proofs.Lawful3.{page-lawful}
 use Rattle.runs.specs.Paged.{countOf}
+use Rattle.endread.proofs.Bytes.{ending-taken, ending-held}
 use Rattle.pages.specs.declared.calls.Count.{Count}
 use Rattle.signed.specs.Signed.{Counts, Writes, endingSize, Page, Signed, AllSigned}
 
@@ -34,17 +33,6 @@ count-none s h = rw h
 pub count-all : (s : List ℕ) → accepted (pageAnswer s) ≡ true → countOf s ≡ endingCount s
 unfolding countOf
 count-all s h = rw h
-
-module _ (s : List ℕ) (h : accepted (pageAnswer s) ≡ true) (k : ℕ) (lt : k < endingCount s) where
-  pub ending-taken : (room : ℕ) → endingSize s ≤ room → endingAnswer s k room ≡ Taken
-  unfolding endingAnswer
-  ending-taken room l =
-      yes-of _ (pageAnswer s) (accepted (pageAnswer s)) h
-      ∙ rw (lt-leb (endingCount s) k lt, le-ltb room (endingSize s) l)
-
-  pub ending-held : (b : List ℕ) → endingSize s ≤ length b → endingWritten s k b ≡ over b 0 (imageBytes (endingIn s k))
-  unfolding endingWritten
-  ending-held b l = yes-of (over b 0 (imageBytes (endingIn s k))) b (accepted (endingAnswer s k (length b))) (ap accepted (ending-taken (length b) l))
 
 -- ---- the theorem
 

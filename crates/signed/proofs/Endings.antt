@@ -3,34 +3,27 @@ use Prim.Native.Nat.{ℕ, _≤_, _<_}
 use mathlib.Core.Path.{_≡_, sym, ap, _∙_}
 use mathlib.Core.Bool.{true}
 use mathlib.Core.List.{List}
-use native.Mathlib.Omega.{arith}
 use denote.Ref.{now}
-use lib.ListN.{length, take, drop}
-use lib.Seq.{take-at}
+use lib.ListN.{length, take}
 use Rattle.answer.specs.Answers.{accepted}
 use Rattle.answer.specs.declared.Answer.{Answer}
-use Rattle.image.specs.declared.Image.{Image}
-use Rattle.image.specs.declared.Read.{Read}
 use Rattle.image.specs.Layout.{imageBytes}
 use Rattle.image.specs.Refusals.{readImage}
+use Rattle.image.specs.declared.Read.{Read}
 use Rattle.page.specs.Refusals.{pageAnswer, endingCount, endingIn, endingWritten}
 use Rattle.lawful.specs.Demand3.{Bytes}
-use Rattle.codec.proofs.ReadWrite.{over-front}
 use Rattle.pageproof.proofs.Holds.{page-holds}
-use Rattle.plainway.proofs.EndingBytes.{bytes-read, bytes-long}
+use Rattle.endread.proofs.Bytes.{bytes-read, bytes-front}
 use Rattle.signed.specs.Signed.{Writes, endingSize}
-use Rattle.signed.specs.Images.{ReadsBack, BytesApart, AllEndings}
-use Rattle.signed.proofs.Demand3.{ending-held}
+use Rattle.signed.specs.Images.{ReadsAs, ReadsBack, BytesApart, AllEndings}
 use Rattle.signed.proofs.Images.{reads-is}
 
-module _ (s : List ℕ) (bytes : Bytes s) (h : accepted (pageAnswer s) ≡ true) (k : ℕ) (lt : k < endingCount s) where
-  -- what the call leaves in the first bytes of a lent buffer
-  pub bytes-are : (b : List ℕ) → endingSize s ≤ length b → (a : Answer) (z : List ℕ) → Writes s k b a z → take (endingSize s) z ≡ imageBytes (endingIn s k)
-  bytes-are b l a z (κs, x, y, y′, e, f, g, p) =
-      let long : length (imageBytes (endingIn s k)) ≡ endingSize s = bytes-long s bytes h k lt in
-      let w = sym g ∙ p .1 ∙ ap (λ (t : List ℕ). endingWritten t k (now y)) e ∙ ap (λ (t : List ℕ). endingWritten s k t) f ∙ ending-held s h k lt b l in
-      ap (take (endingSize s)) (w ∙ over-front b (imageBytes (endingIn s k)) (omega (arith, long)))
-      ∙ take-at (imageBytes (endingIn s k)) (drop (length (imageBytes (endingIn s k))) b) (endingSize s) long
+-- what the call leaves in the first bytes of a lent buffer
+bytes-are : (s : List ℕ) → Bytes s → accepted (pageAnswer s) ≡ true → (k : ℕ) → k < endingCount s
+    → (b : List ℕ) → endingSize s ≤ length b → (a : Answer) (z : List ℕ) → Writes s k b a z → take (endingSize s) z ≡ imageBytes (endingIn s k)
+bytes-are s bytes h k lt b l a z (κs, x, y, y′, e, f, g, p) =
+    ap (take (endingSize s)) (sym g ∙ p .1 ∙ ap (λ (t : List ℕ). endingWritten t k (now y)) e ∙ ap (λ (t : List ℕ). endingWritten s k t) f)
+    ∙ bytes-front s bytes h k lt b l
 
 -- ---- the theorem
 

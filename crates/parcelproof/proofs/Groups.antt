@@ -1,0 +1,39 @@
+-- What a group says, and which of 02's conditions never meet, whatever the image.
+use Prim.Native.Nat.{ℕ, _<_, _≤_}
+use mathlib.Core.Path.{_≡_, refl, sym, ap, _∙_}
+use mathlib.Core.Bool.{Bool, true, false, not}
+use native.Mathlib.Omega.{arith}
+use lib.Dec.{eqb, ltb, leb}
+use borrow.Author.Tests.{ltb-true, leb-true, eqb-true, not-true}
+use Rattle.lists.specs.Find.{pick, both}
+use Rattle.lists.proofs.BoolLaws.{no-way, both-true}
+use Rattle.image.specs.Layout.{contentAt}
+use Rattle.image.specs.Recovered.{headOf, recovered, recoveredAt}
+use Rattle.image.specs.declared.Content.{Content}
+use Rattle.image.specs.declared.Image.{Image}
+use Rattle.parcels.specs.Parcel.{isLinked}
+use Rattle.parcels.specs.Despatch.{handedOut, stillQueued, turnedAway, takenAlone, groupOf}
+use Rattle.parcels.specs.declared.Parcel.{Parcel}
+
+above : (h : ℕ) (c : Content) → recovered h c ≡ true → h < c .index
+unfolding recovered
+above h c e = ltb-true h (c .index) (both-true (eqb (c .linked) 1) _ e .1)
+
+module _ (g : Image) (p : Parcel) where
+  -- what is still queued lies behind the head, what was taken does not
+  pub queued-not-taken : stillQueued g p ≡ true → takenAlone g p ≡ true → ⊥
+  queued-not-taken a b =
+      let x = both-true (recoveredAt g (p .node)) _ (both-true (isLinked p) _ a .1) in
+      let y = both-true (leb (p .index) (headOf g)) _ (both-true (isLinked p) _ b .1) in
+      omega (arith, above (headOf g) (contentAt (g .nodes) (p .node)) (x .0), eqb-true _ _ (x .1), leb-true _ _ (y .0))
+
+  -- what was taken without an answer was not handed out
+  pub taken-not-handed : takenAlone g p ≡ true → handedOut p ≡ false
+  taken-not-handed b = not-true (p .handed) (both-true (leb (p .index) (headOf g)) _ (both-true (isLinked p) _ b .1) .1)
+
+  -- ---- the group is that of the first condition that holds
+
+  by-tests : (a b c d : Bool) → handedOut p ≡ a → stillQueued g p ≡ b → turnedAway p ≡ c → takenAlone g p ≡ d
+      → groupOf g p ≡ pick a 1 (pick b 2 (pick c 3 (pick d 4 5)))
+  unfolding groupOf
+  by-tests a b c d e f h k = rw (e, f, h, k) refl

@@ -1,0 +1,1 @@
+// No code: what the despatch desk's list holds, about its definitions. The proofs are in proofs/.

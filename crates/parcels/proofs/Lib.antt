@@ -1,0 +1,4 @@
+pub mod PackLaws
+pub mod WriteLaws
+pub mod EndLaws
+pub mod Unique

@@ -1,0 +1,3 @@
+pub mod Parcel
+pub mod Despatch
+pub mod Started
