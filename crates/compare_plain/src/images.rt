@@ -61,7 +61,13 @@ fn put_sum_line(out: &mut [u8; 65536], at: usize, lent: &[u8], n: usize) -> usiz
 }
 
 // The call once more, with a buffer of `room` bytes; it is to be refused.
-fn put_short(out: &mut [u8; 65536], at: usize, s: &[u8], lent: &mut [u8; 65536], room: usize) -> usize {
+fn put_short(
+    out: &mut [u8; 65536],
+    at: usize,
+    s: &[u8],
+    lent: &mut [u8; 65536],
+    room: usize,
+) -> usize {
     if 65536 <= room {
         return at;
     }
@@ -70,7 +76,12 @@ fn put_short(out: &mut [u8; 65536], at: usize, s: &[u8], lent: &mut [u8; 65536],
     put_refusal(out, at, told_of(a))
 }
 
-pub(crate) fn answer_schedule(s: &[u8], lent: &mut [u8; 65536], out: &mut [u8; 65536], at: usize) -> usize {
+pub(crate) fn answer_schedule(
+    s: &[u8],
+    lent: &mut [u8; 65536],
+    out: &mut [u8; 65536],
+    at: usize,
+) -> usize {
     let r = plainway::plain_page(s, lent);
     let a = r.answer;
     let t = told_of(a);

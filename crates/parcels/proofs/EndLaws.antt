@@ -227,7 +227,6 @@ module _ (s : List ℕ) (bytes : Bytes s) (k : ℕ) (g : Given s k) where
       ∙ bytes-read s bytes (g .page) k (g .there))
       ∙ rw end-starts refl
 
-
   -- nothing stands beyond its nodes
   end-blank : (i : ℕ) → endingIn s k .n ≤ i → i < 64 → contentAt (endingIn s k .nodes) i ≡ noContent
   unfolding endingIn ending imageOf noContents

@@ -160,7 +160,7 @@ module _ (s : List ℕ) (bytes : Bytes s) (a : accepted (pageAnswer s) ≡ true)
   acted-is i h m me e ee o p q =
       let c = come-at i (omega arith) in
       let w : eventOn m e ≡ handed (actedAt s i) =
-          ap₂ eventOn me ee ∙ on-in (machineAt s i) (f i) (range-at i (omega arith)) ∙ ap handed (placed i 0 (machineAt s i) (f i) (takes-at i h c)) in
+      ap₂ eventOn me ee ∙ on-in (machineAt s i) (f i) (range-at i (omega arith)) ∙ ap handed (placed i 0 (machineAt s i) (f i) (takes-at i h c)) in
       (p ∙ ap (λ (x : Out). told (x .answer)) w, q ∙ ap (λ (x : Out). x .machine) w)
 
   pub event-is : (i : ℕ) → i < n → (e : Event) → e ≡ parts.eventOf s i → e ≡ f i

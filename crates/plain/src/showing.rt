@@ -26,11 +26,13 @@ fn show_image(k: u32, g: Image) -> bool {
     if 64 < g.n {
         return false;
     }
-    if 8 < head_lines(Shape {
-        form: g.form,
-        n: g.n,
-        t: g.t,
-    }) {
+    if 8
+        < head_lines(Shape {
+            form: g.form,
+            n: g.n,
+            t: g.t,
+        })
+    {
         return false;
     }
     if 65535 < k {

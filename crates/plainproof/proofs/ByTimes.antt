@@ -171,9 +171,10 @@ module _ (m : Machine) (f : ℕ → Event) (e : ℕ) (B : ℕ → Bench) (c : Re
   at-moment (suc r) h =
       let q : r < e = omega arith in
       let o = at-moment r (omega arith) in
-      let n = c .next r q in
-      (subst (λ (x : Bench). At x (suc r)) (sym (n .2)) (at-next (n .0) (B r) (f r) (n .1) (c .free r q) r (o .0)),
-      ap (λ (x : Bench). shapeOf (x .machine)) (n .2) ∙ size-next (n .0) (B r) (f r) (n .1) (c .free r q) ∙ o .1)
+      let n = c .next r q in (
+        subst (λ (x : Bench). At x (suc r)) (sym (n .2)) (at-next (n .0) (B r) (f r) (n .1) (c .free r q) r (o .0)),
+        ap (λ (x : Bench). shapeOf (x .machine)) (n .2) ∙ size-next (n .0) (B r) (f r) (n .1) (c .free r q) ∙ o .1,
+      )
 
   near-start : Near z π (B 0) 1 m
   near-start = rw (c .first) (record { at = λ l. 0; lengthened = lengthened-self (begins m) (c .known); picks = λ j h. sym (none j (decLt (getD π j 0) 1)) })

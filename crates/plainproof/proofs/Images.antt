@@ -136,10 +136,11 @@ module _ (m : Machine) (f : ℕ → Event) (e : ℕ) (B : ℕ → Bench) (c : Re
   unfolding tuples F
   tuple-fits x k =
       let w = laws.map-in (each F 0) x (choicesOf (replicate L D)) (subst (λ (y : List (List Content)). In x y) (sym (fan.each-choices F D L 0)) k) in
-      let h = fan.choice-is D L (w .0) (w .1) in
-      (ap length (w .2) ∙ fan.length-each F 0 (w .0) ∙ h .long,
-      λ i r. subst OfHead (sym (ap (λ (y : List Content). contentAt y i) (w .2) ∙ fan.each-first F (w .0) i (omega (arith, h .long))))
-      (pick-head final (lineAt z i) i (line-head z i r) (getD (w .0) i 0)))
+      let h = fan.choice-is D L (w .0) (w .1) in (
+        ap length (w .2) ∙ fan.length-each F 0 (w .0) ∙ h .long,
+        λ i r. subst OfHead (sym (ap (λ (y : List Content). contentAt y i) (w .2) ∙ fan.each-first F (w .0) i (omega (arith, h .long))))
+            (pick-head final (lineAt z i) i (line-head z i r) (getD (w .0) i 0)),
+      )
 
   abbrev onceC : List Content → List Content
   onceC x = once sameContent x

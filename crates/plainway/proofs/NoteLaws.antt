@@ -201,10 +201,11 @@ module _ (s : List ℕ) (y : Bytes s) (h : accepted (pageAnswer s) ≡ true) whe
     pub note-no : isNoted b c x n ≡ false → n ≤ length x → (c + 1 ≡ length (imagesTo s (k + 1))) × (over b (c * n) (take n x) ≡ over b 0 (allBytes (imagesTo s (k + 1))))
     note-no e long =
         let q = new e in
-        let w : c * n ≡ length (allBytes l) = ap (λ (y : ℕ). y * n) (t .count) ∙ sym (all-long k (t .within)) in
-        (ap (λ (y : ℕ). y + 1) (t .count) ∙ sym (ap length q ∙ length-append l (g ∷ [])),
-        ap₂ (λ (y : ℕ) (z : List ℕ). over b y z) w (front-of long) ∙ lists.over-more b (allBytes l) (all-fit k (t .within) b (t .room)) (imageBytes g) (t .front)
-        ∙ ap (over b 0) (sym (ap allBytes q ∙ lists.all-more l g)))
+        let w : c * n ≡ length (allBytes l) = ap (λ (y : ℕ). y * n) (t .count) ∙ sym (all-long k (t .within)) in (
+          ap (λ (y : ℕ). y + 1) (t .count) ∙ sym (ap length q ∙ length-append l (g ∷ [])),
+          ap₂ (λ (y : ℕ) (z : List ℕ). over b y z) w (front-of long) ∙ lists.over-more b (allBytes l) (all-fit k (t .within) b (t .room)) (imageBytes g) (t .front)
+              ∙ ap (over b 0) (sym (ap allBytes q ∙ lists.all-more l g)),
+        )
       where
         front-of : n ≤ length x → take n x ≡ imageBytes g
         front-of r =

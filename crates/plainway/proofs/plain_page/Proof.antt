@@ -60,10 +60,13 @@ returns-2 c =
     let f : accepted (w .result .answer) ≡ true = sym (t .ensures) ∙ going.taken-of (t .result) (c .before .before .before .before .if1 .left) in
     let a : accepted (plainAnswer s (length b)) ≡ true = ap accepted (sym (w .ensures .answer)) ∙ f in
     let n = c .before .before .note-some in
-    let i : imagesTo s (w .result .runs) ≡ plainImages s = ap (imagesTo s) (w .ensures .laid f .runs) ∙ notes.images-all s in
-    (ap told (w .ensures .answer),
-    (n .ensures .0 .count ∙ ap length i ∙ sym (ways.count-taken s (length b) a),
-    n .ensures .1 ∙ ap (λ (l : List Image). over b 0 (allBytes l)) i ∙ sym (ways.written-taken s b a)))
+    let i : imagesTo s (w .result .runs) ≡ plainImages s = ap (imagesTo s) (w .ensures .laid f .runs) ∙ notes.images-all s in (
+      ap told (w .ensures .answer),
+      (
+        n .ensures .0 .count ∙ ap length i ∙ sym (ways.count-taken s (length b) a),
+        n .ensures .1 ∙ ap (λ (l : List Image). over b 0 (allBytes l)) i ∙ sym (ways.written-taken s b a),
+      ),
+    )
 
 pub plain-page-spec : {M : Type 1} → statement M
 plain-page-spec =

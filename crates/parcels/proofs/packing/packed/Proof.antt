@@ -194,9 +194,11 @@ loop-again-4 c =
     let ee = laws.event-is s y a (p .i) h e (c .before .before .before .before .before .before .before .before .before .before .before .before .event-of .ensures .1) in
     let o = c .before .before .before .before .before .before .before .before .before .before .on-event .result in
     let w = laws.acted-is s y a (p .i) h (p .m) (u .machine) e ee o (c .before .before .before .before .before .before .before .before .before .before .on-event .ensures .0) (c .before .before .before .before .before .before .before .before .before .before .on-event .ensures .1) in
-    let v = c .before .loop2 in
-    (p .inv .0, subst (λ (l : List Parcel). laws.Under s (p .i + 1) (o .machine) l (p .count)) (sym (v .inv .1))
-    (laws.under-told s y a (p .i) (p .m) (p .parcels) (p .count) u h e ee (o .machine) (w .1) (c .before .before .before .if3 .left) o (w .0) (w .1) (c .before .before .news-of .result) (c .before .before .news-of .ensures) (v .j) (v .inv .0) (c .loop2-test .left)))
+    let v = c .before .loop2 in (
+      p .inv .0,
+      subst (λ (l : List Parcel). laws.Under s (p .i + 1) (o .machine) l (p .count)) (sym (v .inv .1))
+          (laws.under-told s y a (p .i) (p .m) (p .parcels) (p .count) u h e ee (o .machine) (w .1) (c .before .before .before .if3 .left) o (w .0) (w .1) (c .before .before .news-of .result) (c .before .before .news-of .ensures) (v .j) (v .inv .0) (c .loop2-test .left)),
+    )
 
 mul-p : tie.Need-mul-p Inv-loop2 μ-loop2 Inv-loop μ-loop Inv-loop3 μ-loop3
 mul-p c =
@@ -275,9 +277,11 @@ loop2-again c =
     let h = (let q : p .i < countIn s = omega (arith, p .inv .0, c .before .before .before .before .before .before .before .before .before .before .before .before .before .before .before .loop-test .taken) in q) in
     let n = laws.count-small s y a in
     let v = c .before .before .before .loop2 in
-    let w = c .before .before .before .before .news-of .result in
-    (omega (arith, c .before .before .loop2-test .taken), ap (λ (l : List Parcel). set l (v .j) (c .moved .result)) (v .inv .1)
-    ∙ laws.moved-next w (p .parcels) (v .j) (omega (arith, h, n, u .few, u .long, c .before .before .loop2-test .taken)) (c .moved .result) (c .moved .ensures ∙ ap (λ (l : List Parcel). moved w (getD l (v .j) noParcel)) (v .inv .1)))
+    let w = c .before .before .before .before .news-of .result in (
+      omega (arith, c .before .before .loop2-test .taken),
+      ap (λ (l : List Parcel). set l (v .j) (c .moved .result)) (v .inv .1)
+          ∙ laws.moved-next w (p .parcels) (v .j) (omega (arith, h, n, u .few, u .long, c .before .before .loop2-test .taken)) (c .moved .result) (c .moved .ensures ∙ ap (λ (l : List Parcel). moved w (getD l (v .j) noParcel)) (v .inv .1)),
+    )
 
 mul-if4 : tie.Need-mul-if4 Inv-loop2 μ-loop2 Inv-loop μ-loop Inv-loop3 μ-loop3
 mul-if4 c =
@@ -389,9 +393,11 @@ loop3-again c =
     let h = (let q : countIn s ≤ p .i = omega (arith, p .inv .0, c .before .before .before .before .before .before .before .before .before .loop-test .left) in q) in
     let n = laws.count-small s y a in
     let k = laws.count-is s y a (p .i) (p .m) (p .parcels) (p .count) u h in
-    let v = c .before .before .before .before .before .before .before .loop3 in
-    (omega (arith, c .before .before .before .before .before .before .loop3-test .taken), c .before .before .put-entry .ensures ∙ ap (λ (x : List ℕ). over x (v .k * 8) (entryBytes (getD (p .parcels) (v .k) noParcel) (c .before .before .before .before .group-of .result))) (v .inv .1)
-    ∙ outs.packed-over (c .before .before .before .before .before .before .before .before .before .before .before .before .before .before .before .before .before .before .args .end) (p .parcels) (c .before .before .before .before .before .before .before .before .before .before .before .before .before .before .before .before .before .before .args .b .now) (v .k) (getD (p .parcels) (v .k) noParcel) (c .before .before .before .before .group-of .result) refl (c .before .before .before .before .group-of .ensures))
+    let v = c .before .before .before .before .before .before .before .loop3 in (
+      omega (arith, c .before .before .before .before .before .before .loop3-test .taken),
+      c .before .before .put-entry .ensures ∙ ap (λ (x : List ℕ). over x (v .k * 8) (entryBytes (getD (p .parcels) (v .k) noParcel) (c .before .before .before .before .group-of .result))) (v .inv .1)
+          ∙ outs.packed-over (c .before .before .before .before .before .before .before .before .before .before .before .before .before .before .before .before .before .before .args .end) (p .parcels) (c .before .before .before .before .before .before .before .before .before .before .before .before .before .before .before .before .before .before .args .b .now) (v .k) (getD (p .parcels) (v .k) noParcel) (c .before .before .before .before .group-of .result) refl (c .before .before .before .before .group-of .ensures),
+    )
 
 cast-t51 : tie.Need-cast-t51 Inv-loop2 μ-loop2 Inv-loop μ-loop Inv-loop3 μ-loop3
 cast-t51 c =

@@ -37,9 +37,10 @@ loop-less c = omega (arith, c .before .loop-test .taken)
 loop-again : tie.Need-loop-again Inv-loop μ-loop
 loop-again c =
     let z = c .before .before .before in
-    let p = c .before .before .loop in
-    (omega (arith, c .before .loop-test .taken),
-    laws.backed-next (z .args .t2) (z .args .r) (z .args .m) (p .x) (p .j) (p .inv .1) false (ne-eqb _ _ (λ e. c .if1 .taken (e ∙ sym (add-one (z .args .r))))) ∙ ap (backed (z .args .t2) (z .args .r) (z .args .m)) (sym (add-one (p .j))))
+    let p = c .before .before .loop in (
+      omega (arith, c .before .loop-test .taken),
+      laws.backed-next (z .args .t2) (z .args .r) (z .args .m) (p .x) (p .j) (p .inv .1) false (ne-eqb _ _ (λ e. c .if1 .taken (e ∙ sym (add-one (z .args .r))))) ∙ ap (backed (z .args .t2) (z .args .r) (z .args .m)) (sym (add-one (p .j))),
+    )
 
 cast-written-back : tie.Need-cast-written-back Inv-loop μ-loop
 cast-written-back c = omega (arith, c .before .loop-test .taken, c .before .before .before .pre .2)
@@ -60,9 +61,10 @@ loop-less-2 c = omega (arith, c .before .before .loop-test .taken)
 loop-again-2 : tie.Need-loop-again-2 Inv-loop μ-loop
 loop-again-2 c =
     let z = c .before .before .before .before in
-    let p = c .before .before .before .loop in
-    (omega (arith, c .before .before .loop-test .taken),
-    c .written-back .ensures ∙ laws.backed-next (z .args .t2) (z .args .r) (z .args .m) (p .x) (p .j) (p .inv .1) true (eq-eqb _ _ (c .before .if1 .left ∙ add-one (z .args .r))) ∙ ap (backed (z .args .t2) (z .args .r) (z .args .m)) (sym (add-one (p .j))))
+    let p = c .before .before .before .loop in (
+      omega (arith, c .before .before .loop-test .taken),
+      c .written-back .ensures ∙ laws.backed-next (z .args .t2) (z .args .r) (z .args .m) (p .x) (p .j) (p .inv .1) true (eq-eqb _ _ (c .before .if1 .left ∙ add-one (z .args .r))) ∙ ap (backed (z .args .t2) (z .args .r) (z .args .m)) (sym (add-one (p .j))),
+    )
 
 returns : tie.Need-returns Inv-loop μ-loop
 returns c =

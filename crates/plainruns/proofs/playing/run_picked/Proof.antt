@@ -27,17 +27,22 @@ back-requires c κs =
     let z = c .before .before in
     let s = z .args .s .now in
     let y : Bytes s = λ j. omega (arith, c .before .shared-slice-known .given j) in
-    let k = z .pre .0 in
-    (subst Small (sym (k .machine)) (laws.start-small s y (k .taken)),
-    omega (arith, z .pre .1, laws.start-lines s y (k .taken), ap (λ (m : Machine). lineCount (shapeOf m)) (k .machine)), z .pre .2, omega arith)
+    let k = z .pre .0 in (
+      subst Small (sym (k .machine)) (laws.start-small s y (k .taken)),
+      omega (arith, z .pre .1, laws.start-lines s y (k .taken), ap (λ (m : Machine). lineCount (shapeOf m)) (k .machine)),
+      z .pre .2,
+      omega arith,
+    )
 
 loop-holds : tie.Need-loop-holds Inv-loop μ-loop
 loop-holds c =
     let z = c .before .before .before in
     let s = z .args .s .now in
-    let k = z .pre .0 in
-    (ap shapeOf (k .machine) ∙ since.start-shape s (page-ran s (k .taken)), omega arith,
-    c .back .ensures ∙ laws.run-begin (z .args .picks) (eventSince s) (z .args .p .machine) (startMachine s) (z .args .n) (linesIn s) (k .machine) (z .pre .1))
+    let k = z .pre .0 in (
+      ap shapeOf (k .machine) ∙ since.start-shape s (page-ran s (k .taken)),
+      omega arith,
+      c .back .ensures ∙ laws.run-begin (z .args .picks) (eventSince s) (z .args .p .machine) (startMachine s) (z .args .n) (linesIn s) (k .machine) (z .pre .1),
+    )
 
 add-event-at : tie.Need-add-event-at Inv-loop μ-loop
 add-event-at c =
@@ -85,10 +90,12 @@ back-requires-2 c κs =
     let y : Bytes s = λ j. omega (arith, c .before .before .before .before .before .before .before .before .shared-slice-known .given j) in
     let lt : p .i < sinceCount s = omega (arith, k .since, c .before .before .before .if1 .taken) in
     let e = c .before .event-at .ensures ∙ laws.event-since s _ (z .args .p .at) (p .i) (p .inv .0) (k .at) in
-    let x : c .play .result ≡ played (playedAt (z .args .picks) (linesIn s) (startMachine s) (eventSince s) (p .i)) (eventSince s (p .i)) = c .play .ensures ∙ ap₂ played (p .inv .2) e in
-    (subst Small (sym x) (laws.next-small s y (k .taken) (z .args .picks) (p .i) lt),
-    omega (arith, z .pre .1, ap (λ (m : Machine). lineCount (shapeOf m)) x, ap lineCount (laws.next-shape s y (k .taken) (z .args .picks) (p .i) lt)),
-    z .pre .2, omega (arith, c .before .before .before .if1 .taken, z .pre .3))
+    let x : c .play .result ≡ played (playedAt (z .args .picks) (linesIn s) (startMachine s) (eventSince s) (p .i)) (eventSince s (p .i)) = c .play .ensures ∙ ap₂ played (p .inv .2) e in (
+      subst Small (sym x) (laws.next-small s y (k .taken) (z .args .picks) (p .i) lt),
+      omega (arith, z .pre .1, ap (λ (m : Machine). lineCount (shapeOf m)) x, ap lineCount (laws.next-shape s y (k .taken) (z .args .picks) (p .i) lt)),
+      z .pre .2,
+      omega (arith, c .before .before .before .if1 .taken, z .pre .3),
+    )
 
 loop-less : tie.Need-loop-less Inv-loop μ-loop
 loop-less c =
@@ -102,9 +109,11 @@ loop-again c =
     let k = z .pre .0 in
     let p = c .before .before .before .before .before .before .loop in
     let e = c .before .before .event-at .ensures ∙ laws.event-since s _ (z .args .p .at) (p .i) (p .inv .0) (k .at) in
-    let x : c .before .play .result ≡ played (playedAt (z .args .picks) (linesIn s) (startMachine s) (eventSince s) (p .i)) (eventSince s (p .i)) = c .before .play .ensures ∙ ap₂ played (p .inv .2) e in
-    (p .inv .0, omega (arith, k .since, c .before .before .before .before .if1 .taken),
-    c .back2 .ensures ∙ laws.run-next (z .args .picks) (eventSince s) (startMachine s) (c .before .play .result) (z .args .n) (linesIn s) (p .i) (z .pre .1) x)
+    let x : c .before .play .result ≡ played (playedAt (z .args .picks) (linesIn s) (startMachine s) (eventSince s) (p .i)) (eventSince s (p .i)) = c .before .play .ensures ∙ ap₂ played (p .inv .2) e in (
+      p .inv .0,
+      omega (arith, k .since, c .before .before .before .before .if1 .taken),
+      c .back2 .ensures ∙ laws.run-next (z .args .picks) (eventSince s) (startMachine s) (c .before .play .result) (z .args .n) (linesIn s) (p .i) (z .pre .1) x,
+    )
 
 returns : tie.Need-returns Inv-loop μ-loop
 returns c =

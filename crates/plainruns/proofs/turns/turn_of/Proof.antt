@@ -66,9 +66,13 @@ loop-again c =
     let n = z .args .n in
     let j = p .j in
     let h = c .loop-test .taken in
-    let e = laws.width-next b n j h (z .pre .0) (p .w) (p .inv .2) in
-    (omega arith, length-set (p .picks) j _ ∙ p .inv .1, e, subst (λ y. p .x % y < b ^ (n - (j + 1))) (sym e) (laws.rest-less b n j h (z .pre .0) (p .x)),
-    p .inv .4 ∙ laws.turn-next b n j h (z .pre .0) (p .picks) (p .x) ∙ ap (λ y. over (set (p .picks) j (p .x / y)) (j + 1) (turnOf b (n - (j + 1)) (p .x % y))) (sym e))
+    let e = laws.width-next b n j h (z .pre .0) (p .w) (p .inv .2) in (
+      omega arith,
+      length-set (p .picks) j _ ∙ p .inv .1,
+      e,
+      subst (λ y. p .x % y < b ^ (n - (j + 1))) (sym e) (laws.rest-less b n j h (z .pre .0) (p .x)),
+      p .inv .4 ∙ laws.turn-next b n j h (z .pre .0) (p .picks) (p .x) ∙ ap (λ y. over (set (p .picks) j (p .x / y)) (j + 1) (turnOf b (n - (j + 1)) (p .x % y))) (sym e),
+    )
 
 returns : tie.Need-returns Inv-loop μ-loop
 returns c =

@@ -11,7 +11,7 @@ use Rattle.plainway.proofs.noting.note.Statement.{statement}
 use Rattle.plainway.proofs.noting.note.Tie as tie
 
 turn-of-requires : tie.Need-turn-of-requires
-turn-of-requires c κs = 
+turn-of-requires c κs =
     let z = c .before .before .before in
     let a = z .args in
     let y : Bytes (a .s .now) = λ j. omega (arith, c .before .before .shared-slice-known .given j) in
@@ -19,7 +19,7 @@ turn-of-requires c κs =
     (omega (arith, l .base), omega (arith, l .base, l .short), omega (arith, l .lines, l .few), l .runs ∙ sym (ap₂ _^_ (l .base) (l .lines)), z .pre .2)
 
 run-picked-requires : tie.Need-run-picked-requires
-run-picked-requires c κs = 
+run-picked-requires c κs =
     let z = c .before .before .before .before in
     let l = z .pre .0 in
     (l .planned, l .lines, omega (arith, l .lines, l .few), omega (arith, l .planned .since, l .short))
@@ -31,7 +31,7 @@ slice-aggregate-put-image : tie.Need-slice-aggregate-put-image
 slice-aggregate-put-image c = search needs
 
 put-image-requires : tie.Need-put-image-requires
-put-image-requires c κs = 
+put-image-requires c κs =
     let z = c .before .before .before .before .before .before .before in
     let a = z .args in
     let y : Bytes (a .s .now) = λ j. omega (arith, c .before .before .before .before .before .before .shared-slice-known .given j) in
@@ -41,7 +41,7 @@ slice-aggregate-is-noted : tie.Need-slice-aggregate-is-noted
 slice-aggregate-is-noted c = search needs
 
 is-noted-requires : tie.Need-is-noted-requires
-is-noted-requires c κs = 
+is-noted-requires c κs =
     let z = c .before .before .before .before .before .before .before .before .before .before .before in
     let a = z .args in
     let y : Bytes (a .s .now) = λ j. omega (arith, c .before .before .before .before .before .before .before .before .before .before .shared-slice-known .given j) in
@@ -51,42 +51,42 @@ same-length : tie.Need-same-length
 same-length c = search needs
 
 returns : tie.Need-returns
-returns c = 
+returns c =
     let z = c .before .before .before .before .before .before .before .before .before .before .before .before .before in
     let a = z .args in
     let y : Bytes (a .s .now) = λ j. omega (arith, c .before .before .before .before .before .before .before .before .before .before .before .before .shared-slice-known .given j) in
     laws.run-yes (a .s .now) y (a .w) (z .pre .0) (a .k) (a .c) (a .b .now) (z .pre .1) (z .pre .2) (c .before .before .before .before .before .before .before .before .before .turn-of .result) (c .before .before .before .before .before .before .before .before .before .turn-of .ensures) (c .before .before .before .before .before .before .before .before .run-picked .result) (c .before .before .before .before .before .before .before .before .run-picked .ensures) (c .before .before .before .before .before .before .before .kept-image .result) (c .before .before .before .before .before .before .before .kept-image .ensures) (c .before .before .before .before .before .put-image .last .0) _ (c .before .before .before .before .before .put-image .ensures) (length-replicate {A = ℕ} 846 0) (sym (c .before .is-noted .ensures) ∙ c .if1 .taken)
 
 mul-put : tie.Need-mul-put
-mul-put c = 
+mul-put c =
     let z = c .before .before .before .before .before .before .before .before .before .before .before .before .before .before .before in
     let a = z .args in
     let y : Bytes (a .s .now) = λ j. omega (arith, c .before .before .before .before .before .before .before .before .before .before .before .before .before .before .shared-slice-known .given j) in
     omega (arith, laws.run-room (a .s .now) y (a .w) (z .pre .0) (a .k) (a .c) (a .b .now) (z .pre .1) (z .pre .2) (c .before .before .before .before .before .before .before .before .before .before .before .turn-of .result) (c .before .before .before .before .before .before .before .before .before .before .before .turn-of .ensures) (c .before .before .before .before .before .before .before .before .before .before .run-picked .result) (c .before .before .before .before .before .before .before .before .before .before .run-picked .ensures) (c .before .before .before .before .before .before .before .before .before .kept-image .result) (c .before .before .before .before .before .before .before .before .before .kept-image .ensures) (c .before .before .before .before .before .before .before .put-image .last .0) _ (c .before .before .before .before .before .before .before .put-image .ensures) (length-replicate {A = ℕ} 846 0) (sym (c .before .before .before .is-noted .ensures) ∙ c .before .before .if1 .left))
 
 array-share-prefix-x : tie.Need-array-share-prefix-x
-array-share-prefix-x c = 
+array-share-prefix-x c =
     let z = c .before .before .before .before .before .before .before .before .before .before .before .before .before .before .before in
     let a = z .args in
     let y : Bytes (a .s .now) = λ j. omega (arith, c .before .before .before .before .before .before .before .before .before .before .before .before .before .before .shared-slice-known .given j) in
     omega (arith, laws.size-fits (a .s .now) y (a .w) (z .pre .0) (a .k) (a .c) (a .b .now) (z .pre .1) (z .pre .2), laws.x-long (a .s .now) y (a .w) (z .pre .0) (a .k) (a .c) (a .b .now) (z .pre .1) (z .pre .2) (c .before .before .before .before .before .before .before .before .before .before .before .turn-of .result) (c .before .before .before .before .before .before .before .before .before .before .before .turn-of .ensures) (c .before .before .before .before .before .before .before .before .before .before .run-picked .result) (c .before .before .before .before .before .before .before .before .before .before .run-picked .ensures) (c .before .before .before .before .before .before .before .before .before .kept-image .result) (c .before .before .before .before .before .before .before .before .before .kept-image .ensures) (c .before .before .before .before .before .before .before .put-image .last .0) _ (c .before .before .before .before .before .before .before .put-image .ensures) (length-replicate {A = ℕ} 846 0))
 
 slice-aggregate-put : tie.Need-slice-aggregate-put
-slice-aggregate-put c = 
+slice-aggregate-put c =
     let z = c .before .before .before .before .before .before .before .before .before .before .before .before .before .before .before .before in
     let a = z .args in
     let y : Bytes (a .s .now) = λ j. omega (arith, c .before .before .before .before .before .before .before .before .before .before .before .before .before .before .before .shared-slice-known .given j) in
     sym (length-take-le (a .w .size) (c .before .before .before .before .before .before .before .before .put-image .last .0) (omega (arith, laws.size-fits (a .s .now) y (a .w) (z .pre .0) (a .k) (a .c) (a .b .now) (z .pre .1) (z .pre .2), laws.x-long (a .s .now) y (a .w) (z .pre .0) (a .k) (a .c) (a .b .now) (z .pre .1) (z .pre .2) (c .before .before .before .before .before .before .before .before .before .before .before .before .turn-of .result) (c .before .before .before .before .before .before .before .before .before .before .before .before .turn-of .ensures) (c .before .before .before .before .before .before .before .before .before .before .before .run-picked .result) (c .before .before .before .before .before .before .before .before .before .before .before .run-picked .ensures) (c .before .before .before .before .before .before .before .before .before .before .kept-image .result) (c .before .before .before .before .before .before .before .before .before .before .kept-image .ensures) (c .before .before .before .before .before .before .before .before .put-image .last .0) _ (c .before .before .before .before .before .before .before .before .put-image .ensures) (length-replicate {A = ℕ} 846 0))))
 
 put-requires : tie.Need-put-requires
-put-requires c κs = 
+put-requires c κs =
     let z = c .before .before .before .before .before .before .before .before .before .before .before .before .before .before .before .before in
     let a = z .args in
     let y : Bytes (a .s .now) = λ j. omega (arith, c .before .before .before .before .before .before .before .before .before .before .before .before .before .before .before .shared-slice-known .given j) in
     omega (arith, length-take-le (a .w .size) (c .before .before .before .before .before .before .before .before .put-image .last .0) (omega (arith, laws.size-fits (a .s .now) y (a .w) (z .pre .0) (a .k) (a .c) (a .b .now) (z .pre .1) (z .pre .2), laws.x-long (a .s .now) y (a .w) (z .pre .0) (a .k) (a .c) (a .b .now) (z .pre .1) (z .pre .2) (c .before .before .before .before .before .before .before .before .before .before .before .before .turn-of .result) (c .before .before .before .before .before .before .before .before .before .before .before .before .turn-of .ensures) (c .before .before .before .before .before .before .before .before .before .before .before .run-picked .result) (c .before .before .before .before .before .before .before .before .before .before .before .run-picked .ensures) (c .before .before .before .before .before .before .before .before .before .before .kept-image .result) (c .before .before .before .before .before .before .before .before .before .before .kept-image .ensures) (c .before .before .before .before .before .before .before .before .put-image .last .0) _ (c .before .before .before .before .before .before .before .before .put-image .ensures) (length-replicate {A = ℕ} 846 0))), laws.run-room (a .s .now) y (a .w) (z .pre .0) (a .k) (a .c) (a .b .now) (z .pre .1) (z .pre .2) (c .before .before .before .before .before .before .before .before .before .before .before .before .turn-of .result) (c .before .before .before .before .before .before .before .before .before .before .before .before .turn-of .ensures) (c .before .before .before .before .before .before .before .before .before .before .before .run-picked .result) (c .before .before .before .before .before .before .before .before .before .before .before .run-picked .ensures) (c .before .before .before .before .before .before .before .before .before .before .kept-image .result) (c .before .before .before .before .before .before .before .before .before .before .kept-image .ensures) (c .before .before .before .before .before .before .before .before .put-image .last .0) _ (c .before .before .before .before .before .before .before .before .put-image .ensures) (length-replicate {A = ℕ} 846 0) (sym (c .before .before .before .before .is-noted .ensures) ∙ c .before .before .before .if1 .left))
 
 add-result : tie.Need-add-result
-add-result c = 
+add-result c =
     let z = c .before .before .before .before .before .before .before .before .before .before .before .before .before .before .before .before .before .before .before in
     let a = z .args in
     let y : Bytes (a .s .now) = λ j. omega (arith, c .before .before .before .before .before .before .before .before .before .before .before .before .before .before .before .before .before .before .shared-slice-known .given j) in
@@ -96,7 +96,7 @@ same-length-2 : tie.Need-same-length-2
 same-length-2 c = search needs
 
 returns-2 : tie.Need-returns-2
-returns-2 c = 
+returns-2 c =
     let z = c .before .before .before .before .before .before .before .before .before .before .before .before .before .before .before .before .before .before .before in
     let a = z .args in
     let y : Bytes (a .s .now) = λ j. omega (arith, c .before .before .before .before .before .before .before .before .before .before .before .before .before .before .before .before .before .before .shared-slice-known .given j) in

@@ -23,14 +23,14 @@ abbrev μ-loop : tie.MeasureT-loop
 μ-loop s w from to b₀ c k₀ n₀ b k n = to - k
 
 loop-holds : tie.Need-loop-holds Inv-loop μ-loop
-loop-holds c = 
+loop-holds c =
     let z = c .before .before in
     let a = z .args in
     let y : Bytes (a .s .now) = λ j. omega (arith, c .before .shared-slice-known .given j) in
     (z .pre .2, z .pre .1, laws.noted-self (a .s .now) y (z .pre .0 .planned .taken) (a .from) (a .c) (a .b .now) (z .pre .1))
 
 note-requires : tie.Need-note-requires Inv-loop μ-loop
-note-requires c κs = 
+note-requires c κs =
     let z = c .before .before .before .before .before in
     let p = c .before .before .loop in
     (z .pre .0, p .inv .1, omega (arith, c .before .loop-test .taken, z .pre .3))
@@ -42,7 +42,7 @@ loop-less : tie.Need-loop-less Inv-loop μ-loop
 loop-less c = omega (arith, c .before .before .before .before .loop-test .taken)
 
 loop-again : tie.Need-loop-again Inv-loop μ-loop
-loop-again c = 
+loop-again c =
     let z = c .before .before .before .before .before .before .before .before in
     let a = z .args in
     let y : Bytes (a .s .now) = λ j. omega (arith, c .before .before .before .before .before .before .before .shared-slice-known .given j) in
@@ -53,13 +53,13 @@ loop-again c =
     (omega (arith, u), e .0, e .1 ∙ notes.over-next (a .s .now) y (l .planned .taken) (p .k) (a .b .now) (p .b) (omega (arith, u, z .pre .3, l .runs)) (z .pre .1 .room) (p .inv .2))
 
 same-length : tie.Need-same-length Inv-loop μ-loop
-same-length c = 
+same-length c =
     let a = c .before .before .before .before .args in
     let p = c .before .loop in
     ap length (p .inv .2) ∙ tabs.length-over (a .b .now) 0 _
 
 returns : tie.Need-returns Inv-loop μ-loop
-returns c = 
+returns c =
     let z = c .before .before .before .before in
     let a = z .args in
     let p = c .before .loop in

@@ -24,7 +24,7 @@ refused-requires : tie.Need-refused-requires
 refused-requires c κs = search needs
 
 returns : tie.Need-returns
-returns c = 
+returns c =
     let s = c .before .before .before .before .before .args .s .now in
     let e = c .before .before .before .count-endings in
     let t = c .before .before .is-taken in
@@ -38,7 +38,7 @@ refused-requires-2 : tie.Need-refused-requires-2
 refused-requires-2 c κs = search needs
 
 returns-2 : tie.Need-returns-2
-returns-2 c = 
+returns-2 c =
     let s = c .before .before .before .before .before .before .before .before .before .before .args .s .now in
     let e = c .before .before .before .before .before .before .before .before .count-endings in
     let t = c .before .before .before .before .before .before .before .is-taken in
@@ -51,7 +51,7 @@ refused-requires-3 : tie.Need-refused-requires-3
 refused-requires-3 c κs = search needs
 
 returns-3 : tie.Need-returns-3
-returns-3 c = 
+returns-3 c =
     let s = c .before .before .before .before .before .before .before .before .before .before .before .before .args .s .now in
     let e = c .before .before .before .before .before .before .before .before .before .before .count-endings in
     let t = c .before .before .before .before .before .before .before .before .before .is-taken in
@@ -62,7 +62,7 @@ returns-3 c =
     laws.way-no s (c .before .before .before .before .before .before .before .before .before .before .before .before .args .room) (c .refused3 .result) Endings (c .refused3 .ensures) (sym (laws.many-nodes s _ h few (omega (arith, laws.nodes-in s h (o .result) (o .ensures), c .before .if3 .taken)))) refl
 
 lines-of-requires : tie.Need-lines-of-requires
-lines-of-requires c κs = 
+lines-of-requires c κs =
     let s = c .before .before .before .before .before .before .before .before .before .before .before .args .s .now in
     let e = c .before .before .before .before .before .before .before .before .before .count-endings in
     let t = c .before .before .before .before .before .before .before .before .is-taken in
@@ -75,7 +75,7 @@ refused-requires-4 : tie.Need-refused-requires-4
 refused-requires-4 c κs = search needs
 
 returns-4 : tie.Need-returns-4
-returns-4 c = 
+returns-4 c =
     let s = c .before .before .before .before .before .before .before .before .before .before .before .before .before .before .args .s .now in
     let e = c .before .before .before .before .before .before .before .before .before .before .before .before .count-endings in
     let t = c .before .before .before .before .before .before .before .before .before .before .before .is-taken in
@@ -87,7 +87,7 @@ returns-4 c =
     laws.way-no s (c .before .before .before .before .before .before .before .before .before .before .before .before .before .before .args .room) (c .refused4 .result) Endings (c .refused4 .ensures) (sym (laws.many-lines s _ h few small (omega (arith, laws.lines-in s h (o .result) (o .ensures) (c .before .before .lines-of .result) (c .before .before .lines-of .ensures), c .before .if4 .taken)))) refl
 
 size-of-requires : tie.Need-size-of-requires
-size-of-requires c κs = 
+size-of-requires c κs =
     let s = c .before .before .before .before .before .before .before .before .before .before .before .before .before .args .s .now in
     let e = c .before .before .before .before .before .before .before .before .before .before .before .count-endings in
     let t = c .before .before .before .before .before .before .before .before .before .before .is-taken in
@@ -100,7 +100,7 @@ cast-if5 : tie.Need-cast-if5
 cast-if5 c = search needs
 
 mul-if5 : tie.Need-mul-if5
-mul-if5 c = 
+mul-if5 c =
     let s = c .before .before .before .before .before .before .before .before .before .before .before .before .before .before .before .args .s .now in
     let e = c .before .before .before .before .before .before .before .before .before .before .before .before .before .count-endings in
     let t = c .before .before .before .before .before .before .before .before .before .before .before .before .is-taken in
@@ -113,7 +113,7 @@ refused-requires-5 : tie.Need-refused-requires-5
 refused-requires-5 c κs = search needs
 
 returns-5 : tie.Need-returns-5
-returns-5 c = 
+returns-5 c =
     let s = c .before .before .before .before .before .before .before .before .before .before .before .before .before .before .before .before .before .args .s .now in
     let e = c .before .before .before .before .before .before .before .before .before .before .before .before .before .before .before .count-endings in
     let t = c .before .before .before .before .before .before .before .before .before .before .before .before .before .before .is-taken in
@@ -127,7 +127,7 @@ returns-5 c =
     (sym (laws.no-room s _ h few small short (omega (arith, laws.room-in s h (o .result) (o .ensures) (e .result .count) (c .before .before .before .size-of .result) (e .ensures .1) (c .before .before .before .size-of .ensures), c .before .if5 .taken)))) refl
 
 plan-of-requires : tie.Need-plan-of-requires
-plan-of-requires c κs = 
+plan-of-requires c κs =
     let s = c .before .before .before .before .before .before .before .before .before .before .before .before .before .before .before .before .args .s .now in
     let e = c .before .before .before .before .before .before .before .before .before .before .before .before .before .before .count-endings in
     let t = c .before .before .before .before .before .before .before .before .before .before .before .before .before .is-taken in
@@ -137,7 +137,7 @@ plan-of-requires c κs =
     (h, laws.d-is s h (o .result) (o .ensures))
 
 cast-base : tie.Need-cast-base
-cast-base c = 
+cast-base c =
     let s = c .before .before .before .before .before .before .before .before .before .before .before .before .before .before .before .before .before .before .args .s .now in
     let e = c .before .before .before .before .before .before .before .before .before .before .before .before .before .before .before .before .count-endings in
     let t = c .before .before .before .before .before .before .before .before .before .before .before .before .before .before .before .is-taken in
@@ -148,7 +148,7 @@ cast-base c =
     omega (arith, c .before .plan-of .ensures .since, laws.since-few s few)
 
 add-base : tie.Need-add-base
-add-base c = 
+add-base c =
     let s = c .before .before .before .before .before .before .before .before .before .before .before .before .before .before .before .before .before .before .args .s .now in
     let e = c .before .before .before .before .before .before .before .before .before .before .before .before .before .before .before .before .count-endings in
     let t = c .before .before .before .before .before .before .before .before .before .before .before .before .before .before .before .is-taken in
@@ -159,7 +159,7 @@ add-base c =
     omega (arith, c .before .plan-of .ensures .since, laws.since-few s few)
 
 power-requires : tie.Need-power-requires
-power-requires c κs = 
+power-requires c κs =
     let s = c .before .before .before .before .before .before .before .before .before .before .before .before .before .before .before .before .before .before .args .s .now in
     let e = c .before .before .before .before .before .before .before .before .before .before .before .before .before .before .before .before .count-endings in
     let t = c .before .before .before .before .before .before .before .before .before .before .before .before .before .before .before .is-taken in
@@ -170,7 +170,7 @@ power-requires c κs =
     (omega arith, omega (arith, c .before .plan-of .ensures .since, laws.since-few s few), omega (arith, c .before .before .before .before .before .if4 .left))
 
 returns-6 : tie.Need-returns-6
-returns-6 c = 
+returns-6 c =
     let s = c .before .before .before .before .before .before .before .before .before .before .before .before .before .before .before .before .before .before .before .args .s .now in
     let e = c .before .before .before .before .before .before .before .before .before .before .before .before .before .before .before .before .before .count-endings in
     let t = c .before .before .before .before .before .before .before .before .before .before .before .before .before .before .before .before .is-taken in
