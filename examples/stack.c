@@ -144,6 +144,12 @@ static void replay(void) {
     result = uq_replay(file, to, buffer, sizeof buffer);
 }
 
+/* The schedule, where it is small enough for the plain way. */
+static void plain_page(void) {
+    static uint8_t images[UQ_MAX_PLAIN];
+    result = uq_plain_page(schedule, length, images, sizeof images);
+}
+
 static void (*call)(void);
 static uint8_t *entry;
 
@@ -206,5 +212,6 @@ int main(void) {
     measure("uq_judge", judge);
     measure("uq_mend", mend);
     measure("uq_replay", replay);
+    measure("uq_plain_page", plain_page);
     return bad;
 }

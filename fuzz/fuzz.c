@@ -10,7 +10,7 @@ static int agree(u64 seed, u64 number)
 {
     u64 length = some_input(seed, number, bytes);
     return agree_on_bytes(bytes, length) && agree_on_ending(bytes, length) && agree_on_line(bytes, length)
-        && agree_on_lines(bytes, length) && agree_on_start(bytes, length) && agree_on_conversions(bytes, length, number) && agree_on_record(seed, number) && agree_on_mended() && agree_on_probe(bytes, length)
+        && agree_on_plain(bytes, length) && agree_on_lines(bytes, length) && agree_on_start(bytes, length) && agree_on_conversions(bytes, length, number) && agree_on_record(seed, number) && agree_on_mended() && agree_on_probe(bytes, length)
         && (number % HISTORY_EVERY != 0 || agree_on_history(seed, number));
 }
 

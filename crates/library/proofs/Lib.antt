@@ -4,3 +4,4 @@ pub mod Unique
 pub mod Whole
 pub mod Mended
 pub mod Replays
+pub mod Plain

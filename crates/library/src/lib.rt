@@ -4,6 +4,7 @@ pub mod conversions;
 pub mod histories;
 pub mod line;
 pub mod mend;
+pub mod plain;
 pub mod probes;
 pub mod records;
 pub mod schedules;
