@@ -84,6 +84,20 @@ static void endings(void) {
     }
 }
 
+/* The same four by the plain way, one after the other. */
+static void plainly(void) {
+    uint8_t schedule[P1_BYTES], wanted[IMAGE], buffer[4 * IMAGE + 1];
+    put_p1(schedule);
+    buffer[4 * IMAGE] = 99;
+    expect("the plain way", uq_plain_page(schedule, P1_BYTES, buffer, sizeof buffer), 256 * 4);
+    for (uint64_t k = 0; k < 4; k++) {
+        expect("ending", uq_ending(schedule, P1_BYTES, k, wanted, sizeof wanted), UQ_TAKEN);
+        expect("the plain way's image", same(buffer + k * IMAGE, wanted, IMAGE), 1);
+    }
+    expect("the byte behind them", buffer[4 * IMAGE], 99);
+    expect("no room for four", uq_plain_page(schedule, P1_BYTES, buffer, 4 * IMAGE - 1), refusal(UQ_ROOM, 0));
+}
+
 /* The contents of P1's lines, the oldest first: of Head one index, of node 1's line four contents of thirteen bytes. */
 static void contents(void) {
     static const uint8_t wanted[4 * 13] = {
@@ -398,6 +412,7 @@ int main(void) {
     desks();
     history();
     endings();
+    plainly();
     contents();
     despatch();
     text();

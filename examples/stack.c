@@ -158,6 +158,12 @@ static void despatch(void) {
     result = uq_despatch(schedule, length, 0, list, sizeof list);
 }
 
+/* The schedule, where it is small enough for the plain way. */
+static void plain_page(void) {
+    static uint8_t images[UQ_MAX_PLAIN];
+    result = uq_plain_page(schedule, length, images, sizeof images);
+}
+
 static void (*call)(void);
 static uint8_t *entry;
 
@@ -223,5 +229,6 @@ int main(void) {
     measure("uq_mend", mend);
     measure("uq_replay", replay);
     measure("uq_despatch", despatch);
+    measure("uq_plain_page", plain_page);
     return bad;
 }

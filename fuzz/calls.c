@@ -123,6 +123,38 @@ int agree_on_line(const u8 *bytes, u64 length)
         && same_bytes("uq_line, the buffer", ours, theirs, ROOM);
 }
 
+/* The plain way beside the second program's endings in their order, where it makes few runs. */
+int agree_on_plain(const u8 *bytes, u64 length)
+{
+    enum { PLAIN = 65536, FEW = 3000 };
+    static u8 ours[PLAIN], theirs[PLAIN];
+    Schedule schedule;
+    Image image;
+    u64 count = 0, size = 0, value = 0, runs = 1;
+    Verdict v = endings_of(bytes, length, &schedule, &the_bench, &count);
+    u32 lines = v.number == TAKEN ? head_lines(schedule.image.form, schedule.t) + schedule.image.n : 0;
+    if (v.number == TAKEN && (schedule.event_count > 12 || schedule.image.n > 4 || lines > 6))
+        v = verdict(TOO_MANY_ENDINGS, 0);
+    for (u32 i = 0; i < lines && runs <= FEW; i++)
+        runs *= schedule.event_count + 2;
+    if (v.number == TAKEN && runs > FEW)
+        return 1;
+    if (v.number == TAKEN) {
+        value = count;
+        size = count * length_of(&schedule.image);
+    }
+    u64 room = chance(70) ? size + below(40) : chance(50) || size == 0 ? size : below((u32)size);
+    if (v.number == TAKEN && room < size)
+        v = verdict(BUFFER_TOO_SHORT, 0);
+    fill_both(ours, theirs, PLAIN);
+    for (u64 k = 0; v.number == TAKEN && k < count; k++) {
+        ending_image(&the_bench, k, &image);
+        image_to_bytes(&image, theirs + k * length_of(&schedule.image));
+    }
+    return same_number("uq_plain_page", uq_plain_page(bytes, length, ours, room), packed(v, value))
+        && same_bytes("uq_plain_page, the buffer", ours, theirs, PLAIN);
+}
+
 /* The second program's page, cut into lines here: as many as fit from line `first` on. */
 int agree_on_lines(const u8 *bytes, u64 length)
 {

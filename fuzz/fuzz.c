@@ -13,6 +13,7 @@ static int agree(u64 seed, u64 number)
         && agree_on_lines(bytes, length) && agree_on_start(bytes, length) && agree_on_conversions(bytes, length, number)
         && agree_on_desks(bytes, length, number) && agree_on_record(seed, number) && agree_on_mended() && agree_on_probe(bytes, length)
         && agree_on_list(bytes, length)
+        && agree_on_plain(bytes, length)
         && (number % HISTORY_EVERY != 0 || agree_on_history(seed, number));
 }
 

@@ -16,6 +16,7 @@ int agree_on_bytes(const u8 *bytes, u64 length);
 int agree_on_ending(const u8 *bytes, u64 length);
 int agree_on_line(const u8 *bytes, u64 length);
 int agree_on_lines(const u8 *bytes, u64 length);
+int agree_on_plain(const u8 *bytes, u64 length);
 int agree_on_record(u64 seed, u64 number);
 int agree_on_start(const u8 *bytes, u64 length);
 int agree_on_history(u64 seed, u64 number);

@@ -46,6 +46,7 @@ enum {
     UQ_MAX_SCHEDULE = 25430, /* 8, the image, and 6 for each event */
     UQ_MAX_LIST = 128,       /* of uq_mend: 2 for each node */
     UQ_MAX_CONTENTS = 208,   /* 16 contents of 13 */
+    UQ_MAX_PLAIN = 65536,    /* of uq_plain_page: 972 images of 51 bytes, or 576 of 66, at most */
     UQ_RECORD = 2267,
     UQ_PLACES = 6,
     UQ_MAX_HISTORY = 859, /* 3 + 4 for each item, and 22 for each operation */
@@ -143,6 +144,13 @@ uint64_t uq_count_endings(const uint8_t *schedule, size_t length);
    A refusal has number 1 to 17 or 19 and its place, and writes nothing. */
 uint64_t uq_ending(const uint8_t *schedule, size_t length, uint64_t k, uint8_t *buffer, size_t room);
 
+/* The same endings the plain way: for each line nothing or one write-back moment since the last start is picked, the schedule run with just those added, every pick
+   in turn, and the image left noted, repeats after the first dropped. The value is how many images there are: as many as uq_count_endings gives.
+   They are written one after the other, as uq_ending writes them and in its order, into the front of `buffer`; the bytes after them stay. UQ_MAX_PLAIN bytes are
+   always enough. With 12 events and 6 lines there are 14^6 runs, which take some minutes.
+   A refusal has number 1 to 15 or 19 and its place, 15 with place 0 also for more than 12 events, 4 nodes or 6 lines, 17 where the images do not all fit, and writes nothing. */
+uint64_t uq_plain_page(const uint8_t *schedule, size_t length, uint8_t *buffer, size_t room);
+
 /* What a crash may leave in one line: line 0 is Head's, line i + 1 that of node i; of "UQP" line k is desk k's, line T + i that of node i. The value is how
    many contents it has, 1 to 16.
    They are written one after the other, the oldest first, into the front of `buffer`, with indices of 64 bits in every form: of Head's or a desk's
@@ -203,7 +211,7 @@ uint64_t uq_despatch(const uint8_t *schedule, size_t length, uint64_t k, uint8_t
 /* The number: 0 where the call was taken. */
 static inline uint32_t uq_number(uint64_t result) { return (uint32_t)(result % 256); }
 
-/* The place of a refusal, or the count that uq_count_endings, uq_line or uq_mend gives. */
+/* The place of a refusal, or the count that uq_count_endings, uq_plain_page, uq_line or uq_mend gives. */
 static inline uint64_t uq_value(uint64_t result) { return result / 256; }
 
 /* Of an event that was taken: what an operation answered, UQ_NO_REPLY where none did. */

@@ -1,12 +1,13 @@
 // What the plain way says of a schedule.
 ghost use Prim.Native.Nat.{_≤_};
+ghost use lib.ListN.{length};
+use answer::Told;
 use answer::told_of;
+use compare::sums::put_sum;
 use compare::text::put;
 use compare::text::put_all;
 use compare::text::put_decimal;
-use compare::text::put_front;
 use compare::text::put_refusal;
-use compare::text::put_sum;
 use stream::byte;
 
 // A schedule that is taken has the last letter of its image's mark at byte 10, the version at byte 11 and N at byte 13, behind "UQP" T
@@ -24,84 +25,51 @@ fn size_of(s: &[u8]) -> usize
     10 + n * 9
 }
 
-// A line of hex for each image, those that lie within the buffer.
-fn put_images(out: &mut [u8; 65536], at: usize, lent: &[u8], count: u32, whole: usize) -> usize {
-    let mut place = at;
-    let mut k = 0;
-    let mut from = 0;
-    while k < count {
-        if lent.len() <= from {
-            break;
-        }
-        let first = put_front(out, place, &lent[from..], whole);
-        let second = put(out, first, b'\n');
-        place = second;
-        from = next_of(from, whole);
-        k += 1;
+// The sum of the first n bytes, or of all where there are fewer.
+fn put_front_sum(out: &mut [u8; 65536], at: usize, s: &[u8], n: usize) -> usize {
+    if n < s.len() {
+        return put_sum(out, at, &s[..n]);
     }
-    place
+    put_sum(out, at, s)
 }
 
-fn next_of(from: usize, whole: usize) -> usize {
-    if from < 65536 && whole < 65536 {
-        return from + whole;
-    }
-    65536
-}
-
-// The sum of the first n bytes, or of all.
-fn put_sum_line(out: &mut [u8; 65536], at: usize, lent: &[u8], n: usize) -> usize {
-    let first = put_all(out, at, b"sum ");
-    let second = if n < lent.len() {
-        put_sum(out, first, &lent[..n])
-    } else {
-        put_sum(out, first, lent)
-    };
-    put(out, second, b'\n')
-}
-
-// The call once more, with a buffer of `room` bytes; it is to be refused.
-fn put_short(
-    out: &mut [u8; 65536],
-    at: usize,
-    s: &[u8],
-    lent: &mut [u8; 65536],
-    room: usize,
-) -> usize {
-    if 65536 <= room {
-        return at;
-    }
+// The call once more, with a buffer of `room` bytes.
+fn lend(s: &[u8], lent: &mut [u8], room: usize) -> Told
+    requires { ⌜ room ≤ length (now lent) ⌝ }
+{
     let r = plainway::plain_page(s, &mut lent[..room]);
     let a = r.answer;
-    put_refusal(out, at, told_of(a))
+    told_of(a)
 }
 
-pub(crate) fn answer_schedule(
-    s: &[u8],
-    lent: &mut [u8; 65536],
-    out: &mut [u8; 65536],
-    at: usize,
-) -> usize {
+fn put_taken(out: &mut [u8; 65536], at: usize, lent: &[u8], count: u32, all: usize) -> usize {
+    let first = put_all(out, at, b"endings ");
+    let second = put_decimal(out, first, count as u64);
+    let third = put_all(out, second, b"\nsum ");
+    let fourth = put_front_sum(out, third, lent, all);
+    put(out, fourth, b'\n')
+}
+
+// Where there is an image, a buffer that is one byte short is refused.
+fn put_short(out: &mut [u8; 65536], at: usize, s: &[u8], lent: &mut [u8], all: usize) -> usize {
+    if all == 0 {
+        return at;
+    }
+    if lent.len() < all {
+        return at;
+    }
+    let t = lend(s, lent, all - 1);
+    put_refusal(out, at, t)
+}
+
+pub(crate) fn answer_schedule(s: &[u8], lent: &mut [u8], out: &mut [u8; 65536], at: usize) -> usize {
     let r = plainway::plain_page(s, lent);
     let a = r.answer;
     let t = told_of(a);
     if t.number != 0 {
         return put_refusal(out, at, t);
     }
-    let count = r.count;
-    if count == 0 || 65536 < count {
-        return at;
-    }
-    let whole = size_of(s);
-    let all = count as usize * whole;
-    let first = put_all(out, at, b"endings ");
-    let second = put_decimal(out, first, count as u64);
-    let third = put(out, second, b'\n');
-    let fourth = if count <= 32 {
-        put_images(out, third, lent, count, whole)
-    } else {
-        third
-    };
-    let fifth = put_sum_line(out, fourth, lent, all);
-    put_short(out, fifth, s, lent, all - 1)
+    let all = r.count as usize * size_of(s);
+    let next = put_taken(out, at, lent, r.count, all);
+    put_short(out, next, s, lent, all)
 }

@@ -1,7 +1,6 @@
 // The plain way, for many schedules in one run, so that another program's answers can be compared with its own.
 // Standard input: a stream of schedules, each behind its length (4 bytes, little-endian). Standard output, for each: `refused N at P`, or
 //   endings COUNT
-//   a line of hex for each image, where COUNT is at most 32
 //   sum SUM      the FNV-1a sum of all images' bytes
 //   refused ..   the same call with a buffer that is one byte too short
 mod images;
@@ -11,7 +10,7 @@ use images::answer_schedule;
 use stream::next_item;
 
 // Nothing says that the input ends, so the turns are counted down from a number that no run uses up.
-fn answer_all(item: &mut [u8], lent: &mut [u8; 65536], out: &mut [u8; 65536]) -> usize {
+fn answer_all(item: &mut [u8], lent: &mut [u8], out: &mut [u8; 65536]) -> usize {
     let mut at = 0;
     let mut turns = u64::MAX;
     while turns > 0 {

@@ -5,6 +5,7 @@ pub mod despatch;
 pub mod histories;
 pub mod line;
 pub mod mend;
+pub mod plain;
 pub mod probes;
 pub mod records;
 pub mod schedules;
