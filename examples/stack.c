@@ -158,10 +158,11 @@ static void despatch(void) {
     result = uq_despatch(schedule, length, 0, list, sizeof list);
 }
 
-/* The schedule, where it is small enough for the plain way. */
+/* A schedule that is small enough for the plain way: two nodes, one thread, an enqueue begun and two steps of it. */
 static void plain_page(void) {
     static uint8_t images[UQ_MAX_PLAIN];
-    result = uq_plain_page(schedule, length, images, sizeof images);
+    static const uint8_t small[8 + 28 + 18] = {'U', 'Q', 'S', 1, 0, 1, 3, 0, 'U', 'Q', 'I', 1, 0, 2, [36] = 1, 0, 7, [42] = 3, [48] = 3};
+    result = uq_plain_page(small, sizeof small, images, sizeof images);
 }
 
 static void (*call)(void);
