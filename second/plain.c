@@ -83,7 +83,8 @@ static u64 combinations(u32 lines)
 /* The last line fastest, line 0 slowest; gives 0 after the last combination. */
 static int next_combination(u32 *moments, u32 lines)
 {
-    for (u32 line = lines; line-- > 0;) {
+    for (u32 turned = lines; turned-- > 0;) {
+        u32 line = wrong_machine == LINE_0_FASTEST ? lines - 1 - turned : turned;
         if (++moments[line] < moment_count)
             return 1;
         moments[line] = 0;
@@ -106,7 +107,7 @@ static u64 leave_images(const Schedule *s, u64 *runs)
     do {
         run_with(s, moments, &image);
         ++*runs;
-        for (known = 0; known < found && !same_image(&left[known], &image);)
+        for (known = wrong_machine == REPEATS_KEPT && found > 0 ? found - 1 : 0; known < found && !same_image(&left[known], &image);)
             known++;
         if (known == found && found < MAX_ENDINGS)
             left[found++] = image;
@@ -137,7 +138,7 @@ static u64 images_of_line(const Schedule *s, u32 line)
     for (; moments[line] < moment_count; moments[line]++) {
         Image image;
         run_with(s, moments, &image);
-        for (known = 0; known < found && !same_image(&left[known], &image);)
+        for (known = wrong_machine == REPEATS_KEPT && found > 0 ? found - 1 : 0; known < found && !same_image(&left[known], &image);)
             known++;
         if (known == found)
             left[found++] = image;

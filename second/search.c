@@ -11,6 +11,7 @@ static const char *const machine_names[MACHINES] = {
     "fence-present", "fence-backwards", "empty-at-flush", "write-back-forgotten", "over-all", "late-left", "over-left",
     "one-held", "queue-before-linked", "dummies-linked",
     "by-item", "unanswered-never-in",
+    "line-0-fastest", "repeats-kept",
 };
 
 u32 machine_of_name(const char *name)

@@ -232,6 +232,8 @@ enum {
     DUMMIES_LINKED,
     BY_ITEM,
     UNANSWERED_NEVER_IN,
+    LINE_0_FASTEST,
+    REPEATS_KEPT,
     MACHINES
 };
 extern u32 wrong_machine;
