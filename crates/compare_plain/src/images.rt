@@ -62,7 +62,12 @@ fn put_short(out: &mut [u8; 65536], at: usize, s: &[u8], lent: &mut [u8], all: u
     put_refusal(out, at, t)
 }
 
-pub(crate) fn answer_schedule(s: &[u8], lent: &mut [u8], out: &mut [u8; 65536], at: usize) -> usize {
+pub(crate) fn answer_schedule(
+    s: &[u8],
+    lent: &mut [u8],
+    out: &mut [u8; 65536],
+    at: usize,
+) -> usize {
     let r = plainway::plain_page(s, lent);
     let a = r.answer;
     let t = told_of(a);
