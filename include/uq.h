@@ -147,7 +147,7 @@ uint64_t uq_ending(const uint8_t *schedule, size_t length, uint64_t k, uint8_t *
 /* The same endings the plain way: for each line nothing or one write-back moment since the last start is picked, the schedule run with just those added, every pick
    in turn, and the image left noted, repeats after the first dropped. The value is how many images there are: as many as uq_count_endings gives.
    They are written one after the other, as uq_ending writes them and in its order, into the front of `buffer`; the bytes after them stay. UQ_MAX_PLAIN bytes are
-   always enough. With 12 events and 6 lines there are 14^6 runs, which take some minutes.
+   always enough. With 12 events and 6 lines there are 14^6 runs.
    A refusal has number 1 to 15 or 19 and its place, 15 with place 0 also for more than 12 events, 4 nodes or 6 lines, 17 where the images do not all fit, and writes nothing. */
 uint64_t uq_plain_page(const uint8_t *schedule, size_t length, uint8_t *buffer, size_t room);
 
