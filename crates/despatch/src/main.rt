@@ -34,26 +34,26 @@ fn print_group(group: u8) {
     }
 }
 
-fn byte_at(b: &[u8], i: usize) -> u64 {
-    if i < b.len() {
-        return b[i] as u64;
+fn byte(s: &[u8], i: usize) -> u8 {
+    if i < s.len() {
+        return s[i];
     }
     0
 }
 
 // Whether standard output took it.
 fn print_entry(b: &[u8], at: usize) -> bool {
-    if 40000 < at {
+    if 524288 < at {
         return true;
     }
     io::write_all(STDOUT_FILENO, b"event ");
-    io::print_decimal(STDOUT_FILENO, byte_at(b, at) + byte_at(b, at + 1) * 256);
+    io::print_decimal(STDOUT_FILENO, stream::half(b, at) as u64);
     io::write_all(STDOUT_FILENO, b" thread ");
-    io::print_decimal(STDOUT_FILENO, byte_at(b, at + 2));
+    io::print_decimal(STDOUT_FILENO, byte(b, at + 2) as u64);
     io::write_all(STDOUT_FILENO, b" item ");
     io::print_decimal(STDOUT_FILENO, stream::word(b, at + 4) as u64);
     io::write_all(STDOUT_FILENO, b": ");
-    print_group(byte_at(b, at + 3) as u8);
+    print_group(byte(b, at + 3));
     end_line()
 }
 
@@ -63,13 +63,14 @@ fn print_list(b: &[u8], count: u16) {
         end_line();
         return;
     }
-    let mut i: usize = 0;
-    while i < count as usize {
-        if !print_entry(b, i * 8) {
+    let last = (count as usize) * 8;
+    let mut at = 0;
+    while at < last {
+        if !print_entry(b, at) {
             complain(b"standard output took no more, the list is not whole");
             return;
         }
-        i += 1;
+        at += 8;
     }
 }
 
@@ -83,51 +84,39 @@ fn print_refusal(number: u8, place: u32) {
     }
 }
 
-// The number that the word is, in decimal; one above every ending's where it is none.
-fn number_of(word: &[u8]) -> u64 {
-    let mut k: u64 = 0;
-    let mut i: usize = 0;
-    if word.len() == 0 {
-        return 4294967296;
-    }
-    while i < word.len() {
-        let c = word[i];
-        if c < b'0' {
-            return 4294967296;
+// Up to six digits: there are at most 65,536 endings.
+fn number_of(s: &[u8]) -> u64 {
+    let mut x: u64 = 0;
+    let mut i = 0;
+    while i < 6 {
+        if i < s.len() {
+            let d = (byte(s, i) % 16) as u64;
+            x = x % 1000000 * 10 + d;
         }
-        if c > b'9' {
-            return 4294967296;
-        }
-        if 100000000 < k {
-            return 4294967296;
-        }
-        k = k * 10 + (c - b'0') as u64;
         i += 1;
     }
-    k
+    x
 }
 
-fn main() {
-    let mut word = [0u8; 16];
-    let n = os::arg(1, &mut word);
-    if n > 16 {
-        complain(b"the argument is the ending's number");
-        return;
+fn is_digit(x: u8) -> bool {
+    48 <= x && x <= 57
+}
+
+fn are_digits(s: &[u8]) -> bool {
+    let mut i = 0;
+    while i < 6 {
+        if i < s.len() && !is_digit(byte(s, i)) {
+            return false;
+        }
+        i += 1;
     }
-    let k = number_of(&word[..n]);
-    if k == 4294967296 {
-        complain(b"the argument is the ending's number");
-        return;
-    }
-    // The longest schedule has 25,430 bytes: what is longer than this is refused as its first part is.
-    let mut s = io::large_buffer();
-    let got = stream::fill(&mut s);
-    if got.failed {
-        complain(b"standard input could not be read to its end, no list is printed");
-        return;
-    }
-    let mut b = io::large_buffer();
-    let r = parcels::despatch(&s[..got.bytes], k, &mut b);
+    0 < s.len() && s.len() <= 6
+}
+
+// The list of the schedule that the bytes are, at ending k.
+fn listed(s: &[u8], k: u64) {
+    let mut b = [0u8; 32768];
+    let r = parcels::despatch(s, k, &mut b);
     let a = r.answer;
     if !answer::is_taken(a) {
         let t = answer::told_of(a);
@@ -135,4 +124,27 @@ fn main() {
         return;
     }
     print_list(&b, r.count);
+}
+
+fn asked(word: &[u8]) {
+    if !are_digits(word) {
+        complain(b"the argument is the ending's number");
+        return;
+    }
+    let k = number_of(word);
+    // The longest schedule has 25,430 bytes: what is longer than this is refused as its first part is.
+    let mut s = io::large_buffer();
+    let got = stream::fill(&mut s);
+    if got.failed {
+        complain(b"standard input could not be read to its end, no list is printed");
+        return;
+    }
+    let n = got.bytes;
+    listed(&s[..n], k);
+}
+
+fn main() {
+    let mut word = [0u8; 8];
+    let n = os::arg(1, &mut word);
+    asked(&word[..n]);
 }
