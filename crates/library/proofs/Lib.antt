@@ -5,4 +5,4 @@ pub mod Whole
 pub mod Mended
 pub mod Replays
 pub mod Despatched
-pub mod Plain
+pub mod Plainly
