@@ -1,2 +1,3 @@
 pub mod Stands
 pub mod Groups
+pub mod Taking
