@@ -1,3 +1,4 @@
 pub mod Stands
 pub mod Groups
 pub mod Taking
+pub mod Taken
