@@ -2,3 +2,4 @@ pub mod Stands
 pub mod Groups
 pub mod Taking
 pub mod Taken
+pub mod Went
