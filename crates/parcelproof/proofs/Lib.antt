@@ -3,3 +3,5 @@ pub mod Groups
 pub mod Taking
 pub mod Taken
 pub mod Went
+pub mod Held
+pub mod Moves
