@@ -5,3 +5,4 @@ pub mod Taken
 pub mod Went
 pub mod Held
 pub mod Moves
+pub mod Steps
