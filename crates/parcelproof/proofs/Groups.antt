@@ -15,7 +15,7 @@ use Rattle.parcels.specs.Parcel.{isLinked}
 use Rattle.parcels.specs.Despatch.{handedOut, stillQueued, turnedAway, takenAlone, groupOf}
 use Rattle.parcels.specs.declared.Parcel.{Parcel}
 
-above : (h : ℕ) (c : Content) → recovered h c ≡ true → h < c .index
+pub above : (h : ℕ) (c : Content) → recovered h c ≡ true → h < c .index
 unfolding recovered
 above h c e = ltb-true h (c .index) (both-true (eqb (c .linked) 1) _ e .1)
 

@@ -6,3 +6,5 @@ pub mod Went
 pub mod Held
 pub mod Moves
 pub mod Steps
+pub mod Listed
+pub mod OneGroup

@@ -31,7 +31,7 @@ one-not : (b : Bool) → _≡_ {A = ℕ} 1 (pick b 2 1) → b ≡ false
 one-not true e = absurd (omega arith)
 one-not false e = refl
 
-zero-not : (b : Bool) → _≡_ {A = ℕ} 0 (pick b 2 1) → ⊥
+pub zero-not : (b : Bool) → _≡_ {A = ℕ} 0 (pick b 2 1) → ⊥
 zero-not true e = omega arith
 zero-not false e = omega arith
 
