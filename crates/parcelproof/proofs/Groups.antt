@@ -33,7 +33,7 @@ module _ (g : Image) (p : Parcel) where
 
   -- ---- the group is that of the first condition that holds
 
-  by-tests : (a b c d : Bool) → handedOut p ≡ a → stillQueued g p ≡ b → turnedAway p ≡ c → takenAlone g p ≡ d
+  pub by-tests : (a b c d : Bool) → handedOut p ≡ a → stillQueued g p ≡ b → turnedAway p ≡ c → takenAlone g p ≡ d
       → groupOf g p ≡ pick a 1 (pick b 2 (pick c 3 (pick d 4 5)))
   unfolding groupOf
   by-tests a b c d e f h k =

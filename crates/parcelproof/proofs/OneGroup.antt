@@ -31,10 +31,10 @@ use Rattle.tied.proofs.Images.{head-is}
 use Rattle.lawproof.proofs.Endings.{Chosen, chosenT, is-ending}
 use Rattle.lawproof.proofs.Lawful3.{page-parts, table-chosen}
 use Rattle.parcels.specs.Parcel.{isLinked, parcelsIn}
-use Rattle.parcels.specs.Despatch.{handedOut, stillQueued, turnedAway, takenAlone}
+use Rattle.parcels.specs.Despatch.{handedOut, stillQueued, turnedAway, takenAlone, groupOf}
 use Rattle.parcels.specs.declared.Parcel.{Parcel}
-use Rattle.parcelproof.specs.Apart.{In, Apart, OneGroup}
-use Rattle.parcelproof.proofs.Groups.{above, queued-not-taken, taken-not-handed}
+use Rattle.parcelproof.specs.Apart.{In, Apart, OneGroup, Told, GroupTold}
+use Rattle.parcelproof.proofs.Groups.{above, queued-not-taken, taken-not-handed, by-tests}
 use Rattle.parcelproof.proofs.Taking.{Covered}
 use Rattle.parcelproof.proofs.Held.{Held}
 use Rattle.parcelproof.proofs.Steps.{Each}
@@ -87,3 +87,21 @@ one-group s bytes a k h p i =
     let l = listed-end s bytes (q .0) (q .1) in
     apart (endingIn s k) p (l .model) (each-in (Held (l .model .mach)) (parcelsIn s) p i (l .held))
     (head-over (ran s .bench) (l .model) (l .tied) (getD (choices (tableOf (ran s .bench))) k []) (table-chosen (ran s .bench) k h))
+
+-- ---- so the group is that of the condition that holds
+
+not-both : (x : Bool) → (x ≡ true → ⊥) → x ≡ false
+not-both true f = absurd (f refl)
+not-both false f = refl
+
+pub told-by : (g : Image) (p : Parcel) → Apart g p → Told g p
+told-by g p a = record {
+  handed = λ e. by-tests g p true (stillQueued g p) (turnedAway p) (takenAlone g p) e refl refl refl;
+  queued = λ e. by-tests g p false true (turnedAway p) (takenAlone g p) (not-both (handedOut p) (λ h. a .handed-queued h e)) e refl refl;
+  turned = λ e. by-tests g p false false true (takenAlone g p) (not-both (handedOut p) (λ h. a .handed-turned h e)) (not-both (stillQueued g p) (λ h. a .queued-turned h e)) e refl;
+  alone = λ e. by-tests g p false false false true (not-both (handedOut p) (λ h. a .handed-alone h e)) (not-both (stillQueued g p) (λ h. a .queued-alone h e))
+      (not-both (turnedAway p) (λ h. a .turned-alone h e)) e;
+}
+
+pub group-told : GroupTold
+group-told s bytes a k h p i = told-by (endingIn s k) p (one-group s bytes a k h p i)

@@ -9,7 +9,7 @@ use Rattle.image.specs.declared.Image.{Image}
 use Rattle.page.specs.Refusals.{pageAnswer, endingCount, endingIn}
 use Rattle.lawful.specs.Demand3.{Bytes}
 use Rattle.parcels.specs.Parcel.{parcelsIn}
-use Rattle.parcels.specs.Despatch.{handedOut, stillQueued, turnedAway, takenAlone}
+use Rattle.parcels.specs.Despatch.{handedOut, stillQueued, turnedAway, takenAlone, groupOf}
 use Rattle.parcels.specs.declared.Parcel.{Parcel}
 
 -- p stands in the list
@@ -29,3 +29,13 @@ pub record Apart (g : Image) (p : Parcel) : Type 0 where
 -- of every enqueue on the list, at every ending of a page that is not refused
 abbrev pub OneGroup : Type 0
 OneGroup = (s : List ℕ) → Bytes s → accepted (pageAnswer s) ≡ true → (k : ℕ) → k < endingCount s → (p : Parcel) → In p (parcelsIn s) → Apart (endingIn s k) p
+
+-- so the group printed is that of the condition that holds, whichever it is: the order in which 02 names them decides nothing
+pub record Told (g : Image) (p : Parcel) : Type 0 where
+  pub handed : handedOut p ≡ true → groupOf g p ≡ 1
+  pub queued : stillQueued g p ≡ true → groupOf g p ≡ 2
+  pub turned : turnedAway p ≡ true → groupOf g p ≡ 3
+  pub alone : takenAlone g p ≡ true → groupOf g p ≡ 4
+
+abbrev pub GroupTold : Type 0
+GroupTold = (s : List ℕ) → Bytes s → accepted (pageAnswer s) ≡ true → (k : ℕ) → k < endingCount s → (p : Parcel) → In p (parcelsIn s) → Told (endingIn s k) p
