@@ -8,3 +8,4 @@ pub mod Moves
 pub mod Steps
 pub mod Listed
 pub mod OneGroup
+pub mod Queue
