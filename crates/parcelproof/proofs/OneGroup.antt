@@ -67,7 +67,7 @@ module _ (g : Image) (p : Parcel) where
   pub queued-above : stillQueued g p ≡ true → headOf g < p .index
   queued-above h =
       let x = both-true (recoveredAt g (p .node)) (eqb (contentAt (g .nodes) (p .node) .index) (p .index))
-          (both-true (isLinked p) (both (recoveredAt g (p .node)) (eqb (contentAt (g .nodes) (p .node) .index) (p .index))) h .1) in
+      (both-true (isLinked p) (both (recoveredAt g (p .node)) (eqb (contentAt (g .nodes) (p .node) .index) (p .index))) h .1) in
       omega (arith, above (headOf g) (contentAt (g .nodes) (p .node)) (x .0), eqb-true (contentAt (g .nodes) (p .node) .index) (p .index) (x .1))
 
   apart : (B : Bench) → Held (B .mach) p → ((x : ℕ) → Covered (B .mach) x → x ≤ headOf g) → Apart g p

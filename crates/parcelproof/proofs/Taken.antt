@@ -102,7 +102,7 @@ module _ (m : M) (b : Book) (q₀ : List ℕ) (now : ℕ) (i : Timed m) (a : All
     own6 h y v e z =
         let fc : FactsOf (histOf m) c (a .g) (a .p) t (s6 h y v) = rw e at (a .pinv .facts t) in
         let k : lineIx E (c .hidx) (upd (c .marks) t (c .node y .index)) (lineOf E t) ≡ c .node y .index =
-            ap (λ (F : Engine). lineIx F (c .hidx) (upd (c .marks) t (c .node y .index)) (lineOf F t)) (fc .0) ∙ upd-same (c .marks) t (c .node y .index) in
+        ap (λ (F : Engine). lineIx F (c .hidx) (upd (c .marks) t (c .node y .index)) (lineOf F t)) (fc .0) ∙ upd-same (c .marks) t (c .node y .index) in
         omega (arith, k)
 
     grown : (s : Th) → c .thr t ≡ s → Grown (step c t s .touch) (content (step c t s .core)) (histOf m) (histOf (after (step c t s)))
