@@ -1,12 +1,12 @@
 -- What a group says, and which of 02's conditions never meet, whatever the image.
-use Prim.Native.Nat.{ℕ, _<_, _≤_}
-use mathlib.Core.Path.{_≡_, refl, sym, ap, _∙_}
+use Prim.Native.Nat.{ℕ, _<_}
+use mathlib.Core.Path.{_≡_, ap, _∙_}
 use mathlib.Core.Bool.{Bool, true, false, not}
 use native.Mathlib.Omega.{arith}
-use lib.Dec.{eqb, ltb, leb}
+use lib.Dec.{eqb, leb}
 use borrow.Author.Tests.{ltb-true, leb-true, eqb-true, not-true}
 use Rattle.lists.specs.Find.{pick, both}
-use Rattle.lists.proofs.BoolLaws.{no-way, both-true}
+use Rattle.lists.proofs.BoolLaws.{both-true}
 use Rattle.image.specs.Layout.{contentAt}
 use Rattle.image.specs.Recovered.{headOf, recovered, recoveredAt}
 use Rattle.image.specs.declared.Content.{Content}
@@ -23,7 +23,8 @@ module _ (g : Image) (p : Parcel) where
   -- what is still queued lies behind the head, what was taken does not
   pub queued-not-taken : stillQueued g p ≡ true → takenAlone g p ≡ true → ⊥
   queued-not-taken a b =
-      let x = both-true (recoveredAt g (p .node)) (eqb (contentAt (g .nodes) (p .node) .index) (p .index)) (both-true (isLinked p) (both (recoveredAt g (p .node)) (eqb (contentAt (g .nodes) (p .node) .index) (p .index))) a .1) in
+      let x = both-true (recoveredAt g (p .node)) (eqb (contentAt (g .nodes) (p .node) .index) (p .index))
+      (both-true (isLinked p) (both (recoveredAt g (p .node)) (eqb (contentAt (g .nodes) (p .node) .index) (p .index))) a .1) in
       let y = both-true (leb (p .index) (headOf g)) (not (p .handed)) (both-true (isLinked p) (both (leb (p .index) (headOf g)) (not (p .handed))) b .1) in
       omega (arith, above (headOf g) (contentAt (g .nodes) (p .node)) (x .0), eqb-true (contentAt (g .nodes) (p .node) .index) (p .index) (x .1), leb-true (p .index) (headOf g) (y .0))
 

@@ -1,35 +1,30 @@
 -- What is so of an enqueue on the list at every moment, and how each event of the abstract machine keeps it.
-use Prim.Native.Nat.{ℕ, _≤_, _<_}
+use Prim.Native.Nat.{ℕ, _≤_}
 use mathlib.Core.Path.{_≡_, refl, sym, ap, subst, _∙_}
 use mathlib.Core.Bool.{Bool, true, false}
 use mathlib.Core.Logic.{_≢_}
 use mathlib.Core.Option.{Option, none, some}
-use native.Mathlib.Omega.{arith}
-use native.Mathlib.Decide.{ℕ-discrete}
-use lib.Dec.{eqb, leb, ltb}
-use borrow.Author.Tests.{eqb-true, eq-eqb, ne-eqb}
-use Rattle.lists.specs.Find.{pick, both}
-use Rattle.lists.proofs.BoolLaws.{no-way, both-true}
-use Rattle.model.specs.Basics.{upd}
+use lib.Dec.{eqb, leb}
+use Rattle.lists.specs.Find.{pick}
+use Rattle.lists.proofs.BoolLaws.{no-way}
 use Rattle.model.specs.Lines.{Touch, nowhere, stores, flushes, issues, fences, ofHead}
 use Rattle.model.specs.Conf.{Engine, shared, split, Mode, atOnce, fenced, lineIx, sameHead, headTouch}
-use Rattle.model.specs.Core.{Core, Th, Node, content, idle, a1, a2, a3, a4, a5, a6, a7, a8, a9, a10, a10f, a11, a12, d1, d2, d3, d3f, d4, d5, d6, d6f, d7, s3, s6, elsewhere}
-use Rattle.model.specs.Core.{Ans, nothing, item, busy}
-use Rattle.model.specs.Places.{ownsE, ownsD}
-use Rattle.model.specs.Steps.{Act, enq, deq, move, does, step, stepA1, stepA6, stepA7, stepA8, stepA10, stepA11, stepA12, stepD2, stepD3, stepD4, stepD6}
+use Rattle.model.specs.Core.{Core, Th, content, idle, a1, a2, a3, a4, a5, a6, a7, a8, a9, a10, a10f, a11, a12, d1, d2, d3, d3f, d4, d5, d6, d6f, d7, s3, s6, elsewhere}
+use Rattle.model.specs.Core.{nothing, busy}
+use Rattle.model.specs.Places.{ownsE}
+use Rattle.model.specs.Steps.{Act, move, does, step, stepA1, stepA6, stepA7, stepA8, stepA10, stepA11, stepA12, stepD2, stepD3, stepD4, stepD6}
 use Rattle.model.specs.Machine.{M, goesOn}
 use Rattle.model.specs.Bench.{Bench}
-use Rattle.model.proofs.Basics.{upd-same, upd-at, upd-other}
 use Rattle.model.proofs.Times.{histOf, Grown, onGrown}
 use Rattle.model.proofs.Page.Frame.{frame, conf-same}
 use Rattle.model.proofs.Always.Runs.{Kept}
 use Rattle.model.proofs.Always.Steady.{heads-up}
-use Rattle.parcels.specs.Parcel.{isOf, isLinked, hasIndex, tells, withLink, withSaid, withTaker, withHanded, moved}
+use Rattle.parcels.specs.Parcel.{isLinked}
 use Rattle.parcels.specs.Despatch.{turnedAway}
 use Rattle.parcels.specs.declared.Parcel.{Parcel}
-use Rattle.parcelproof.proofs.Taking.{Covered, Taking, taking-owns, covered-on, taking-on, index-kept}
-use Rattle.parcelproof.proofs.Taken.{heard, at-d5, at-s6, not-own, own-step, at-d7}
-use Rattle.parcelproof.proofs.Went.{phase, turnsAway}
+use Rattle.parcelproof.proofs.Taking.{Covered, Taking, covered-on, taking-on}
+use Rattle.parcelproof.proofs.Taken.{at-d5, at-s6, not-own}
+use Rattle.parcelproof.proofs.Went.{phase}
 
 pub record Held (m : M) (p : Parcel) : Type 0 where
   -- while it has not answered its thread has it, linked or not
@@ -197,7 +192,8 @@ module _ (B : Bench) (k : Kept B) (x : Act) where
 
   -- a parcel of which nothing is told
   pub stays : (p : Parcel) → Held m p → (p .said ≡ 0 → phase (c′ .thr (p .thread)) ≡ phase (c .thr (p .thread)))
-      → (p .handed ≡ false → p .taker ≢ 255 → Taking (c .conf .engine) m (p .taker) (p .index) (c .thr (p .taker)) → Taking (c′ .conf .engine) m′ (p .taker) (p .index) (c′ .thr (p .taker)))
+      → (p .handed ≡ false → p .taker ≢ 255 → Taking (c .conf .engine) m (p .taker) (p .index) (c .thr (p .taker))
+      → Taking (c′ .conf .engine) m′ (p .taker) (p .index) (c′ .thr (p .taker)))
       → Held m′ p
   stays p h o f = record {
     opened = λ e. o e ∙ h .opened e;

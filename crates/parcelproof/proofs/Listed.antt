@@ -2,16 +2,13 @@
 use Prim.Native.Nat.{ℕ, zero, suc, _≤_, _<_}
 use mathlib.Core.Path.{_≡_, refl, sym, ap, subst, _∙_}
 use mathlib.Core.Bool.{Bool, true, false}
-use mathlib.Core.List.{List, [], _∷_, _++_, map}
+use mathlib.Core.List.{List, [], _∷_, _++_}
 use mathlib.Core.Logic.{_≢_}
-use mathlib.Core.Option.{Option, none, some}
 use native.Mathlib.Omega.{arith}
 use native.Mathlib.Decide.{ℕ-discrete}
-use Rattle.lists.specs.Find.{pick}
 use Rattle.lists.specs.Tab.{tab}
 use Rattle.lists.proofs.BoolLaws.{no-way}
 use Rattle.answer.specs.Answers.{accepted}
-use Rattle.answer.specs.declared.Answer.{Answer}
 use Rattle.machine.specs.Line.{shapeOf}
 use Rattle.machine.specs.Retire.{quiet}
 use Rattle.machine.specs.Event.{Deed, unknown, enqueues, dequeues, steps, writesBack, crashes, deedOf, eventAnswer, eventAt, done}
@@ -24,9 +21,9 @@ use Rattle.schedule.specs.Run.{ran, opened, benchAt}
 use Rattle.schedule.specs.Running.{benchTo}
 use Rattle.lawful.specs.Demand3.{Bytes}
 use Rattle.model.specs.Basics.{upd}
-use Rattle.model.specs.Lines.{Line, Touch, flushes, issues, ofHead}
+use Rattle.model.specs.Lines.{Line, flushes, issues}
 use Rattle.model.specs.Core.{Core, Th, content, idle, a1, d1}
-use Rattle.model.specs.Places.{ownsE, ownsD}
+use Rattle.model.specs.Places.{ownsD}
 use Rattle.model.specs.Steps.{Act, enq, deq, does}
 use Rattle.model.specs.Machine.{M, goesOn}
 use Rattle.model.specs.Bench.{Bench, turn, opening}
@@ -42,9 +39,9 @@ use Rattle.tied.proofs.Schedules.{schedule-starts, schedule-narrow}
 use Rattle.pageproof.proofs.Events.{taken-is}
 use Rattle.pageproof.proofs.Runs as runs
 use Rattle.plainproof.proofs.Since.{come-all, reply-taken}
-use Rattle.parcels.specs.Parcel.{isLinked, fresh, noted, machineAt, actedAt, parcelsTo, parcelsIn}
+use Rattle.parcels.specs.Parcel.{isLinked, fresh, noted, machineAt, parcelsTo, parcelsIn}
 use Rattle.parcels.specs.declared.Parcel.{Parcel}
-use Rattle.parcelproof.proofs.Taking.{Covered, Taking, taking-owns, covered-on, taking-on}
+use Rattle.parcelproof.proofs.Taking.{Taking, taking-owns, covered-on, taking-on}
 use Rattle.parcelproof.proofs.Went.{phase}
 use Rattle.parcelproof.proofs.Held.{Held, idle-of, takes-on, stays}
 use Rattle.parcelproof.proofs.Moves.{zero-not}
@@ -186,4 +183,5 @@ module _ (s : List ℕ) (bytes : Bytes s) (a : accepted (scheduleAnswer s) ≡ t
   -- at the schedule's end
   pub listed-end : Listed s (ran s .bench) (parcelsIn s)
   unfolding ran eventsIn
-  listed-end = subst (λ (b : schedule.Bench). Listed s b (parcelsIn s)) (sym (come-all (opened (scheduleIn s)) (eventIn s) (countIn s) taken-all (countIn s) (omega arith) .come)) (listed (countIn s) (omega arith))
+  listed-end = subst (λ (b : schedule.Bench). Listed s b (parcelsIn s))
+      (sym (come-all (opened (scheduleIn s)) (eventIn s) (countIn s) taken-all (countIn s) (omega arith) .come)) (listed (countIn s) (omega arith))

@@ -1,29 +1,28 @@
 -- A step of a thread: each enqueue on the list is, after what the step tells, as it is at every moment.
-use Prim.Native.Nat.{ℕ, _≤_, _<_}
+use Prim.Native.Nat.{ℕ, _<_}
 use mathlib.Core.Path.{_≡_, refl, sym, ap, subst, _∙_}
 use mathlib.Core.Bool.{Bool, true, false}
 use mathlib.Core.Logic.{_≢_}
-use mathlib.Core.Option.{Option, none, some}
+use mathlib.Core.Option.{none}
 use native.Mathlib.Omega.{arith}
 use native.Mathlib.Decide.{ℕ-discrete}
-use lib.Dec.{eqb, leb, ltb}
+use lib.Dec.{eqb, ltb}
 use borrow.Author.Tests.{eqb-true, eq-eqb, lt-ltb}
-use Rattle.lists.specs.Find.{pick, both}
+use Rattle.lists.specs.Find.{pick}
 use Rattle.lists.proofs.BoolLaws.{no-way, both-true, both-of}
 use Rattle.model.specs.Basics.{upd}
-use Rattle.model.specs.Core.{Core, Th, Node, content, idle, a1, a2, a3, a4, a5, a6, a7, a8, a9, a10, a10f, a11, a12, d1, d2, d3, d3f, d4, d5, d6, d6f, d7, s3, s6, elsewhere}
-use Rattle.model.specs.Core.{Ans, nothing, item, busy}
-use Rattle.model.specs.Places.{ownsE, ownsD}
-use Rattle.model.specs.Steps.{Out, move, does, step}
+use Rattle.model.specs.Core.{Core, Th, Node, idle, a8, a9, d4, d5, d7}
+use Rattle.model.specs.Core.{nothing}
+use Rattle.model.specs.Places.{ownsD}
+use Rattle.model.specs.Steps.{Out, move, step}
 use Rattle.model.specs.Machine.{M, goesOn}
 use Rattle.model.specs.Bench.{Bench}
-use Rattle.model.proofs.Basics.{upd-same, upd-at, upd-other}
+use Rattle.model.proofs.Basics.{upd-same, upd-other}
 use Rattle.model.proofs.Always.Runs.{Kept}
 use Rattle.parcels.specs.Parcel.{isOf, isLinked, hasIndex, tells, withLink, withSaid, withTaker, withHanded, moved}
-use Rattle.parcels.specs.Despatch.{turnedAway}
 use Rattle.parcels.specs.declared.Parcel.{Parcel}
 use Rattle.parcelproof.proofs.Taking.{Covered, Taking, taking-owns, index-kept}
-use Rattle.parcelproof.proofs.Taken.{heard, own-step, at-d7}
+use Rattle.parcelproof.proofs.Taken.{own-step, at-d7}
 use Rattle.parcelproof.proofs.Went.{phase, turnsAway}
 use Rattle.parcelproof.proofs.Held.{Held, flushes-own, covers, as-engine, takes-on, stays}
 

@@ -1,6 +1,6 @@
 -- On one queue 02's conditions exclude each other: what was handed out lies at or below the head index of every ending, what was turned away was never linked.
 use Prim.Native.Nat.{ℕ, _≤_, _<_}
-use mathlib.Core.Path.{_≡_, refl, sym, ap, subst, _∙_}
+use mathlib.Core.Path.{_≡_, refl, sym, subst, _∙_}
 use mathlib.Core.Bool.{Bool, true, false, not}
 use mathlib.Core.List.{List, [], _∷_}
 use mathlib.Core.Logic.{inl, inr}
@@ -11,7 +11,7 @@ use borrow.Author.Tests.{eqb-true}
 use Rattle.lists.specs.Find.{pick, both}
 use Rattle.lists.proofs.BoolLaws.{no-way, both-true}
 use Rattle.image.specs.Layout.{contentAt}
-use Rattle.image.specs.Recovered.{headOf, recovered, recoveredAt}
+use Rattle.image.specs.Recovered.{headOf, recoveredAt}
 use Rattle.image.specs.declared.Content.{Content}
 use Rattle.image.specs.declared.Image.{Image}
 use Rattle.machine.specs.Line.{shapeOf}
@@ -31,14 +31,14 @@ use Rattle.tied.proofs.Images.{head-is}
 use Rattle.lawproof.proofs.Endings.{Chosen, chosenT, is-ending}
 use Rattle.lawproof.proofs.Lawful3.{page-parts, table-chosen}
 use Rattle.parcels.specs.Parcel.{isLinked, parcelsIn}
-use Rattle.parcels.specs.Despatch.{handedOut, stillQueued, turnedAway, takenAlone, groupOf}
+use Rattle.parcels.specs.Despatch.{handedOut, stillQueued, turnedAway, takenAlone}
 use Rattle.parcels.specs.declared.Parcel.{Parcel}
 use Rattle.parcelproof.specs.Apart.{In, Apart, OneGroup, Told, GroupTold}
 use Rattle.parcelproof.proofs.Groups.{above, queued-not-taken, taken-not-handed, by-tests}
 use Rattle.parcelproof.proofs.Taking.{Covered}
 use Rattle.parcelproof.proofs.Held.{Held}
 use Rattle.parcelproof.proofs.Steps.{Each}
-use Rattle.parcelproof.proofs.Listed.{Listed, listed-end}
+use Rattle.parcelproof.proofs.Listed.{listed-end}
 
 pub each-in : (P : Parcel → Type 0) (l : List Parcel) (p : Parcel) → In p l → Each P l → P p
 each-in P [] p h a = absurd h

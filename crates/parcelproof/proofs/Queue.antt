@@ -1,11 +1,11 @@
 -- An enqueue that is still queued stands in the ending's queue, by the index it was linked with.
 use Prim.Native.Nat.{ℕ, _+_, _-_, _≤_, _<_}
 use mathlib.Core.Path.{_≡_, refl, sym, ap, _∙_}
-use mathlib.Core.Bool.{Bool, true, false}
+use mathlib.Core.Bool.{true, false}
 use mathlib.Core.List.{List, _++_}
 use native.Mathlib.Omega.{arith}
 use native.Mathlib.Decide.{decLt}
-use lib.Dec.{eqb, ltb}
+use lib.Dec.{eqb}
 use lib.ListN.{length, getD, drop, replicate, getD-replicate}
 use lib.Seq.{getD-drop, getD-append-add}
 use borrow.Author.Tests.{eqb-true, ltb-true}
@@ -16,8 +16,6 @@ use Rattle.lists.proofs.TabLaws.{length-tab}
 use Rattle.image.specs.Layout.{noContent, noContents, contentAt}
 use Rattle.image.specs.Recovered.{headOf, recovered, recoveredAt}
 use Rattle.image.specs.declared.Content.{Content}
-use Rattle.machine.specs.Rising.{among, Rising}
-use Rattle.machine.specs.Start.{queueOf}
 use Rattle.machine.proofs.RisenLaws.{risen-all}
 use Rattle.machine.proofs.StartLaws as starts
 use Rattle.schedule.specs.Layout.{threadsIn}

@@ -1,5 +1,5 @@
 -- What a step of the record tells the desk is what the abstract machine's step tells.
-use Prim.Native.Nat.{ℕ, _≤_, _<_}
+use Prim.Native.Nat.{ℕ, _<_}
 use mathlib.Core.Path.{_≡_, refl, sym, ap, ap₂, subst, _∙_}
 use mathlib.Core.Bool.{Bool, true, false}
 use mathlib.Core.List.{List, [], _∷_, map}
@@ -7,7 +7,7 @@ use mathlib.Core.Logic.{_≢_}
 use mathlib.Core.Option.{Option}
 use native.Mathlib.Omega.{arith}
 use native.Mathlib.Decide.{decLt}
-use lib.Dec.{eqb, leb, ltb}
+use lib.Dec.{eqb, leb}
 use borrow.Author.Tests.{lt-ltb, lt-leb}
 use Rattle.lists.specs.Find.{pick, both}
 use Rattle.lists.proofs.BoolLaws.{no-way}
@@ -20,7 +20,6 @@ use Rattle.machine.specs.Line.{shapeOf}
 use Rattle.machine.specs.Stage.{Stage, noStep, A1, A2, A3, A4, A5, A6, A7, A8, A9, A10, A11, A12, D1, D2, D3, D4, D5, D6, D7, S3, S6, F10, F3, F6, stageOf, number}
 use Rattle.machine.specs.Event.{steps, eventAnswer, done}
 use Rattle.machine.specs.declared.Machine.{Machine}
-use Rattle.machine.specs.declared.Node as record-node
 use Rattle.machine.specs.declared.Thread.{Thread}
 use Rattle.machine.specs.declared.Event.{Event}
 use Rattle.machine.specs.declared.Acted.{Acted}
@@ -28,7 +27,7 @@ use Rattle.machine.proofs.StageLaws.{number-stage}
 use Rattle.schedule.specs.Run as schedule
 use Rattle.model.specs.Core.{Core, Th, Node, content, idle, a1, a2, a3, a4, a5, a6, a7, a8, a9, a10, a10f, a11, a12, d1, d2, d3, d3f, d4, d5, d6, d6f, d7, s3, s6, elsewhere}
 use Rattle.model.specs.Core as core
-use Rattle.model.specs.Core.{Ans, busy}
+use Rattle.model.specs.Core.{Ans}
 use Rattle.model.specs.Basics.{upd}
 use Rattle.model.specs.Steps.{step}
 use Rattle.model.specs.Bench.{Bench, turn}

@@ -1,28 +1,27 @@
 -- The steps of a dequeue that has taken a node, and the steps of others meanwhile: what it has of the node's index stays, and in the end a head line with it is persisted.
-use Prim.Native.Nat.{ℕ, zero, suc, _≤_, _<_}
+use Prim.Native.Nat.{ℕ, suc, _≤_, _<_}
 use mathlib.Core.Path.{_≡_, refl, sym, ap, subst, _∙_}
-use mathlib.Core.Bool.{Bool, true, false}
+use mathlib.Core.Bool.{true, false}
 use mathlib.Core.List.{List}
-use mathlib.Core.Logic.{_≢_, _⊎_, inl, inr}
-use mathlib.Core.Option.{Option, none, some}
+use mathlib.Core.Option.{some}
 use native.Mathlib.Omega.{arith}
 use Rattle.model.specs.Basics.{upd}
-use Rattle.model.specs.Lines.{Line, ofHead, ofNode, Touch, nowhere, stores, flushes, issues, fences}
-use Rattle.model.specs.Conf.{Engine, shared, split, Mode, atOnce, fenced, lineOf, lineIx, lineCount, headLines}
+use Rattle.model.specs.Lines.{ofHead, flushes, issues}
+use Rattle.model.specs.Conf.{Engine, shared, split, Mode, atOnce, fenced, lineOf, lineIx, lineCount}
 use Rattle.model.specs.Core.{Core, Th, Node, content, idle, a1, a2, a3, a4, a5, a6, a7, a8, a9, a10, a10f, a11, a12, d1, d2, d3, d3f, d4, d5, d6, d6f, d7, s3, s6, elsewhere}
 use Rattle.model.specs.Core.{Ans, nothing, done, full, worn, empty, item, busy}
-use Rattle.model.specs.Places.{ownsE, ownsD}
+use Rattle.model.specs.Places.{ownsE}
 use Rattle.model.specs.Steps.{Out, step, does, move, stepD6, itemTo}
-use Rattle.model.specs.Machine.{M, Has, Since, goesOn}
+use Rattle.model.specs.Machine.{M, goesOn}
 use Rattle.model.specs.Bench.{Book}
 use Rattle.model.proofs.Basics.{upd-same}
-use Rattle.model.proofs.Times.{Hist, histOf, Grown, Timed, onGrown}
-use Rattle.model.proofs.Layer1.Ghost.{Place, enqd, deqd, posOf, poss, Live, Spot, ixs}
+use Rattle.model.proofs.Times.{histOf, Grown, Timed, onGrown}
+use Rattle.model.proofs.Layer1.Ghost.{deqd, posOf, poss, Live, Spot, ixs}
 use Rattle.model.proofs.Layer2.Contents.{idx-mono}
 use Rattle.model.proofs.Layer2.Invariant.{FactsOf}
 use Rattle.model.proofs.Layer3.All.{All}
-use Rattle.model.proofs.Page.Frame.{frame, conf-same}
-use Rattle.parcelproof.proofs.Taking.{AllOver, AllSince, Covered, Taking}
+use Rattle.model.proofs.Page.Frame.{frame}
+use Rattle.parcelproof.proofs.Taking.{AllSince, Covered, Taking}
 
 abbrev pub heard : Ans → ℕ
 heard nothing = 0

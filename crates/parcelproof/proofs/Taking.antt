@@ -1,15 +1,13 @@
 -- Of the abstract machine: what a dequeue that has taken a node has of its index, step by step up to the head line that it persists; and what other events leave of it.
-use Prim.Native.Nat.{ℕ, zero, suc, _≤_, _<_}
+use Prim.Native.Nat.{ℕ, _≤_, _<_}
 use mathlib.Core.Path.{_≡_, refl, sym, ap, subst, _∙_}
 use mathlib.Core.Bool.{Bool, true, false}
-use mathlib.Core.List.{List}
 use mathlib.Core.Logic.{_≢_, _⊎_, inl, inr}
 use mathlib.Core.Option.{Option, none, some}
 use native.Mathlib.Omega.{arith}
 use lib.Dec.{eqb, leb}
-use Rattle.model.specs.Basics.{upd}
-use Rattle.model.specs.Lines.{Line, ofHead, ofNode, Touch, nowhere, stores, flushes, issues, fences}
-use Rattle.model.specs.Conf.{Engine, shared, split, Mode, atOnce, fenced, lineOf, lineIx, headLines, sameHead}
+use Rattle.model.specs.Lines.{Line, ofHead, Touch, nowhere, stores, flushes, issues, fences}
+use Rattle.model.specs.Conf.{Engine, Mode, atOnce, fenced, lineOf, headLines, sameHead}
 use Rattle.model.specs.Core.{Core, Th, Node, content, idle, a1, a2, a3, a4, a5, a6, a7, a8, a9, a10, a10f, a11, a12, d1, d2, d3, d3f, d4, d5, d6, d6f, d7, s3, s6, elsewhere}
 use Rattle.model.specs.Core.{withItem, withLinked}
 use Rattle.model.specs.Places.{ownsE, ownsD}
@@ -98,7 +96,8 @@ module _ (m : M) (c : Core) (w : Touch) (i : Timed m) (g : Grown w (content c) (
   present-since : (u k : ℕ) → Since m u (ofHead k) (content (m .core) (ofHead k))
   present-since u k = record { time = m .now; since = i .marked u; until = omega arith; is = sym (i .present (ofHead k)) }
 
-  stored : (k x : ℕ) (l : Line) (a : Node) (A : Type 0) → (A → x ≤ a .index) → x ≤ content (m .core) (ofHead k) .index → A ⊎ ((ofHead k ≡ l) × (a ≡ content c l)) → x ≤ a .index
+  stored : (k x : ℕ) (l : Line) (a : Node) (A : Type 0) → (A → x ≤ a .index) → x ≤ content (m .core) (ofHead k) .index
+      → A ⊎ ((ofHead k ≡ l) × (a ≡ content c l)) → x ≤ a .index
   stored k x l a A f h (inl y) = f y
   stored k x l a A f h (inr y) = let q : a .index ≡ content c (ofHead k) .index = ap (λ (n : Node). n .index) (y .1 ∙ ap (content c) (sym (y .0))) in omega (arith, up k)
 

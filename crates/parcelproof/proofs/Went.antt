@@ -1,6 +1,6 @@
 -- What a step of the abstract machine tells of enqueues: nothing, a link, a node taken, an answer that is no item, an item.
 use Prim.Native.Nat.{ℕ}
-use mathlib.Core.Path.{_≡_, refl, sym, ap, _∙_}
+use mathlib.Core.Path.{_≡_, refl, sym, ap}
 use mathlib.Core.Bool.{Bool, true, false}
 use mathlib.Core.Option.{Option, none, some}
 use lib.Dec.{eqb, leb}
@@ -8,8 +8,8 @@ use Rattle.lists.specs.Find.{pick, both}
 use Rattle.lists.proofs.BoolLaws.{no-way}
 use Rattle.model.specs.Basics.{upd}
 use Rattle.model.specs.Conf.{Mode, atOnce, fenced, Engine, shared, split, sameHead}
-use Rattle.model.specs.Core.{Core, Th, Node, content, idle, a1, a2, a3, a4, a5, a6, a7, a8, a9, a10, a10f, a11, a12, d1, d2, d3, d3f, d4, d5, d6, d6f, d7, s3, s6, elsewhere}
-use Rattle.model.specs.Core.{Ans, nothing, done, full, worn, empty, item, busy}
+use Rattle.model.specs.Core.{Core, Th, idle, a1, a2, a3, a4, a5, a6, a7, a8, a9, a10, a10f, a11, a12, d1, d2, d3, d3f, d4, d5, d6, d6f, d7, s3, s6, elsewhere}
+use Rattle.model.specs.Core.{nothing, item, busy}
 use Rattle.model.specs.Places.{ownsD}
 use Rattle.model.specs.Steps.{Out, step, stepA1, stepA6, stepA7, stepA8, stepA10, stepA11, stepA12, stepD2, stepD3, stepD4, stepD6, emptyTo, itemTo, retireHeld}
 use Rattle.parcelproof.proofs.Taken.{heard}
@@ -86,7 +86,8 @@ pub data Went (c : Core) (t : ℕ) (s : Th) (o : Out) : Type 0 where
   quiet : (s′ : Th) → o .core .thr ≡ upd (c .thr) t s′ → linksTo s s′ ≡ false → takesTo s s′ ≡ false → o .ans ≡ nothing → phase s′ ≡ phase s → Went c t s o
   linked : (v n x : ℕ) → s ≡ a8 v n x → o .core .thr ≡ upd (c .thr) t (a9 v n x) → Went c t s o
   took : (h i x : ℕ) → s ≡ d4 h i x → o .core .thr ≡ upd (c .thr) t (d5 h x) → o .core .node ≡ c .node → Went c t s o
-  said : o .core .thr ≡ upd (c .thr) t idle → eqb (heard (o .ans)) 0 ≡ false → eqb (heard (o .ans)) 4 ≡ false → (turnsAway (heard (o .ans)) ≡ true → phase s ≡ 1) → ownsD s ≡ none → Went c t s o
+  said : o .core .thr ≡ upd (c .thr) t idle → eqb (heard (o .ans)) 0 ≡ false → eqb (heard (o .ans)) 4 ≡ false
+      → (turnsAway (heard (o .ans)) ≡ true → phase s ≡ 1) → ownsD s ≡ none → Went c t s o
   gave : (h v : ℕ) → s ≡ d7 h v → o .core .thr ≡ upd (c .thr) t idle → o .ans ≡ item v → Went c t s o
 
 module _ (c : Core) (t : ℕ) where
