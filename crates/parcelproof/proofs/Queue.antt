@@ -8,15 +8,15 @@ use native.Mathlib.Decide.{decLt}
 use lib.Dec.{eqb}
 use lib.ListN.{length, getD, drop, replicate, getD-replicate}
 use lib.Seq.{getD-drop, getD-append-add}
-use borrow.Author.Tests.{eqb-true, ltb-true}
+use borrow.Author.Tests.{eqb-true, eq-eqb, ltb-true}
 use Rattle.lists.specs.Find.{both}
 use Rattle.lists.specs.Tab.{tab, front}
-use Rattle.lists.proofs.BoolLaws.{no-way, both-true}
+use Rattle.lists.proofs.BoolLaws.{no-way, both-true, both-of}
 use Rattle.lists.proofs.TabLaws.{length-tab}
 use Rattle.image.specs.Layout.{noContent, noContents, contentAt}
 use Rattle.image.specs.Recovered.{headOf, recovered, recoveredAt}
 use Rattle.image.specs.declared.Content.{Content}
-use Rattle.machine.proofs.RisenLaws.{risen-all}
+use Rattle.machine.proofs.RisenLaws.{risen-in, risen-all}
 use Rattle.machine.proofs.StartLaws as starts
 use Rattle.schedule.specs.Layout.{threadsIn}
 use Rattle.page.specs.Endings.{imageOf, ending}
@@ -56,5 +56,15 @@ queues s k p q =
     inside (yes h) l e = h
     inside (no h) l e = no-way (sym e ∙ ap (recovered (headOf (endingIn s k))) (blank s k (p .node) (omega arith) l) ∙ none-there (headOf (endingIn s k)))
 
+pub queued-of : (s : List ℕ) (k : ℕ) (p : Parcel) → isLinked p ≡ true → Queues (endingIn s k) p → stillQueued (endingIn s k) p ≡ true
+queued-of s k p l q =
+    let g = endingIn s k in
+    both-of (isLinked p) (both (recoveredAt g (p .node)) (eqb (contentAt (g .nodes) (p .node) .index) (p .index))) l
+    (both-of (recoveredAt g (p .node)) (eqb (contentAt (g .nodes) (p .node) .index) (p .index)) (risen-in g (g .n) (p .node) (q .there) .1)
+    (eq-eqb (contentAt (g .nodes) (p .node) .index) (p .index) (q .index)))
+
+linked-of : (s : List ℕ) (k : ℕ) (p : Parcel) → stillQueued (endingIn s k) p ≡ true → isLinked p ≡ true
+linked-of s k p q = let g = endingIn s k in both-true (isLinked p) (both (recoveredAt g (p .node)) (eqb (contentAt (g .nodes) (p .node) .index) (p .index))) q .0
+
 pub queued-there : QueuedThere
-queued-there s bytes a k h = (starts.queue-rises (endingIn s k) (threadsIn s) (page-lawful s bytes a k h .starts), queues s k)
+queued-there s bytes a k h = (starts.queue-rises (endingIn s k) (threadsIn s) (page-lawful s bytes a k h .starts), λ p. ((λ q. (linked-of s k p q, queues s k p q)), (λ q. queued-of s k p (q .0) (q .1))))
