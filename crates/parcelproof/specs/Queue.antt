@@ -20,8 +20,8 @@ pub record Queues (g : Image) (p : Parcel) : Type 0 where
   pub there : among (p .node) (queueOf g)
   pub index : contentAt (g .nodes) (p .node) .index ≡ p .index
 
--- exactly those linked ones are still queued. The queue rises by index: it has the still queued ones in the order of their indices, which is the order of their link steps. The list has them in begin
--- order, and the two may differ: threads 0 and 1 begin an enqueue each, in this order, and 1 links first
+-- exactly such linked ones are still queued. The queue rises by index, so it has them in the order of their indices. The list has them in begin order, and the
+-- two may differ: threads 0 and 1 begin an enqueue each, in this order, and 1 links first
 abbrev pub QueuedThere : Type 0
 QueuedThere = (s : List ℕ) → Bytes s → accepted (pageAnswer s) ≡ true → (k : ℕ) → k < endingCount s
     → Rising (λ i. contentAt (endingIn s k .nodes) i .index) (queueOf (endingIn s k))
