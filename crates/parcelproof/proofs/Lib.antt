@@ -1,2 +1,11 @@
 pub mod Stands
 pub mod Groups
+pub mod Taking
+pub mod Taken
+pub mod Went
+pub mod Held
+pub mod Moves
+pub mod Steps
+pub mod Listed
+pub mod OneGroup
+pub mod Queue

@@ -1,1 +1,3 @@
 pub mod Begun
+pub mod Apart
+pub mod Queue
