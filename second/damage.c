@@ -283,11 +283,12 @@ void generate_contents_item(u64 seed, u64 number, u8 *item)
     put2(item + CONTENTS_BYTES - 2, some_room(NARROW, item[0]));
 }
 
-/* The same with 64 bits for an index and, in front, the version that is to be written; for version 1 they do not always fit. */
+/* The same with 64 bits for an index and, in front, the version of "UQI" that is to be written; for version 1 they do not always fit. There is no T here,
+   so no "UQP". */
 void generate_wide_contents_item(u64 seed, u64 number, u8 *item)
 {
     seed_random(seed, number);
-    u32 form = some_form();
+    u32 form = chance(50) ? NARROW : WIDE;
     item[0] = (u8)form;
     some_contents(number, WIDE, item + 1);
     put2(item + WIDE_CONTENTS_BYTES - 2, some_room(form, item[1]));

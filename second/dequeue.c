@@ -4,8 +4,8 @@
 static void step_d1(Machine *m, Thread *self)
 {
     self->head_read = m->head[self->queue];
-    if (m->form != DESKS) /* there "Head is a node number only" */
-        self->head_read_index = m->lines[self->queue];
+    /* "Head is a node number only": the thread then has 0 for an index (docs/DECISIONS.md, R101c) */
+    self->head_read_index = m->form != DESKS ? m->lines[self->queue] : 0;
     self->step = D2;
 }
 
