@@ -6,7 +6,7 @@
 
    What a caller owes, since nothing here can test it: each pointer is not null (not even with a length of 0) and has that many
    bytes behind it, bytes that a call writes do not overlap those it reads, and no length is above 2^63 - 1. uq_count_endings,
-   uq_ending and uq_line touch up to 175 KB of stack, uq_page_lines up to 208 KB, uq_judge up to 32 KB, the others up to 24 KB (measured by bench/stack, docs/PERFORMANCE.md).
+   uq_ending, uq_line and uq_plain_page touch up to 220 KB of stack, uq_page_lines up to 250 KB, uq_despatch up to 433 KB, the others up to 33 KB (measured by bench/stack, docs/PERFORMANCE.md).
 
    Every call returns number + 256 * value. Number 0: taken. Others: refused, as document 01's table and the requests after it have it, and then the value is the
    place and no lent byte is changed. uq_number, uq_value, uq_lines, uq_bytes, uq_reply, uq_item, uq_verdict, uq_tries
@@ -147,7 +147,7 @@ uint64_t uq_ending(const uint8_t *schedule, size_t length, uint64_t k, uint8_t *
 /* The same endings the plain way: for each line nothing or one write-back moment since the last start is picked, the schedule run with just those added, every pick
    in turn, and the image left noted, repeats after the first dropped. The value is how many images there are: as many as uq_count_endings gives.
    They are written one after the other, as uq_ending writes them and in its order, into the front of `buffer`; the bytes after them stay. UQ_MAX_PLAIN bytes are
-   always enough. With 12 events and 6 lines there are 14^6 runs.
+   always enough. With 12 events and 6 lines there are 14^6 runs, which take a minute.
    A refusal has number 1 to 15 or 19 and its place, 15 with place 0 also for more than 12 events, 4 nodes or 6 lines, 17 where the images do not all fit, and writes nothing. */
 uint64_t uq_plain_page(const uint8_t *schedule, size_t length, uint8_t *buffer, size_t room);
 
