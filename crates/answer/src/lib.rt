@@ -1,5 +1,7 @@
 // What a call answers. The definition `told` in specs/ gives document 01's number, place and values for each case.
 
+#![tactic(auto)]
+
 mod taken;
 mod telling;
 
@@ -7,7 +9,7 @@ pub use taken::is_taken;
 pub use telling::told_of;
 
 // A case for each refusal, with its place where it has one; and one for each answer of an operation.
-#[derive(Drop)]
+#[derive(Clone, Copy)]
 pub enum Answer {
     Taken,
     Done,
@@ -38,7 +40,7 @@ pub enum Answer {
 }
 
 // Number and place as document 01's table has them; the operation's answer, and the item where it has one.
-#[derive(Drop)]
+#[derive(Clone, Copy)]
 pub struct Told {
     pub number: u8,
     pub place: u32,

@@ -1,4 +1,7 @@
 // Sets of numbers as words: a number is in the set where its bit is set.
+
+#![tactic(auto)]
+
 ghost use Rattle.std.specs.Prelude.{◌≡◌, ℕ, ◌<◌};
 ghost use Rattle.lists.specs.Find.{least, around, count};
 ghost use Rattle.lists.specs.Word.{has, with, without};

@@ -1,5 +1,8 @@
 // Images and schedules, read from bytes and written to them.
 // Public calls: read_image, write_image, read_schedule, event_of; each answers with a number and a place. What else stands here is for the crates above.
+
+#![tactic(auto)]
+
 mod bytes;
 mod events;
 mod images;
@@ -46,7 +49,7 @@ pub fn read_schedule(s: &[u8]) -> Opened
 }
 
 // What came of asking for an event: on a refusal the event is the zero one.
-#[derive(Drop)]
+#[derive(Clone, Copy)]
 pub struct Found {
     pub answer: Answer,
     pub event: Event,

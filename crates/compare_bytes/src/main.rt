@@ -9,6 +9,9 @@
 //   v  an image to be narrowed: the same
 //   j  an image of "UQP" to be imported, the buffer's room behind it: the same
 //   x  an image to be exported, T (1 byte) and the room behind it: the same
+
+#![tactic(auto)]
+
 mod contents;
 mod conversions;
 mod desks;

@@ -13,6 +13,9 @@
 //   w  the same, by the call on a kept record
 //   l  an ending's number (4 bytes) and a schedule: `refused N at P`, or `list COUNT` and ` ITEM:GROUP` for each entry of the despatch desk's list
 //   q  a probe file: `refused N at P`, `all agree`, or `event E recorded ANSWER ITEM given ANSWER ITEM` of the first that differs
+
+#![tactic(auto)]
+
 mod kept;
 mod listing;
 mod moments;

@@ -7,7 +7,7 @@ use machine::{Event, Machine};
 use stream::{byte, word};
 
 // How many events were taken, the sum of what they answered, and the record in the end.
-#[derive(Drop)]
+#[derive(Clone, Copy)]
 struct Ended {
     taken: u64,
     items: u64,

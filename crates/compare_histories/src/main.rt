@@ -1,5 +1,8 @@
 // The verdict on each history of a stream, so that another program's verdicts can be compared with them.
 // Standard input: a stream of items, each behind its length (4 bytes, little-endian). A line an item, as the program `judge` prints it.
+
+#![tactic(auto)]
+
 use answer::told_of;
 use compare::text::{finish, put, put_all, put_decimal, put_refusal};
 use judging::Verdict;

@@ -5,6 +5,9 @@
 //   sum SUM      the FNV-1a sum of all endings' bytes
 //   refused ..   ending COUNT
 //   refused ..   the last ending in a buffer that is one byte too short
+
+#![tactic(auto)]
+
 mod endings;
 mod paged;
 mod sums;

@@ -3,6 +3,9 @@
 //   endings COUNT
 //   sum SUM      the FNV-1a sum of all images' bytes
 //   refused ..   the same call with a buffer that is one byte too short
+
+#![tactic(auto)]
+
 mod images;
 
 use compare::text::finish;

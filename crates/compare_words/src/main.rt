@@ -3,6 +3,9 @@
 //   w  a schedule:  `refused N at P`, or its words
 //   u  a text:      `N LINE BYTES`, the schedule in hex
 //   p  an entry's number and a room (2 bytes each), then a schedule: `N P ENTRIES BYTES BUFFER`, the whole lent buffer in hex
+
+#![tactic(auto)]
+
 ghost use Rattle.std.specs.Prelude.{◌≤◌, length};
 
 use answer::told_of;

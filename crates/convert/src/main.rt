@@ -1,5 +1,8 @@
 // One image in another form: its bytes on standard input, the converted image's bytes on standard output; or the refusal's line.
 // The argument is `wide` (version 1 to 2), `narrow` (version 2 to 1), `import` ("UQP" to version 1) or `export` with a second one, T (version 1 to "UQP").
+
+#![tactic(auto)]
+
 use answer::{Answer, Told};
 use libc::{STDERR_FILENO, STDIN_FILENO, STDOUT_FILENO};
 

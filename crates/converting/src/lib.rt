@@ -1,5 +1,8 @@
 // Images from version 1 to version 2 and back, and to and from "UQP".
 // Public calls: widen, narrow, import_desks, export_desks.
+
+#![tactic(auto)]
+
 mod desks;
 
 ghost use Rattle.std.specs.Prelude.{◌≡◌, true, false, length};

@@ -1,4 +1,7 @@
 // Dequeue, step by step: D1 to D7 of thread k, #101's stores S3 and S6, and F3 and F6, the fences behind D3 and D6.
+
+#![tactic(auto)]
+
 ghost use Rattle.std.specs.Prelude.{◌≡◌, true, ℕ, ◌<◌, ◌≤◌, eqb};
 ghost use Rattle.lists.specs.Find.{pick, both};
 ghost use Rattle.image.specs.Form.{per_desk};

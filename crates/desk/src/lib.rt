@@ -1,4 +1,7 @@
 // The public calls on schedules in words: written into a lent buffer, and read.
+
+#![tactic(auto)]
+
 ghost use Rattle.std.specs.Prelude.{◌≡◌, length};
 ghost use Rattle.answer.specs.Answers.{told};
 ghost use Rattle.spelling.specs.Writing.{spell_answer, spell_taken, spell_bytes, spell_written};

@@ -1,5 +1,8 @@
 // The despatch desk's list: a schedule's bytes on standard input, the ending's number as the argument; on standard output a line for each enqueue
 // begun since the last start, in begin order, with what became of it; or the refusal's line.
+
+#![tactic(auto)]
+
 use libc::{STDERR_FILENO, STDOUT_FILENO};
 
 fn complain(why: &[u8]) {

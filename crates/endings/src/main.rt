@@ -1,4 +1,7 @@
 // The printed page of one schedule: its bytes on standard input, the page or the refusal's line on standard output.
+
+#![tactic(auto)]
+
 use libc::STDERR_FILENO;
 
 fn main() {

@@ -6,7 +6,7 @@ ghost use Rattle.endtable.specs.Rows.{row_after, count_after, joined_row, row_of
 
 use image::{Content, is_same};
 
-#[derive(Drop)]
+#[derive(Clone, Copy)]
 pub struct Row {
     pub count: u8,
     pub at: [Content; 16],

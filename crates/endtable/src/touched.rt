@@ -9,7 +9,7 @@ use machine::lines::number_of;
 
 // A line of 72 is none. A thread of 8 is none: the line was stored to, or was written back; else the thread flushed it, or fenced it. The present content
 // is the only one behind a write-back, and since a flush.
-#[derive(Drop)]
+#[derive(Clone, Copy)]
 pub struct Touched {
     pub line: usize,
     pub thread: usize,

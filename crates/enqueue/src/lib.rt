@@ -1,4 +1,7 @@
 // Enqueue, step by step: A1 to A12 of thread k, and F10, the fence behind A10.
+
+#![tactic(auto)]
+
 ghost use Rattle.std.specs.Prelude.{◌≡◌, ℕ, ◌<◌, ◌≤◌, ◌^◌};
 ghost use Rattle.machine.specs.Record.{thread};
 ghost use Rattle.machine.specs.Enqueue.{step_a1, step_a2, step_a3, step_a4, step_a5, step_a6, step_a7, step_a8, step_a9, step_a10, step_a11, step_a12, step_f10};

@@ -1,5 +1,8 @@
 // The machine one event at a time: calls on a machine record that is handed in. Each tests 18 before all else.
 // Public calls: on_event, apply, save, count_places. act and kept_image are for the crates above.
+
+#![tactic(auto)]
+
 mod arms;
 mod clean;
 

@@ -1,5 +1,5 @@
 // What the program was asked for: its first argument.
-#[derive(Drop)]
+#[derive(Clone, Copy)]
 pub(crate) struct Asked {
     pub(crate) columns: bool,
     pub(crate) picked: bool,

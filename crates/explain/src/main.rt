@@ -1,6 +1,9 @@
 // A run explained: a schedule's bytes on standard input; on standard output its events in words, what each desk and line did, what each line may
 // hold at the stop, and with an ending's number as the argument which content each line has there and what recovery makes of it. With the
 // argument `columns` the same facts, and every ending, as rows (docs/COLUMNS.md). Every value comes from a public call; the words are not proved.
+
+#![tactic(auto)]
+
 mod asked;
 
 use answer::{Told, told_of};
@@ -14,7 +17,7 @@ use telling::shapes::{line_total, shape_of};
 use telling::text::{end, field, line_name, said};
 
 // How far a run came: the text's place, whether all events were taken, and the machine.
-#[derive(Drop)]
+#[derive(Clone, Copy)]
 struct Walked {
     at: usize,
     whole: bool,

@@ -11,7 +11,7 @@ use printing::fitting::fit_number_place;
 use runs::paging::{lines_of, page_of};
 use runs::tables::{counts_of, table_of};
 
-#[derive(Drop)]
+#[derive(Clone, Copy)]
 pub struct Lines {
     pub answer: Answer,
     pub lines: u32,
@@ -70,7 +70,7 @@ pub fn page_lines(s: &[u8], k: u64, b: &mut [u8]) -> Lines
     }
 }
 
-#[derive(Drop)]
+#[derive(Clone, Copy)]
 pub struct Filled {
     pub answer: Answer,
     pub bytes: usize,

@@ -1,4 +1,7 @@
 // The printed page's lines, as many as fit, into a lent buffer; and the line of a refusal.
+
+#![tactic(auto)]
+
 pub mod calls;
 pub mod table;
 

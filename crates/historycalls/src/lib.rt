@@ -1,4 +1,7 @@
 // A history as bytes: the verdict on it.
+
+#![tactic(auto)]
+
 ghost use Rattle.std.specs.Prelude.{◌≡◌, ◌≤◌, ◌<◌, length, take};
 ghost use Rattle.lists.specs.Tab.{over};
 ghost use Rattle.calls.specs.Judging.{verdict_of, judge_given, judge_written};

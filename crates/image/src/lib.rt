@@ -1,4 +1,7 @@
 // An image: what the persisted copies of the memory hold.
+
+#![tactic(auto)]
+
 use answer::Answer;
 
 pub mod blank;
@@ -18,7 +21,7 @@ pub use shapes::{nodes_fit, shape_of, threads_fit};
 pub use sound::sound_of;
 
 // The content of a node's line.
-#[derive(Drop)]
+#[derive(Clone, Copy)]
 pub struct Content {
     pub index: u64,
     pub item: u32,
@@ -26,7 +29,7 @@ pub struct Content {
 }
 
 // What fixes an image's layout and a machine's lines: the form (docs/DECISIONS.md), N, T.
-#[derive(Drop)]
+#[derive(Clone, Copy)]
 pub struct Shape {
     pub form: u8,
     pub n: u8,
@@ -35,7 +38,7 @@ pub struct Shape {
 
 // Its shape, the indices of the head lines, and the contents of the N nodes. T is part of it in "UQP" alone, as many head lines as its shape has,
 // and the nodes below n.
-#[derive(Drop)]
+#[derive(Clone, Copy)]
 pub struct Image {
     pub heads: [u64; 8],
     pub nodes: [Content; 64],
@@ -45,7 +48,7 @@ pub struct Image {
 }
 
 // What reading an image gives: on a refusal the image is the blank one.
-#[derive(Drop)]
+#[derive(Clone, Copy)]
 pub struct Read {
     pub answer: Answer,
     pub image: Image,

@@ -1,4 +1,7 @@
 // An image made another: in the other version, from and to "UQP", or mended.
+
+#![tactic(auto)]
+
 ghost use Rattle.std.specs.Prelude.{◌≡◌, length};
 ghost use Rattle.converting.specs.Converted.{widened, narrowed};
 ghost use Rattle.mending.specs.Bytes.{mend_written, list_written};

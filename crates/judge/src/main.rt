@@ -1,4 +1,7 @@
 // The verdict on one history: its bytes on standard input; on standard output the verdict with its tries and the order that shows it, or the refusal's line.
+
+#![tactic(auto)]
+
 use judging::{Judgement, Verdict};
 use libc::{STDERR_FILENO, STDIN_FILENO, STDOUT_FILENO};
 

@@ -1,5 +1,8 @@
 // A history from a real machine, judged: whether some order of its operations leads a plain queue from the start to what was recovered.
 // Public call: judge_history. What else is `pub` is for the crates above.
+
+#![tactic(auto)]
+
 mod asking;
 mod placing;
 mod queues;
@@ -19,7 +22,7 @@ use refusing::refusal_of;
 use searching::searched_from;
 
 // 02's three verdicts; the definition `verdict_number` in specs/ numbers them.
-#[derive(Drop)]
+#[derive(Clone, Copy)]
 pub enum Verdict {
     Unlawful,
     Lawful,
@@ -27,7 +30,7 @@ pub enum Verdict {
 }
 
 // How the history is refused or taken; the verdict, how many operations were tried, and the order that shows it lawful: `count` numbers, then zeros.
-#[derive(Drop)]
+#[derive(Clone, Copy)]
 pub struct Judgement {
     pub answer: Answer,
     pub verdict: Verdict,
@@ -37,7 +40,7 @@ pub struct Judgement {
 }
 
 // Where the search stands; specs/Place says what each field is.
-#[derive(Drop)]
+#[derive(Clone, Copy)]
 pub struct Place {
     pub taken: [u8; 16],
     pub order: [u8; 16],
@@ -49,7 +52,7 @@ pub struct Place {
 }
 
 // What a search said, with the verdict's number.
-#[derive(Drop)]
+#[derive(Clone, Copy)]
 pub struct Said {
     pub verdict: u8,
     pub tries: u32,

@@ -1,5 +1,8 @@
 // The static library: the public calls on bytes, under C's names. include/uq.h declares them and says how the returned number is taken apart.
 // Each call takes numbers and lent bytes only, returns one number, and has no `requires`.
+
+#![tactic(auto)]
+
 pub mod conversions;
 pub mod despatch;
 pub mod histories;

@@ -1,4 +1,7 @@
 // One line of a schedule's page: its contents as bytes.
+
+#![tactic(auto)]
+
 ghost use Rattle.std.specs.Prelude.{◌≡◌, ◌*◌, ◌≤◌, length};
 ghost use Rattle.lists.specs.Tab.{over};
 ghost use Rattle.image.specs.Form.{head_lines};

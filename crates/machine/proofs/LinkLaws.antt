@@ -1,6 +1,6 @@
 -- Links along a list of nodes, and its last one. Assumes nothing.
 use Prim.Native.Nat.{ℕ, zero, suc, ◌<◌}
-use mathlib.Core.Path.{◌≡◌, refl, sym, ap, ◌∙◌}
+use mathlib.Core.Path.{◌≡◌, refl, sym, ap, subst, ◌∙◌}
 use mathlib.Core.Bool.{Bool, true, false}
 use mathlib.Core.List.{List, [], ◌∷◌}
 use mathlib.Core.Logic.{◌⊎◌, inl, inr}
@@ -51,7 +51,7 @@ rising_once f l u p q x y e = by (dec_lt p q) (dec_lt q p)
 step : (b : Bool) (a x i : ℕ) (l : List ℕ) → eqb a i ≡ b → (behind (x ∷ l) i ≡ none) ⊎ among (behind (x ∷ l) i) (x ∷ l) → (behind (a ∷ x ∷ l) i ≡ none) ⊎ among (behind (a ∷ x ∷ l) i) (a ∷ x ∷ l)
 step true a x i l e r = inr (inr (inl (behind_by true a x i l e)))
 step false a x i l e (inl r) = inl (behind_by false a x i l e ∙ r)
-step false a x i l e (inr r) = let w = behind_by false a x i l e in inr (inr (rw w r))
+step false a x i l e (inr r) = inr (inr (subst (λ z. among z (x ∷ l)) (sym (behind_by false a x i l e)) r))
 
 none_first : (i : ℕ) → behind [] i ≡ none
 unfolding behind

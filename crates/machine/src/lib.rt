@@ -1,4 +1,7 @@
 // The machine record: plain numbers, by value. docs/DECISIONS.md lists every field with its range.
+
+#![tactic(auto)]
+
 use answer::Answer;
 use image::{Content, Image, no_contents, no_heads};
 
@@ -14,7 +17,7 @@ ghost use Rattle.machine.specs.Start.{fresh_from};
 pub use start::start_from;
 
 // A node's cached copy, its link (255: none), and the threads it waits for, as a set.
-#[derive(Drop)]
+#[derive(Clone, Copy)]
 pub struct Node {
     pub index: u64,
     pub item: u32,
@@ -26,7 +29,7 @@ pub struct Node {
 // A thread: its next step (0: no operation, 1 to 12: A1 to A12, 13 to 19: D1 to D7, 20 and 21: S3 and S6 of "UQP",
 // 22 to 24: F10, F3 and F6, the fences behind A10, D3 and D6) and what it has read.
 // A node number of 255 is none.
-#[derive(Drop)]
+#[derive(Clone, Copy)]
 pub struct Thread {
     pub index: u64,
     pub item: u32,
@@ -42,7 +45,7 @@ pub struct Thread {
 // Tail; the free set as a word; cached and persisted copies, those of the head lines apart; the threads; the node last handed out. Of flushes: what each thread has
 // flushed, and sets of threads: those that have flushed since a thread last did, and, over a head line and over a node, those whose flush of it is no later than what
 // is persisted there. Head lines behind those that there are, nodes at n and beyond and threads at t and beyond are not part of it.
-#[derive(Drop)]
+#[derive(Clone, Copy)]
 pub struct Machine {
     pub free: u64,
     pub heads: [u64; 8],
@@ -148,7 +151,7 @@ impl Machine {
 }
 
 // An event of a schedule: its six bytes.
-#[derive(Drop)]
+#[derive(Clone, Copy)]
 pub struct Event {
     pub kind: u8,
     pub number: u8,
@@ -156,21 +159,21 @@ pub struct Event {
 }
 
 // What a start or an event answers, with the machine after it.
-#[derive(Drop)]
+#[derive(Clone, Copy)]
 pub struct Out {
     pub answer: Answer,
     pub machine: Machine,
 }
 
 // A line of memory: a head line, or a node's.
-#[derive(Drop)]
+#[derive(Clone, Copy)]
 pub enum Line {
     OfHead(u8),
     OfNode(u8),
 }
 
 // What an event does to the lines' contents: nothing, a store to one line, the persist of one line at once; or a thread's flush of one line, or its fence.
-#[derive(Drop)]
+#[derive(Clone, Copy)]
 pub enum Touch {
     Nothing,
     Store(Line),
@@ -180,7 +183,7 @@ pub enum Touch {
 }
 
 // What a step or an event answers, with the machine after it and the line that it touched.
-#[derive(Drop)]
+#[derive(Clone, Copy)]
 pub struct Acted {
     pub answer: Answer,
     pub machine: Machine,
@@ -188,7 +191,7 @@ pub struct Acted {
 }
 
 // How many nodes are in each of the six places.
-#[derive(Drop)]
+#[derive(Clone, Copy)]
 pub struct Places {
     pub queue: u8,
     pub free: u8,
@@ -198,7 +201,7 @@ pub struct Places {
     pub dequeue: u8,
 }
 
-#[derive(Drop)]
+#[derive(Clone, Copy)]
 pub struct Counted {
     pub answer: Answer,
     pub places: Places,

@@ -1,5 +1,8 @@
 // The printed pages of many schedules, one after the other: each schedule on standard input stands behind its length (4 bytes,
 // little-endian). Standard error tells how far it is, and what is wrong where it stops early.
+
+#![tactic(auto)]
+
 mod progress;
 
 ghost use Rattle.std.specs.Prelude.{◌≤◌, length};
@@ -9,7 +12,7 @@ use progress::{say, tell_done, tell_end};
 use stream::next_item;
 
 // Whether a page was printed whole, and how many refusals there are with it.
-#[derive(Drop)]
+#[derive(Clone, Copy)]
 struct Turn {
     more: bool,
     refused: u64,
@@ -51,7 +54,7 @@ fn print_next(s: &mut [u8], b: &mut [u8], refused: u64) -> Turn
 }
 
 // How many pages were printed, and how many of them are refusals.
-#[derive(Drop)]
+#[derive(Clone, Copy)]
 struct Totals {
     done: u64,
     refused: u64,

@@ -1,5 +1,8 @@
 // One damaged image: its bytes on standard input, the mended image's bytes on standard output, and on standard error which nodes were changed and
 // why; or the refusal's line.
+
+#![tactic(auto)]
+
 use answer::Told;
 use libc::{STDERR_FILENO, STDIN_FILENO, STDOUT_FILENO};
 

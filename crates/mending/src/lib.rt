@@ -1,5 +1,8 @@
 // Mending a damaged image: linked flags cleared until 6, 7 and 8 pass it, and a list of the nodes that were changed.
 // Public call: mend_image.
+
+#![tactic(auto)]
+
 mod reasons;
 mod writing;
 
@@ -26,7 +29,7 @@ fn shape_at(s: &[u8]) -> Answer
 }
 
 // What came of mending an image: how many nodes were changed, 0 beside a refusal.
-#[derive(Drop)]
+#[derive(Clone, Copy)]
 pub struct Mended {
     pub answer: Answer,
     pub count: u8,

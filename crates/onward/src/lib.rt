@@ -1,4 +1,7 @@
 // The run of a schedule as a fold: opened once, then one event forward at a time.
+
+#![tactic(auto)]
+
 ghost use Rattle.std.specs.Prelude.{◌≡◌, true, ◌<◌};
 ghost use Rattle.answer.specs.Answers.{accepted};
 ghost use Rattle.schedule.specs.Layout.{schedule_in, schedule_answer};

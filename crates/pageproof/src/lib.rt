@@ -1,1 +1,4 @@
 // No code: the proof that a page holds the images a crash can leave, in proofs/.
+
+#![tactic(auto)]
+

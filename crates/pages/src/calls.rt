@@ -9,7 +9,7 @@ use image::Shape;
 use runs::paging::{lines_of, page_of};
 use runs::tables::{counts_of, table_of};
 
-#[derive(Drop)]
+#[derive(Clone, Copy)]
 pub struct Count {
     pub answer: Answer,
     pub count: u32,

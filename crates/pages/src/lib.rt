@@ -1,4 +1,7 @@
 // From a schedule's run, the page: the count of endings, each ending, and the contents of one line.
+
+#![tactic(auto)]
+
 pub mod calls;
 pub mod lines;
 

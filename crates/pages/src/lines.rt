@@ -10,7 +10,7 @@ use image::{Content, Shape};
 use runs::paging::{lines_of, page_of};
 
 // How many contents a line has, and these, oldest first; those beyond are blank, and on a refusal all.
-#[derive(Drop)]
+#[derive(Clone, Copy)]
 pub struct LineContents {
     pub answer: Answer,
     pub count: u8,

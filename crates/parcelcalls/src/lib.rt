@@ -1,4 +1,7 @@
 // The despatch desk's list, as bytes: what became of each enqueue begun since a schedule's last start, at one of its endings.
+
+#![tactic(auto)]
+
 ghost use Rattle.std.specs.Prelude.{◌≡◌, length};
 ghost use Rattle.parcels.specs.Despatch.{despatch_written};
 ghost use Rattle.parcelcalls.specs.Given.{despatch_given};

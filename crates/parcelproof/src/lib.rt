@@ -1,1 +1,4 @@
 // No code: what the despatch desk's list holds, about its definitions. The proofs are in proofs/.
+
+#![tactic(auto)]
+

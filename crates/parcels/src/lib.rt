@@ -1,5 +1,8 @@
 // The despatch desk's list: what became of each enqueue begun since a schedule's last start, at one of its endings. It names public calls alone.
 // Public call: despatch.
+
+#![tactic(auto)]
+
 mod entries;
 mod moves;
 mod packing;
@@ -21,7 +24,7 @@ use schedule::Schedule;
 
 // What is known of an enqueue: its begin, its item, what it has answered (0: nothing yet), where it was linked (node 255: nowhere) and with which
 // index, which thread's dequeue took it (255: none), and whether that one answered with it.
-#[derive(Drop)]
+#[derive(Clone, Copy)]
 pub struct Parcel {
     pub index: u64,
     pub item: u32,
@@ -34,7 +37,7 @@ pub struct Parcel {
 }
 
 // What a step of a thread tells: nothing (0), a link (1), an answer that is no item (2), a node taken (3), an item answered (4).
-#[derive(Drop)]
+#[derive(Clone, Copy)]
 pub struct News {
     pub index: u64,
     pub what: u8,
@@ -44,7 +47,7 @@ pub struct News {
 }
 
 // How many entries were written; 0 beside a refusal.
-#[derive(Drop)]
+#[derive(Clone, Copy)]
 pub struct Despatched {
     pub answer: Answer,
     pub count: u16,

@@ -1,6 +1,9 @@
 // The page of one schedule the plain way (request 108): its bytes on standard input, on standard output what `endings` prints, so that `cmp` of the two is the
 // check, and on standard error how far it is. The endings come from runs with write-backs added; the page's table of contents is not looked at.
 // Larger schedules are refused by 15, as are pages that `endings` refuses.
+
+#![tactic(auto)]
+
 mod running;
 mod showing;
 

@@ -1,4 +1,7 @@
 // The plain way to a page, on bytes: all images of a schedule.
+
+#![tactic(auto)]
+
 ghost use Rattle.std.specs.Prelude.{◌≡◌, length};
 ghost use Rattle.plainway.specs.Plainly.{plain_written};
 ghost use Rattle.plaincalls.specs.Given.{plain_given};

@@ -1,4 +1,7 @@
 // The runs of the plain way (request 108): a schedule taken apart at its last start, and run from there with picks added, whatever an event would be refused by.
+
+#![tactic(auto)]
+
 pub mod planning;
 pub mod playing;
 pub mod turns;
@@ -6,7 +9,7 @@ pub mod turns;
 use machine::Machine;
 
 // The machine at the last start, the number of the first event since, and how many there are.
-#[derive(Drop)]
+#[derive(Clone, Copy)]
 pub struct Plan {
     pub machine: Machine,
     pub at: usize,

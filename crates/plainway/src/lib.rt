@@ -1,6 +1,9 @@
 // A plain way to the same page (request 108): for each line nothing or one write-back moment is picked, the schedule run with just those added, and the image that
 // is left noted, repeats after the first dropped. Every pick is run.
 // Public call: plain_page. What else stands here is for the crates above.
+
+#![tactic(auto)]
+
 pub mod noting;
 pub mod way;
 
@@ -13,7 +16,7 @@ use noting::note_some;
 use way::way_of;
 
 // How many images there are; none beside a refusal.
-#[derive(Drop)]
+#[derive(Clone, Copy)]
 pub struct Plain {
     pub answer: Answer,
     pub count: u32,

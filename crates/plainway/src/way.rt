@@ -9,7 +9,7 @@ use plainruns::Plan;
 use plainruns::planning::plan_of;
 
 // The plan, how many lines there are, the bytes of an image, how many picks a line has, and how many runs there are.
-#[derive(Drop)]
+#[derive(Clone, Copy)]
 pub struct Way {
     pub answer: Answer,
     pub plan: Plan,

@@ -1,5 +1,8 @@
 // A schedule's page on standard output, a lent buffer at a time. The schedule is run once. One function writes, and takes only what is
 // the next part of the page: each is written once, in order, and nothing else. That the system takes it on is io's and its own part.
+
+#![tactic(auto)]
+
 ghost use Rattle.std.specs.Prelude.{◌≡◌, true, not, ◌+◌, ◌≤◌, length};
 ghost use Rattle.answer.specs.Answers.{accepted};
 ghost use Rattle.image.specs.Form.{head_lines};
@@ -19,7 +22,7 @@ use runs::running::Run;
 use sheet::sheet::sheet_of;
 
 // Whether the schedule was refused, whether standard output took the whole text, and then its length.
-#[derive(Drop)]
+#[derive(Clone, Copy)]
 pub struct Printed {
     pub refused: bool,
     pub whole: bool,

@@ -10,7 +10,7 @@ use image::Image;
 use machine::queue::queue_of;
 
 // Items in the first places of a table.
-#[derive(Drop)]
+#[derive(Clone, Copy)]
 pub struct Items {
     pub count: usize,
     pub items: [u32; 64],

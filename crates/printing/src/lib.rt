@@ -1,5 +1,8 @@
 // Printed text, written into a lent buffer: numbers in decimal, fixed words, the lines of a page.
 // Each function is given the place where its text begins and gives the place behind it; the caller has room for it.
+
+#![tactic(auto)]
+
 ghost use Rattle.std.specs.Prelude.{◌≡◌, ℕ, ◌+◌, ◌<◌, ◌≤◌, length, take};
 ghost use Rattle.lists.specs.Tab.{over};
 ghost use Rattle.lists.specs.Text.{decimal};

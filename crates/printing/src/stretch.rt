@@ -14,7 +14,7 @@ use endtable::turn::turned;
 use image::{Content, Image, Shape, head_lines, no_contents, no_heads};
 
 // How far it went: the first ending, or line of the page, that is not written, and the place behind the last that is.
-#[derive(Drop)]
+#[derive(Clone, Copy)]
 pub struct Stretch {
     pub next: u32,
     pub place: usize,

@@ -1,4 +1,7 @@
 // A probe file as bytes: where an observed answer first differs from the machine's.
+
+#![tactic(auto)]
+
 ghost use Rattle.std.specs.Prelude.{◌≡◌, ◌≤◌, length};
 ghost use Rattle.lists.specs.Tab.{over};
 ghost use Rattle.calls.specs.Probes.{replay_given, replay_written, both_bytes};

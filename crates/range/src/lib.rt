@@ -1,5 +1,8 @@
 // Refusal 18: whether a machine record is within its ranges; and how many of its nodes are in each of the six places.
 // For the crates above: in_range, places_of, used_by.
+
+#![tactic(auto)]
+
 ghost use Rattle.std.specs.Prelude.{◌≡◌, Bool, true, false, not, ◌≤◌, ◌<◌, ◌^◌, ltb};
 ghost use Rattle.lists.specs.Find.{any};
 ghost use Rattle.machine.specs.Range.{ranges_fit, in_range, thread_fits};
@@ -17,7 +20,7 @@ use indices::form_fits;
 pub use place::places_of;
 
 // Which of the four numbers of a thread its step uses, and which node its operation owns.
-#[derive(Drop)]
+#[derive(Clone, Copy)]
 pub struct Used {
     pub own: bool,
     pub tail: bool,
@@ -28,7 +31,7 @@ pub struct Used {
 }
 
 // Whether some thread holds a node, owns it by an enqueue, owns it by a dequeue.
-#[derive(Drop)]
+#[derive(Clone, Copy)]
 pub struct Hands {
     pub held: bool,
     pub enqueue: bool,

@@ -1,5 +1,8 @@
 // The byte form of a machine record, for the static library and for comparisons with other programs. No public calls: both functions
 // refuse a wrong length, and neither tests the record (18); their callers do.
+
+#![tactic(auto)]
+
 mod reading;
 mod writing;
 

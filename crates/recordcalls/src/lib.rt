@@ -1,4 +1,7 @@
 // The machine as a record's bytes: its start, one event, its persisted image, and where its nodes are.
+
+#![tactic(auto)]
+
 ghost use Rattle.std.specs.Prelude.{◌≡◌, ◌≤◌, length};
 ghost use Rattle.lists.specs.Tab.{over};
 ghost use Rattle.calls.specs.Calls.{started, start_written, happened, event_written, saved_bytes, save_written, places_counted, places_written, place_bytes, event_given};

@@ -1,4 +1,7 @@
 // A probe file replayed: its bytes on standard input, one line on standard output.
+
+#![tactic(auto)]
+
 use libc::STDERR_FILENO;
 
 fn main() {

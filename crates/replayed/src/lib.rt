@@ -1,5 +1,8 @@
 // What a replay of one probe file says, as one line on standard output: at which event the recorded answer first differs from the machine's,
 // with both, or that all agree, or the refusal.
+
+#![tactic(auto)]
+
 use libc::{STDERR_FILENO, STDOUT_FILENO};
 use replaying::Replayed;
 

@@ -1,5 +1,8 @@
 // What a probe recorded, replayed: where an observed answer first differs from the machine's.
 // Public call: replay.
+
+#![tactic(auto)]
+
 mod asking;
 mod reading;
 mod running;
@@ -13,7 +16,7 @@ use machine::Event;
 use running::replay_file;
 
 // Twelve bytes of a probe file: an event, the observed answer with its item, and a byte that is zero.
-#[derive(Drop)]
+#[derive(Clone, Copy)]
 pub struct Probed {
     pub event: Event,
     pub seen: u8,
@@ -23,7 +26,7 @@ pub struct Probed {
 
 // The refusal; or the first event whose answer differs, with the observed answer and the machine's, each with its item.
 // Zeros where all agree and beside a refusal.
-#[derive(Drop)]
+#[derive(Clone, Copy)]
 pub struct Replayed {
     pub answer: Answer,
     pub differs: bool,

@@ -1,5 +1,8 @@
 // Many probe files replayed, a line each: each file on standard input stands behind its length (4 bytes, little-endian). Standard error tells
 // how many there were, and what is wrong where it stops early.
+
+#![tactic(auto)]
+
 use libc::STDERR_FILENO;
 use stream::next_item;
 

@@ -1,4 +1,7 @@
 // A schedule's run with the rows of its lines' contents, laid out as the table that endings are picked from.
+
+#![tactic(auto)]
+
 pub mod over;
 pub mod paging;
 pub mod rows;

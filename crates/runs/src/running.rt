@@ -16,7 +16,7 @@ use machine::Machine;
 use onward::opened;
 use schedule::Schedule;
 
-#[derive(Drop)]
+#[derive(Clone, Copy)]
 pub struct Run {
     pub answer: Answer,
     pub machine: Machine,

@@ -1,9 +1,12 @@
 // A schedule: T, the event count and the image it starts from. Its events stand behind the image, six bytes each. And a run of it.
+
+#![tactic(auto)]
+
 use answer::Answer;
 use image::Image;
 use machine::{Event, Machine, Touch};
 
-#[derive(Drop)]
+#[derive(Clone, Copy)]
 pub struct Schedule {
     pub t: u8,
     pub count: u16,
@@ -11,7 +14,7 @@ pub struct Schedule {
 }
 
 // What reading a schedule up to its events gives: on a refusal the schedule is the blank one.
-#[derive(Drop)]
+#[derive(Clone, Copy)]
 pub struct Opened {
     pub answer: Answer,
     pub schedule: Schedule,
@@ -19,7 +22,7 @@ pub struct Opened {
 
 // A run on its way: T, N, the image's form, how many events there are, the number of the next one, and the machine;
 // what the last event was, what it answered and which line it touched.
-#[derive(Drop)]
+#[derive(Clone, Copy)]
 pub struct Running {
     pub t: u8,
     pub n: u8,

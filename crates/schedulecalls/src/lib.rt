@@ -1,4 +1,7 @@
 // Images and schedules as bytes: whether they are taken, how many endings there are, and each ending.
+
+#![tactic(auto)]
+
 ghost use Rattle.std.specs.Prelude.{◌≡◌, length};
 ghost use Rattle.page.specs.Refusals.{ending_written};
 ghost use Rattle.calls.specs.Calls.{image_checked, schedule_checked, endings_counted, ending_given};

@@ -1,4 +1,7 @@
 // The page's lines one from the other, where there is one head line: its turn alone changes the head index.
+
+#![tactic(auto)]
+
 pub mod marks;
 pub mod order;
 pub mod sheet;

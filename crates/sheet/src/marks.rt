@@ -5,7 +5,7 @@ ghost use Rattle.sheet.specs.Marks.{mark_of, blank_slots, marks_of, items_in, sl
 use image::Content;
 
 // A slot's rank, the head line's index; and its item.
-#[derive(Drop)]
+#[derive(Clone, Copy)]
 pub struct Marks {
     pub ranks: [u64; 1040],
     pub items: [u32; 1040],

@@ -6,7 +6,7 @@ use crate::marks::marks_of;
 use crate::order::{ranked, starts_of};
 use image::Content;
 
-#[derive(Drop)]
+#[derive(Clone, Copy)]
 pub struct Sheet {
     pub ranks: [u64; 1040],
     pub items: [u32; 1040],

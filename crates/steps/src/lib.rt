@@ -1,4 +1,7 @@
 // The machine one step at a time, by value: a begin, and one step by its number. Each function is equal to its definition in the crate `machine`.
+
+#![tactic(auto)]
+
 ghost use Rattle.std.specs.Prelude.{◌≡◌, ℕ, ◌<◌, true, false};
 ghost use Rattle.machine.specs.Record.{thread};
 ghost use Rattle.machine.specs.Stage.{stage};

@@ -1,4 +1,7 @@
 // The stop: which desks stand where, what each line may hold, and the endings.
+
+#![tactic(auto)]
+
 use compare::text::{put, put_all};
 use image::{Content, Image, Shape};
 use machine::{Line, Machine};
@@ -172,7 +175,7 @@ fn choices(out: &mut [u8; 65536], at: usize, book: &mut [u64; 10328], g: Image, 
 }
 
 // The image of ending k, and the machine that recovery makes of it.
-#[derive(Drop)]
+#[derive(Clone, Copy)]
 pub struct Ended {
     pub image: Image,
     pub machine: Machine,

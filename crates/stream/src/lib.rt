@@ -1,4 +1,7 @@
 // A stream of items on standard input, each behind its length (4 bytes, little-endian).
+
+#![tactic(auto)]
+
 ghost use Rattle.std.specs.Prelude.{◌+◌, ◌≤◌, ◌≡◌, length};
 
 use libc::STDIN_FILENO;
@@ -30,7 +33,7 @@ pub fn word(s: &[u8], at: usize) -> u32
 }
 
 // What came of reading: how many bytes were put at the buffer's front, and whether a read failed. Fewer bytes than asked for and no failure: the input ended.
-#[derive(Drop)]
+#[derive(Clone, Copy)]
 pub struct Got {
     pub bytes: usize,
     pub failed: bool,
@@ -132,7 +135,7 @@ pub fn at_end() -> bool {
 }
 
 // What came of reading an item: whether there was a whole one, whether the input ended within one or a read failed, how many of its bytes were kept.
-#[derive(Drop)]
+#[derive(Clone, Copy)]
 pub struct Next {
     pub there: bool,
     pub cut: bool,

@@ -1,4 +1,7 @@
 // Text: lines of a schedule's page, and the line of a refusal.
+
+#![tactic(auto)]
+
 ghost use Rattle.std.specs.Prelude.{◌≡◌, length};
 ghost use Rattle.page.specs.Filled.{lines_written};
 ghost use Rattle.filling.specs.Lines.{refusal_written};

@@ -1,5 +1,8 @@
 // A schedule's bytes from words (docs/WORDS.md): the words on standard input, the schedule on standard output; what is wrong, with its line counted
 // from 1, on standard error.
+
+#![tactic(auto)]
+
 use libc::{STDERR_FILENO, STDOUT_FILENO};
 use spelling::Said;
 

@@ -1,4 +1,7 @@
 // The words of a schedule read: the words of a line, what it says, what the lines say together, and the bytes that they put.
+
+#![tactic(auto)]
+
 pub mod layout;
 pub mod putting;
 pub mod reading;

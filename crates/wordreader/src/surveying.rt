@@ -12,7 +12,7 @@ use image::{head_lines, top_of};
 use spelling::{Act, Line, Survey};
 
 // What the lines said, and the number of the last of them.
-#[derive(Drop)]
+#[derive(Clone, Copy)]
 pub struct Surveyed {
     pub survey: Survey,
     pub last: u64,

@@ -1,4 +1,7 @@
 // The words of a schedule (docs/WORDS.md): its bytes on standard input, the words on standard output; a refusal on standard error.
+
+#![tactic(auto)]
+
 use answer::Told;
 use libc::{STDERR_FILENO, STDIN_FILENO, STDOUT_FILENO};
 

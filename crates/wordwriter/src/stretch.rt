@@ -11,7 +11,7 @@ use printing::put;
 use schedule::Schedule;
 
 // How far it went: the first entry that is not written, and the place behind the last that is.
-#[derive(Drop)]
+#[derive(Clone, Copy)]
 pub struct Reach {
     pub next: usize,
     pub place: usize,

@@ -1,0 +1,35 @@
+use Prim.Native.Nat.{◌≤◌, ◌-◌}
+use mathlib.Core.Path.{◌≡◌, refl, sym, ◌∙◌}
+use mathlib.Core.Bool.{true, false}
+use mathlib.Core.Logic.{⊎_elim}
+use native.Mathlib.Nat.{sub-zero}
+use native.Mathlib.Omega.{arith}
+use borrow.Author.Tests.{lt-ltb, le-ltb, eq-eqb, ne_eqb, not-true, not-false}
+use borrow.Author.Rules.{rules}
+use Rattle.lists.specs.Find.{least, any}
+use Rattle.lists.proofs.FindLaws as find
+use Rattle.image.specs.Recovered.{twins, has_twin, first_twin, dummy_of}
+use Rattle.image.proofs.HeadLaws.{head_is}
+use Rattle.image.proofs.RecoveredLaws.{unrecovered, unrecovered_is, startable_by}
+use Rattle.image.proofs.recovered.startable_of.Given as goal
+
+-- no node below j is a twin of node i
+abbrev pub invariant-loop-j : goal.invariant-loop-j
+invariant-loop-j l = (l.j ≤ l.i) × (any (twins l.g l.i) l.j ≡ false)
+
+abbrev pub decreases-loop-j : goal.decreases-loop-j
+decreases-loop-j l = l.i - l.j
+
+-- no node below i has a lower-numbered twin
+abbrev pub invariant-pairs : goal.invariant-pairs
+invariant-pairs l = (l.i ≤ l.n) × (first_twin l.g ≡ least (has_twin l.g) (l.n - l.i) l.i)
+
+abbrev pub decreases-pairs : goal.decreases-pairs
+decreases-pairs l = l.n - l.i
+
+-- every node below k is recovered
+abbrev pub invariant-loop-k : goal.invariant-loop-k
+invariant-loop-k l = (l.k ≤ l.n) × (dummy_of l.g ≡ least (unrecovered l.g) (l.n - l.k) l.k)
+
+abbrev pub decreases-loop-k : goal.decreases-loop-k
+decreases-loop-k l = l.n - l.k
