@@ -1,0 +1,7 @@
+use mathlib.Core.Path.{sym}
+use Rattle.lists.proofs.WordLaws as laws
+use borrow.Author.Rules.{rules}
+use Rattle.bits.proofs.is_in.Goals as goal
+
+pub returns : goal.returns
+returns c = sym (laws.has_at c.args.w c.args.i)
