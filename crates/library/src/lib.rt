@@ -1,4 +1,4 @@
-// The static library: the public calls on bytes, under C's names. include/uq.h declares them and says how the returned number is taken apart.
+// The public calls on bytes, by the names that C knows. The crate library_c exports them; include/uq.h declares them and says how the returned number is taken apart.
 // Each call takes numbers and lent bytes only, returns one number, and has no `requires`.
 
 #![tactic(auto)]

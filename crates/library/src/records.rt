@@ -3,8 +3,7 @@ ghost use Rattle.std.specs.Prelude.{◌≡◌, length};
 ghost use Rattle.calls.specs.Calls.{started, start_written, happened, event_written, saved_bytes, save_written, places_counted, places_written, event_given};
 
 // `bytes` are a record's. Here the start of an image with T threads is written into them.
-#[unsafe(no_mangle)]
-pub extern "C" fn uq_start(image: &[u8], threads: u8, bytes: &mut [u8]) -> u64
+pub fn uq_start(image: &[u8], threads: u8, bytes: &mut [u8]) -> u64
     ensures answers { result ≡ started image.now threads (length bytes.old) }
     ensures written { bytes.new ≡ start_written image.now threads bytes.old }
 {
@@ -12,8 +11,7 @@ pub extern "C" fn uq_start(image: &[u8], threads: u8, bytes: &mut [u8]) -> u64
 }
 
 // One event on a record's bytes, in place. The value is what an operation answered with it.
-#[unsafe(no_mangle)]
-pub extern "C" fn uq_event(bytes: &mut [u8], kind: u8, number: u8, item: u32) -> u64
+pub fn uq_event(bytes: &mut [u8], kind: u8, number: u8, item: u32) -> u64
     ensures answers { result ≡ happened bytes.old (event_given kind number item) }
     ensures written { bytes.new ≡ event_written bytes.old (event_given kind number item) }
 {
@@ -21,8 +19,7 @@ pub extern "C" fn uq_event(bytes: &mut [u8], kind: u8, number: u8, item: u32) ->
 }
 
 // The persisted image of a record, in its form, into the front of the buffer.
-#[unsafe(no_mangle)]
-pub extern "C" fn uq_save(bytes: &[u8], buffer: &mut [u8]) -> u64
+pub fn uq_save(bytes: &[u8], buffer: &mut [u8]) -> u64
     ensures answers { result ≡ saved_bytes bytes.now (length buffer.old) }
     ensures written { buffer.new ≡ save_written bytes.now buffer.old }
 {
@@ -30,8 +27,7 @@ pub extern "C" fn uq_save(bytes: &[u8], buffer: &mut [u8]) -> u64
 }
 
 // How many nodes of a record are in each of the six places, into the buffer's first six bytes.
-#[unsafe(no_mangle)]
-pub extern "C" fn uq_places(bytes: &[u8], buffer: &mut [u8]) -> u64
+pub fn uq_places(bytes: &[u8], buffer: &mut [u8]) -> u64
     ensures answers { result ≡ places_counted bytes.now (length buffer.old) }
     ensures written { buffer.new ≡ places_written bytes.now buffer.old }
 {
