@@ -1,7 +1,7 @@
 -- A run, event by event: what the code holds goes on standing for the bench.
 use Prim.Native.Nat.{ℕ, suc, ◌≤◌, ◌<◌}
 use mathlib.Core.Path.{◌≡◌, refl, sym, ap, subst, ◌∙◌}
-use mathlib.Core.Bool.{Bool, true, false}
+use mathlib.Core.Bool.{true, false}
 use mathlib.Core.List.{List, [], ◌∷◌}
 use native.Mathlib.Omega.{arith}
 use lib.ListN.{length, drop, drop_of_length-le}
@@ -24,12 +24,11 @@ use Rattle.machine.specs.declared.Touch.{Touch}
 use Rattle.machine.specs.declared.Machine.{Machine}
 use Rattle.machine.specs.declared.Event.{Event}
 use Rattle.schedule.specs.Run.{Bench, begins, goes_on, turned, forward, bench_at, and_before, run}
-use Rattle.page.specs.Contents.{table_of}
 use Rattle.endtable.specs.Touched.{touched_row}
 use Rattle.endtable.specs.declared.touched.Touched.{Touched}
 use Rattle.endtable.specs.Opened.{opened_table, opened_counts}
 use Rattle.endtable.specs.Since.{since_after}
-use Rattle.endtable.specs.Tables.{Tables, over_line, table_after, counts_after}
+use Rattle.endtable.specs.Tables.{over_line, table_after, counts_after}
 use Rattle.endtable.specs.declared.row.Row.{Row}
 use Rattle.moments.specs.Frame.{Even, Frame}
 use Rattle.endtable.specs.Benches.{Stands}

@@ -1,9 +1,8 @@
 -- #104: a line's contents behind its fence, and the contents since a flush, as rows stand for them.
-use Prim.Native.Nat.{ℕ, ◌≤◌, ◌<◌}
+use Prim.Native.Nat.{ℕ, ◌<◌}
 use mathlib.Core.Path.{◌≡◌, refl, sym, ap, subst, ◌∙◌}
-use mathlib.Core.Bool.{Bool, true, false}
+use mathlib.Core.Bool.{true, false}
 use mathlib.Core.List.{List, [], ◌∷◌, ◌++◌, map, map-append}
-use native.Mathlib.Omega.{arith}
 use borrow.Author.Tests.{ne_eqb}
 use lib.ListN.{length, drop}
 use lib.Seq.{drop-append-le}
@@ -16,14 +15,14 @@ use Rattle.machine.specs.declared.Touch.{Touch}
 use Rattle.machine.specs.declared.Touch.TheVariants.{Nothing as nothing, Store as a_store, Persist as a_persist, Flush as a_flush, Fence as a_fence}
 use Rattle.machine.proofs.LineLaws.{LineIn}
 use Rattle.schedule.specs.Run.{Bench, goes_on, mark_after}
-use Rattle.page.specs.Contents.{joins, gathered, contents_of}
+use Rattle.page.specs.Contents.{joins, contents_of}
 use Rattle.moments.specs.Frame.{StoresTo, Frame}
 use Rattle.moments.specs.Marked.{Waits, FlushesBy, since_of}
 use Rattle.moments.proofs.Joins as joined
 use Rattle.moments.proofs.Moments as moments
 use Rattle.moments.proofs.Since as since
 use Rattle.moments.proofs.Known.{Known}
-use Rattle.endtable.specs.Rows.{no_row, joined_row, row_of}
+use Rattle.endtable.specs.Rows.{joined_row, row_of}
 use Rattle.endtable.specs.Tables.{Held}
 use Rattle.endtable.specs.declared.row.Row.{Row}
 use Rattle.endtable.proofs.RowLaws as rows

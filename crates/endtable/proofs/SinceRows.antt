@@ -1,11 +1,10 @@
 -- #104: which line a thread is at its fence of, and the rows since the flushes as the code fills them.
-use Prim.Native.Nat.{ℕ, ◌+◌, ◌-◌, ◌≤◌, ◌<◌}
+use Prim.Native.Nat.{ℕ, ◌+◌, ◌≤◌, ◌<◌}
 use mathlib.Core.Path.{◌≡◌, refl, sym, ap, ◌∙◌}
-use mathlib.Core.Bool.{Bool, true, false}
+use mathlib.Core.Bool.{Bool, false}
 use mathlib.Core.List.{List, ◌++◌}
 use native.Mathlib.Omega.{arith}
 use lib.ListN.{length, get_or, set, drop, take-append-drop}
-use lib.Dec.{eqb}
 use borrow.Author.Tests.{eq-eqb, ne_eqb, le-leb, lt-leb}
 use Rattle.lists.specs.Find.{pick}
 use Rattle.lists.specs.Tab.{front}
@@ -16,11 +15,10 @@ use Rattle.image.specs.declared.Shape.{Shape}
 use Rattle.image.specs.Form.{head_lines, per_desk}
 use Rattle.machine.specs.Record.{zero_thread}
 use Rattle.machine.specs.Line.{number_of}
-use Rattle.machine.specs.declared.Line.{Line}
 use Rattle.machine.specs.declared.Line.TheVariants.{OfHead as of_head, OfNode as of_node}
 use Rattle.machine.specs.declared.Thread.{Thread}
 use Rattle.moments.specs.Marked.{fence_line}
-use Rattle.endtable.specs.Rows.{no_row, joined_row, row_of}
+use Rattle.endtable.specs.Rows.{no_row, joined_row}
 use Rattle.endtable.specs.Since.{no_since, fence_row, waits_at, first_waiting, stored_row, since_joined}
 use Rattle.endtable.specs.declared.row.Row.{Row}
 

@@ -1,11 +1,10 @@
 -- #104: the code's rows since the flushes stand for the contents since them: after a start, and after each event.
 use Prim.Native.Nat.{ℕ, ◌≤◌, ◌<◌}
-use mathlib.Core.Path.{◌≡◌, refl, sym, ap, ap₂, subst, ◌∙◌}
+use mathlib.Core.Path.{◌≡◌, refl, sym, ap, subst, ◌∙◌}
 use mathlib.Core.Bool.{Bool, true, false}
-use mathlib.Core.List.{List, []}
+use mathlib.Core.List.{List}
 use mathlib.Core.Logic.{◌⊎◌, inl, inr}
 use native.Mathlib.Omega.{arith}
-use native.Mathlib.Decide.{ℕ_discrete}
 use lib.ListN.{length, get_or, set, length-set}
 use lib.Seq.{get_or-set_same, get_or-set_other}
 use lib.Dec.{ltb, eqb}
@@ -17,7 +16,7 @@ use Rattle.image.specs.declared.Image.{Image}
 use Rattle.image.specs.declared.Shape.{Shape}
 use Rattle.image.specs.Form.{head_lines}
 use Rattle.machine.specs.Record.{thread, zero_thread}
-use Rattle.machine.specs.Line.{shape_of, line_count, line_at, number_of, cached_at}
+use Rattle.machine.specs.Line.{shape_of, line_at, number_of, cached_at}
 use Rattle.machine.specs.Start.{start_of}
 use Rattle.machine.specs.declared.Line.{Line}
 use Rattle.machine.specs.declared.Machine.{Machine}
@@ -33,7 +32,7 @@ use Rattle.moments.proofs.Waiting.{Came}
 use Rattle.moments.proofs.Known.{Known}
 use Rattle.endtable.specs.Rows.{no_row, joined_row, row_of}
 use Rattle.endtable.specs.Touched.{touched_row}
-use Rattle.endtable.specs.Since.{fence_row, waits_at, stored_row, since_joined, since_after}
+use Rattle.endtable.specs.Since.{fence_row, since_joined, since_after}
 use Rattle.endtable.specs.Benches.{Sinces}
 use Rattle.endtable.specs.declared.row.Row.{Row}
 use Rattle.endtable.specs.declared.touched.Touched.{Touched}

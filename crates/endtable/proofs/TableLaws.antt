@@ -4,49 +4,43 @@ use mathlib.Core.Path.{◌≡◌, refl, sym, ap, subst, ◌∙◌}
 use mathlib.Core.Bool.{Bool, true, false}
 use mathlib.Core.List.{List, []}
 use native.Mathlib.Omega.{arith}
-use native.Mathlib.Decide.{dec_lt, ℕ_discrete}
+use native.Mathlib.Decide.{ℕ_discrete}
 use lib.ListN.{length, get_or, set, length-set}
 use lib.Seq.{get_or-set_same, get_or-set_other}
 use lib.Dec.{ltb}
-use borrow.Author.Tests.{lt-ltb, le-ltb, ltb-true, ltb-false}
+use borrow.Author.Tests.{ltb-true, ltb-false}
 use Rattle.lists.specs.Find.{pick}
 use Rattle.lists.specs.Word.{has}
 use Rattle.lists.proofs.BoolLaws.{false_true}
 use Rattle.lists.specs.Tab.{front}
 use Rattle.lists.proofs.TabLaws as tabs
-use Rattle.answer.specs.Answers.{accepted}
 use Rattle.image.specs.declared.Content.{Content}
 use Rattle.machine.specs.Line.{shape_of, line_count, line_at, number_of, cached_at, persisted_at, over_at}
 use Rattle.machine.specs.declared.Line.{Line}
-use Rattle.machine.specs.Event.{crashes, deed_of, event_at}
 use Rattle.machine.specs.declared.Machine.{Machine}
-use Rattle.machine.specs.declared.Event.{Event}
-use Rattle.machine.specs.declared.Acted.{Acted}
 use Rattle.image.specs.Form.{head_lines}
 use Rattle.image.specs.declared.Shape.{Shape}
 use Rattle.machine.proofs.LineLaws.{LineIn, line_in, number_line}
-use Rattle.schedule.specs.Run.{Bench, begins, goes_on, turned, forward}
+use Rattle.schedule.specs.Run.{Bench, begins, goes_on}
 use Rattle.page.specs.Contents.{contents_of, table_of}
 use Rattle.machine.specs.declared.Touch.{Touch}
 use Rattle.machine.specs.declared.Touch.TheVariants.{Nothing as nothing, Store as a_store, Persist as a_persist, Flush as a_flush, Fence as a_fence}
 use Rattle.endtable.specs.declared.touched.Touched.{Touched}
 use Rattle.endtable.specs.Rows.{row_after, count_after, no_row}
-use Rattle.endtable.specs.Touched.{touched_row, by_touch}
+use Rattle.endtable.specs.Touched.{touched_row}
 use Rattle.endtable.specs.Opened.{blank_table, blank_counts, line_opened, line_counted, opened_table, opened_counts}
 use Rattle.endtable.specs.Tables.{Held, Tables, over_line, table_after, counts_after}
 use Rattle.endtable.specs.Benches.{Sinces}
 use Rattle.endtable.specs.declared.row.Row.{Row}
 use Rattle.moments.specs.Frame.{StoresTo, Persists, FencesTo, Even, Frame}
-use Rattle.moments.specs.Marked.{Waits, since_of}
 use Rattle.endtable.proofs.RowLaws as rows
 use Rattle.endtable.proofs.Openings as openings
 use Rattle.moments.proofs.Moments as moments
 use Rattle.moments.proofs.Steps as steps
 use Rattle.moments.proofs.Frame as frame
-use Rattle.moments.proofs.Since as since
-use Rattle.moments.proofs.Waiting.{Fencing, fencing_event}
+use Rattle.moments.proofs.Waiting.{Fencing}
 use Rattle.moments.proofs.Known.{Known}
-use Rattle.endtable.proofs.Flushing.{Flushing, flushing_event}
+use Rattle.endtable.proofs.Flushing.{Flushing}
 use Rattle.endtable.proofs.SinceLaws as sinces
 
 -- ---- a start

@@ -1,7 +1,7 @@
 -- The row of a touch that is known.
 use Prim.Native.Nat.{ℕ}
 use mathlib.Core.Path.{◌≡◌, sym, ap, ◌∙◌}
-use mathlib.Core.Bool.{Bool, true, false}
+use mathlib.Core.Bool.{true, false}
 use Rattle.image.specs.declared.Shape.{Shape}
 use Rattle.machine.specs.Line.{number_of}
 use Rattle.machine.specs.declared.Line.{Line}

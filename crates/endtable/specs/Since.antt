@@ -1,5 +1,5 @@
 -- #104: the rows since the flushes, one for each thread.
-use Rattle.std.specs.Prelude.{ℕ, Bool, true, false, List, get_or, set, replicate, eqb, leb}
+use Rattle.std.specs.Prelude.{ℕ, Bool, false, List, get_or, set, replicate, eqb, leb}
 use Rattle.lists.specs.Find.{pick, least}
 use Rattle.lists.specs.Tab.{front}
 use Rattle.image.specs.Layout.{no_content}
