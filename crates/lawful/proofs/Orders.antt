@@ -1,6 +1,6 @@
 -- The orders of one operation, and of two, that must all be there.
 use Prim.Native.Nat.{ℕ, zero, suc, ◌<◌}
-use mathlib.Core.Path.{◌≡◌, refl, sym, ap, ap₂, ◌∙◌}
+use mathlib.Core.Path.{◌≡◌, refl, sym, ap, ap₂, subst, ◌∙◌}
 use mathlib.Core.List.{List, [], ◌∷◌}
 use mathlib.Core.Logic.{◌⊎◌, inl, inr}
 use native.Mathlib.Omega.{arith}
@@ -36,7 +36,7 @@ rest j i (k ∷ l) f o n h = by (f k (inl refl))
           where
             moved : p ≡ k → Has p l → Has k l
             moved q h = rw (sym q) h
-        go (inr a) = n (inr (rw (sym a) h))
+        go (inr a) = n (inr (subst (λ z. Has z l) a h))
 
     by : (k ≡ i) ⊎ (k ≡ j) → k ∷ l ≡ i ∷ []
     by (inl e) = ap₂ (λ (a : ℕ) (r : List ℕ). a ∷ r) e (none_left l (λ p h. off p e h))

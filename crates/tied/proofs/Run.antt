@@ -71,8 +71,8 @@ onward q b e l o = and_before o.answer (run (suc q) (turned b o (deed_of e.kind)
 run_by : (q : ℕ) (b : schedule.Bench) (e : Event) (l : List Event) (o : Acted) → event_at q b.machine e ≡ o → (x : Bool) → accepted o.answer ≡ x
     → ◌≡◌ {A = Ran} (run q b (e ∷ l)) (elim x as (λ _. Ran) [ true ↦ onward q b e l o | false ↦ stopped o.answer b ])
 unfolding run
-run_by q b e l o h x a = ap (λ o. elim (accepted o.answer) as (λ _. Ran) [ true ↦ onward q b e l o | false ↦ stopped o.answer b ]) h
-    ∙ ap (λ x. elim x as (λ _. Ran) [ true ↦ onward q b e l o | false ↦ stopped o.answer b ]) a
+run_by q b e l o h x a = ap (λ (o : Acted). elim (accepted o.answer) as (λ _. Ran) [ true ↦ onward q b e l o | false ↦ stopped o.answer b ]) h
+    ∙ ap (λ (x : Bool). elim x as (λ _. Ran) [ true ↦ onward q b e l o | false ↦ stopped o.answer b ]) a
 
 says_taken : (a : Ans) → accepted (answer_of a) ≡ true
 says_taken nothing = refl

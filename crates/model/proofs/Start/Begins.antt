@@ -187,7 +187,7 @@ module _ (g : Image) (ls : ℕ → Bool) (d last : ℕ) (nd : ℕ → Node) (fre
       indices = λ r l. refl;
     };
     alive = record { live = λ t b r x y. idle_not b; base_lo = λ t b. idle_not b; range = λ t b. idle_not b; prev = λ r e. absurd (omega arith) };
-    waits = record { awaits = λ n. waitss g.conf.nodes ls _ _ _ n (find n L) };
+    waits = record { awaits = λ n. waitss g.conf.nodes ls _ _ (mk.wait n) n (find n L) };
     threads = record { refs = λ t. tt; mine = λ t. tt };
   }
 
