@@ -1,5 +1,5 @@
 -- Laws of #104's sets of threads, one thread at a time, and of a flush and a fence of a line that is known to be a head line or a node's.
-use Prim.Native.Nat.{ℕ, zero, suc, ◌+◌, ◌-◌, ◌^◌, ◌≤◌, ◌<◌}
+use Prim.Native.Nat.{ℕ, zero, suc, ◌+◌, ◌^◌, ◌<◌}
 use mathlib.Core.Path.{◌≡◌, refl, sym, ap, ap₂, ◌∙◌}
 use mathlib.Core.Bool.{Bool, true, false}
 use mathlib.Core.List.{List}
@@ -8,11 +8,9 @@ use native.Mathlib.Omega.{arith}
 use native.Mathlib.Numerals.{add-one}
 use lib.ListN.{length, get_or, set}
 use Rattle.lists.specs.Find.{pick}
-use Rattle.lists.specs.Tab.{front}
 use Rattle.lists.specs.Word.{has, without, word_of}
 use Rattle.lists.proofs.TabLaws as tabs
 use Rattle.lists.proofs.WordLaws as words
-use Rattle.image.specs.declared.Content.{Content}
 use Rattle.machine.specs.Record.{flushed, late, over_head, over_node, node, head_at, content_of, put_kept, put_kept_head, put_flushed, put_over_head, put_over_node}
 use Rattle.machine.specs.Line.{head_content, over_at}
 use Rattle.machine.specs.Flush.{late_after, flush, over_after, fence}

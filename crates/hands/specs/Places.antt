@@ -1,5 +1,5 @@
 -- Lines that have a place in the record's tables.
-use Rattle.std.specs.Prelude.{ℕ, ◌<◌}
+use Rattle.std.specs.Prelude.{◌<◌}
 use Rattle.machine.specs.declared.Line.{Line}
 use Rattle.machine.specs.declared.Line.TheVariants.{OfHead as of_head, OfNode as of_node}
 

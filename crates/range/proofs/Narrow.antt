@@ -12,7 +12,7 @@ use Rattle.image.specs.Layout.{no_content}
 use Rattle.image.specs.declared.Content.{Content}
 use Rattle.machine.specs.Record.{node, kept, head_at, kept_head, thread}
 use Rattle.machine.specs.Line.{shape_of}
-use Rattle.machine.specs.Range.{head_fits, index_fits, is_index, form_fits, flush_fits, flushes_fit}
+use Rattle.machine.specs.Range.{head_fits, index_fits, form_fits, flush_fits, flushes_fit}
 use Rattle.machine.specs.declared.Machine.{Machine}
 use Rattle.range.specs.Parts.{wide_head, wide_node, wide_thread, flush_in, bad_flush, bad_set}
 

@@ -1,5 +1,5 @@
 -- The parts of the test for 18 and of the six counts, as the code takes them: over numbers and elements, and up to a place.
-use Rattle.std.specs.Prelude.{ℕ, ◌+◌, ◌^◌, Bool, true, false, not, List, get_or, eqb, ltb, leb}
+use Rattle.std.specs.Prelude.{ℕ, ◌+◌, ◌^◌, Bool, true, not, List, get_or, eqb, ltb, leb}
 use Rattle.lists.specs.Find.{pick, both, any, count}
 use Rattle.image.specs.Form.{per_desk}
 use Rattle.image.specs.Layout.{no_content}

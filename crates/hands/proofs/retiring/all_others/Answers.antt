@@ -1,0 +1,22 @@
+use Rattle.hands.proofs.HandLaws as laws
+use Rattle.hands.specs.Others.{others_below}
+use native.Mathlib.Numerals.{add-one}
+use mathlib.Core.Path.{◌≡◌, refl, sym, ap, ◌∙◌}
+use native.Mathlib.Omega.{arith}
+use Rattle.hands.proofs.retiring.all_others.Goals as goal
+
+pub loop-u-init : goal.loop-u-init
+unfolding others_below
+loop-u-init c = (omega arith, refl)
+
+pub join-next-requires : goal.join-next-requires
+join-next-requires c = (omega arith, rw c.loop-u.invariant.1 (laws.below_lt c.args.m c.args.k c.loop-u.u))
+
+pub loop-u-preserved : goal.loop-u-preserved
+unfolding others_below
+loop-u-preserved c = (omega arith, c.join-next.ensures ∙ rw (c.loop-u.invariant.1, add-one))
+
+pub returns : goal.returns
+returns c =
+    let e : c.loop-u.u ≡ c.args.m.t = omega arith in
+    c.loop-u.invariant.1 ∙ ap (others_below c.args.m c.args.k) e ∙ sym (laws.others_is c.args.m c.args.k)
