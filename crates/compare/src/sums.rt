@@ -1,5 +1,5 @@
 // The FNV-1a sum of bytes, 64 bits.
-use crate::text::put_hex;
+use crate::text::{Output, put_hex};
 
 // The product with FNV's prime, 2^40 + 435, modulo 2^64.
 fn times_prime(x: u64) -> u64 {
@@ -26,7 +26,7 @@ fn sum_of(s: &[u8]) -> u64 {
 }
 
 // The sum's 8 bytes, little-endian, in hex.
-pub fn put_sum(out: &mut [u8; 65536], at: usize, s: &[u8]) -> usize {
+pub fn put_sum(out: &mut Output, at: usize, s: &[u8]) -> usize {
     let x = sum_of(s);
     let mut bytes = [0u8; 8];
     bytes[0] = (x % 256) as u8;
