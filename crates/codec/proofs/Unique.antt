@@ -4,6 +4,7 @@ use mathlib.Core.Path.{◌≡◌, sym, ◌∙◌}
 use mathlib.Core.List.{List}
 use contract.Lifetimes.{Lfts}
 use denote.Ref.{Bor}
+use denote.MutBor.{MutBor}
 use Rattle.answer.proofs.Injective.{told_injective}
 use Rattle.answer.specs.declared.Answer.{Answer}
 use Rattle.image.specs.declared.Image.{Image}
@@ -34,6 +35,6 @@ event_one κs s i r r' p q =
     λ k. record { answer = a k; event = e k }
 
 pub write_one :
-    (κs : Lfts 1) (g : Image) (b z z' : Bor (List ℕ)) (r r' : Answer) →
+    (κs : Lfts 1) (g : Image) (b z z' : MutBor (List ℕ)) (r r' : Answer) →
     write.Post κs (g, (b, tt)) r (g, (z, tt)) → write.Post κs (g, (b, tt)) r' (g, (z', tt)) → (r ≡ r') × (z.now ≡ z'.now)
 write_one κs g b z z' r r' p q = (told_injective r r' (p.0 ∙ sym q.0), p.1 ∙ sym q.1)

@@ -1,0 +1,19 @@
+use mathlib.Core.Path.{◌≡◌, refl, sym, ap, ◌∙◌}
+use Prim.Native.Nat.{ℕ, ◌+◌, ◌-◌, ◌≤◌, ◌<◌}
+use lib.ListN.{length, get_or}
+use Rattle.lists.specs.Tab.{over}
+use Rattle.lists.proofs.TabLaws as tabs
+use Rattle.image.specs.Form.{heads_at, head_lines}
+use Rattle.image.specs.Layout.{mark_bytes}
+use Rattle.image.proofs.FormLaws as forms
+use Rattle.codec.proofs.Laws as laws
+use Rattle.codec.proofs.Shapes as shapes
+use borrow.Author.Rules.{rules}
+use native.Mathlib.Omega.{arith}
+use Rattle.codec.proofs.lines.put_head.Given as goal
+
+abbrev pub invariant-loop-k : goal.invariant-loop-k
+invariant-loop-k l = (l.k ≤ l.count) × (l.b ≡ over l.initial.b (heads_at l.form) (laws.lines_to l.form (λ j. get_or l.heads j 0) l.k))
+
+abbrev pub decreases-loop-k : goal.decreases-loop-k
+decreases-loop-k l = l.count - l.k
