@@ -26,23 +26,30 @@ input == 2 { wanted[++asked] = $1; next }
     text = substr($0, length(file) + length(number) + 3)
     lines[file, number] = text
     last[file] = number
-    if (text ~ /^(ghost )?use /) imports(file, text)
+    # an item of Rust may go over several lines
+    if (file ~ /\.rt$/ && (open_use != "" || text ~ /^(pub )?use /)) {
+        sub(/^pub /, "", text)
+        sub(/^ */, "", text)
+        open_use = open_use (open_use == "" || open_use ~ /\{$/ ? "" : " ") text
+        if (text !~ /;$/) next
+        text = open_use
+        open_use = ""
+        sub(/, *\};/, "};", text)
+        sub(/;$/, "", text)
+        imports(file, text)
+    } else if (text ~ /^(ghost )?use /) imports(file, text)
 }
 
-# `use Rattle·crate.specs.File.{a, b}`, `use Rattle·crate·specs.specs.declared.Type.{Type}`, `use crate::Type;`
-function imports(file, text,    crate, rest, names, count, i, path) {
+# `use Rattle.crate.specs.File.{a, b}`, `use Rattle.crate.specs.declared.Type.{Type}`, `use crate::{Type, Other};`
+function imports(file, text,    crate, path, names, count, i) {
     sub(/^(ghost )?use /, "", text)
-    if (text ~ /^Rattle/) {
+    if (text ~ /^Rattle\./) {
         if (text !~ /\{/) return
-        rest = text
-        sub(/^Rattle·/, "", rest)
-        crate = rest
-        sub(/[.·].*/, "", crate)
-        if (match(rest, /(specs|proofs)\./) == 0) return
-        # the folder is the last of specs., proofs. before the file's name
-        path = substr(rest, length(crate) + 1)
-        sub(/^·[a-z]+/, "", path)
-        sub(/^\./, "", path)
+        sub(/^Rattle\./, "", text)
+        crate = text
+        sub(/\..*/, "", crate)
+        if (text !~ /^[a-z_0-9]*\.(specs|proofs)\./) return
+        path = substr(text, length(crate) + 2)
         names = path
         sub(/\.\{.*/, "", path)
         sub(/^[^{]*\{/, "", names)
@@ -50,16 +57,18 @@ function imports(file, text,    crate, rest, names, count, i, path) {
         count = split(names, name, /, */)
         gsub(/\./, "/", path)
         for (i = 1; i <= count; i++) {
-            if (path ~ /the-variants/) continue
+            if (path ~ /TheVariants/) continue
             if (path ~ /declared/) brought[file, name[i]] = "type " crate " " name[i]
             else brought[file, name[i]] = crate "/" path "#" name[i]
         }
-    } else if (text ~ /::[A-Z][A-Za-z]*;/) {
+    } else if (text ~ /::/) {
         crate = text
         sub(/::.*/, "", crate)
         sub(/;.*/, "", text)
-        sub(/.*::/, "", text)
-        brought[file, text] = "type " crate " " text
+        sub(/^.*::\{?/, "", text)
+        sub(/\}$/, "", text)
+        count = split(text, name, /, */)
+        for (i = 1; i <= count; i++) if (name[i] ~ /^[A-Z][A-Za-z]*$/) brought[file, name[i]] = "type " crate " " name[i]
     }
 }
 
@@ -94,7 +103,7 @@ function end_of_law(file, from, what, name,    n, text) {
     return last[file]
 }
 
-function comment(text) { return text ~ /^ *(--|\/\/) ?/ && text !~ /^ *-- ----/ }
+function comment(text) { return text ~ /^ *(--|\/\/) ?/ && text !~ /^ *-- ----/ || text ~ /^ *#\[derive/ }
 
 function plan(key,    file, what, from, to, deep, n, d, text) {
     file = file_of[key]
@@ -127,7 +136,8 @@ function mention(key, file, from, to,    n, text, word, count, i, target) {
         for (i = 1; i <= count; i++) {
             if (word[i] == "") continue
             target = ""
-            if ((file, word[i]) in here) target = here[file, word[i]]
+            # a clause names what is brought, and no function
+            if ((file, word[i]) in here && !(file ~ /\.rt$/ && (file, word[i]) in brought)) target = here[file, word[i]]
             else if ((file, word[i]) in brought) target = brought[file, word[i]]
             if (target ~ /^type /) {
                 split(target, part, " ")
