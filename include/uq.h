@@ -1,4 +1,4 @@
-/* The crash bench for UnlinkedQ, as a static library: link target/staticlib/liblibrary.a (`rt staticlib library`), an x86-64 archive.
+/* The crash bench for UnlinkedQ, as a static library: link target/staticlib/liblibrary.a (`tools/build library`), an x86-64 archive.
 
    Images, schedules and machine records are bytes, as document 01 and docs/DECISIONS.md lay them out. Every call is a function of
    the bytes it is handed and nothing else: it keeps no state, calls nothing but memcpy and memset, always returns, and is proved to give what

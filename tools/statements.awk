@@ -103,7 +103,7 @@ function end_of_law(file, from, what, name,    n, text) {
     return last[file]
 }
 
-function comment(text) { return text ~ /^ *(--|\/\/) ?/ && text !~ /^ *-- ----/ || text ~ /^ *#\[derive/ }
+function comment(text) { return text ~ /^ *(--|\/\/) ?/ && text !~ /^ *-- ----/ || text ~ /^ *#\[(derive|cycle)/ }
 
 function plan(key,    file, what, from, to, deep, n, d, text) {
     file = file_of[key]
