@@ -1,0 +1,9 @@
+use borrow.Author.Tests.{eq-eqb, ne_eqb}
+use borrow.Author.Rules.{rules}
+use Rattle.dequeue.proofs.d2.Goals as goal
+
+pub returns-then-x : goal.returns-then-x
+returns-then-x c = rw (c.by_form-s.ensures, eq-eqb _ _ c.if-x.true)
+
+pub returns : goal.returns
+returns c = rw (ne_eqb _ _ c.if-x.false)

@@ -1,0 +1,5 @@
+use borrow.Author.Rules.{rules}
+use Rattle.dequeue.proofs.d5.Goals as goal
+
+pub returns : goal.returns
+returns c = rw c.by_form-s.ensures

@@ -1,0 +1,15 @@
+use borrow.Author.Tests.{eq-eqb, ne_eqb}
+use Rattle.image.specs.Form.{per_desk}
+use borrow.Author.Rules.{rules}
+use Rattle.dequeue.proofs.is_still.Goals as goal
+
+pub returns-then-h-th : goal.returns-then-h-th
+returns-then-h-th c = rw (ne_eqb _ _ c.if-h-th.true)
+
+pub returns-then-form-eq4 : goal.returns-then-form-eq4
+unfolding per_desk
+returns-then-form-eq4 c = rw (eq-eqb _ _ c.if-h-th.false, eq-eqb _ _ c.if-form-eq4.true)
+
+pub returns : goal.returns
+unfolding per_desk
+returns c = rw (eq-eqb _ _ c.if-h-th.false, ne_eqb _ _ c.if-form-eq4.false)

@@ -1,0 +1,5 @@
+use borrow.Author.Rules.{rules}
+use Rattle.dequeue.proofs.s6.Goals as goal
+
+pub returns : goal.returns
+returns c = c.store_index.ensures

@@ -1,0 +1,5 @@
+use borrow.Author.Rules.{rules}
+use Rattle.enqueue.proofs.a10.Goals as goal
+
+pub returns : goal.returns
+returns c = rw c.flush_line-r.ensures

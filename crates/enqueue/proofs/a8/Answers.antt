@@ -1,0 +1,9 @@
+use borrow.Author.Tests.{eq-eqb, ne_eqb}
+use borrow.Author.Rules.{rules}
+use Rattle.enqueue.proofs.a8.Goals as goal
+
+pub returns-then-x : goal.returns-then-x
+returns-then-x c = simp (eq-eqb _ _ c.if-x.true)
+
+pub returns : goal.returns
+returns c = simp (ne_eqb _ _ c.if-x.false)
