@@ -5,6 +5,7 @@ use mathlib.Core.Path.{◌≡◌, sym, ap, ◌∙◌}
 use mathlib.Core.Bool.{true, false}
 use mathlib.Core.List.{List, ◌++◌}
 use contract.Lifetimes.{Lfts}
+use denote.MutBor.{MutBor}
 use denote.Ref.{Bor}
 use lib.ListN.{length, take, drop}
 use Rattle.answer.specs.Answers.{accepted}
@@ -24,7 +25,7 @@ use Rattle.converting.proofs.ExportImport.{export_import}
 use Rattle.converting.proofs.desks.import_desks.Reads as importing
 use Rattle.converting.proofs.desks.export_desks.Reads as exporting
 
-module _ (κs : Lfts 2) (s b z : Bor (List ℕ)) (r : Answer) where
+module _ (κs : Lfts 2) (s : Bor (List ℕ)) (b z : MutBor (List ℕ)) (r : Answer) where
   -- widen, or narrow, may answer r and leave z where the buffer held b
   abbrev pub Widens : Type 0
   Widens = widening.Post κs (s, (b, tt)) r (s, (z, tt))
@@ -45,7 +46,7 @@ module _ (κs : Lfts 2) (s b z : Bor (List ℕ)) (r : Answer) where
   narrow_refused p h = p.1 ∙ refused_same 2 1 s.now b.now (ap accepted (sym (narrow_is p)) ∙ h)
 
 -- an image s, converted into a buffer that held b and now holds z; the image t that stands there, converted back into a buffer that held c and now holds w
-module _ (κs : Lfts 2) (s b z : Bor (List ℕ)) (r : Answer) (λs : Lfts 2) (t c w : Bor (List ℕ)) (q : Answer)
+module _ (κs : Lfts 2) (s : Bor (List ℕ)) (b z : MutBor (List ℕ)) (r : Answer) (λs : Lfts 2) (t : Bor (List ℕ)) (c w : MutBor (List ℕ)) (q : Answer)
     (bytes : Bytes s.now) (taken : accepted r ≡ true) (room : length s.now ≤ length c.now) where
   pub widened_narrowed : Widens κs s b z r → t.now ≡ take (14 + at1 s.now 5 * 13) z.now → Narrows λs t c w q
       → (q ≡ Taken) × (w.now ≡ s.now ++ drop (length s.now) c.now)
@@ -68,18 +69,18 @@ module _ (κs : Lfts 2) (s b z : Bor (List ℕ)) (r : Answer) (λs : Lfts 2) (t 
       )
 
 pub import_refused :
-    (κs : Lfts 2) (s b z : Bor (List ℕ)) (r : Answer) → importing.Post κs (s, (b, tt)) r (s, (z, tt)) → accepted r ≡ false → z.now ≡ b.now
+    (κs : Lfts 2) (s : Bor (List ℕ)) (b z : MutBor (List ℕ)) (r : Answer) → importing.Post κs (s, (b, tt)) r (s, (z, tt)) → accepted r ≡ false → z.now ≡ b.now
 import_refused κs s b z r p h =
     p.1 ∙ import_stays s.now b.now (ap accepted (sym (told_injective r (import_answer s.now (length b.now)) p.0)) ∙ h)
 
 pub export_refused :
-    (κs : Lfts 2) (s b z : Bor (List ℕ)) (t : ℕ) (r : Answer) → exporting.Post κs (s, (t, (b, tt))) r (s, (t, (z, tt))) → accepted r ≡ false → z.now ≡ b.now
+    (κs : Lfts 2) (s : Bor (List ℕ)) (b z : MutBor (List ℕ)) (t : ℕ) (r : Answer) → exporting.Post κs (s, (t, (b, tt))) r (s, (t, (z, tt))) → accepted r ≡ false → z.now ≡ b.now
 export_refused κs s b z t r p h =
     p.1 ∙ export_stays s.now t b.now (ap accepted (sym (told_injective r (export_answer s.now t (length b.now)) p.0)) ∙ h)
 
 -- an image s, exported for t threads into a buffer that held b and now holds z; the image u that stands there, imported into a buffer that held c and now holds w
 pub exported_imported :
-    (κs : Lfts 2) (s b z : Bor (List ℕ)) (t : ℕ) (r : Answer) (λs : Lfts 2) (u c w : Bor (List ℕ)) (q : Answer) →
+    (κs : Lfts 2) (s : Bor (List ℕ)) (b z : MutBor (List ℕ)) (t : ℕ) (r : Answer) (λs : Lfts 2) (u : Bor (List ℕ)) (c w : MutBor (List ℕ)) (q : Answer) →
     Bytes s.now → accepted r ≡ true → length s.now ≤ length c.now →
     exporting.Post κs (s, (t, (b, tt))) r (s, (t, (z, tt))) → u.now ≡ take (7 + t * 4 + at1 s.now 5 * 9) z.now →
     importing.Post λs (u, (c, tt)) q (u, (w, tt)) →

@@ -1,0 +1,74 @@
+use Prim.Native.Nat.{ℕ}
+use mathlib.Core.Bool.{true, false}
+use mathlib.Core.Path.{◌≡◌, refl, sym, ap, ◌∙◌}
+use lib.ListN.{length}
+use borrow.Author.Tests.{not-true, not-false}
+use Rattle.answer.specs.Answers.{accepted}
+use Rattle.answer.specs.declared.Answer.TheVariants.{Taken}
+use Rattle.lists.specs.Tab.{over}
+use Rattle.image.specs.Form.{image_size}
+use Rattle.image.specs.Layout.{in_form, image_shape, form_in, image_in, image_bytes}
+use Rattle.image.specs.declared.Image.{Image}
+use Rattle.image.specs.Refusals.{alone_answer, fitting}
+use Rattle.codec.proofs.Accepted as acc
+use Rattle.converting.specs.Converted.{converted}
+use Rattle.converting.proofs.Laws as laws
+use borrow.Author.Rules.{rules}
+use Rattle.converting.proofs.convert.Goals as goal
+use Rattle.converting.proofs.convert.Goals.{Else-not-is_taken}
+
+-- the image is taken
+taken : (c : Else-not-is_taken) → accepted (alone_answer c.args.s.now) ≡ true
+taken c =
+    sym (ap accepted c.check_alone-a.ensures) ∙ sym c.is_taken.ensures ∙ not-false c.is_taken.result c.if-not-is_taken.false-raw
+
+-- and is of the form that is asked for
+formed : (c : Else-not-is_taken) → form_in c.args.s.now ≡ c.args.from
+formed c =
+    sym c.form_in.ensures ∙ c.if-form_in-from.false
+
+pub returns-then-s-lt10 : goal.returns-then-s-lt10
+returns-then-s-lt10 c = let e = laws.answer_short c.args.from c.args.to c.args.s.now (length c.args.b.now) c.if-s-lt10.true in record { answers = sym e; bytes = sym (laws.refused_same c.args.from c.args.to c.args.s.now c.args.b.now (ap accepted e)) }
+
+pub returns-then-form_in-from : goal.returns-then-form_in-from
+returns-then-form_in-from c = let e = laws.answer_mark c.args.from c.args.to c.args.s.now (length c.args.b.now) c.if-s-lt10.false (λ q. c.if-form_in-from.true (c.form_in.ensures ∙ q)) in record { answers = sym e; bytes = sym (laws.refused_same c.args.from c.args.to c.args.s.now c.args.b.now (ap accepted e)) }
+
+pub returns-then-not-is_taken : goal.returns-then-not-is_taken
+returns-then-not-is_taken c =
+    let f = sym c.form_in.ensures ∙ c.if-form_in-from.false in
+    let h : accepted (alone_answer c.args.s.now) ≡ false = sym (ap accepted c.check_alone-a.ensures) ∙ sym c.is_taken.ensures ∙ not-true c.is_taken.result c.if-not-is_taken.true-raw in
+    let e = laws.answer_refused c.args.from c.args.to c.args.s.now (length c.args.b.now) c.if-s-lt10.false f h in record { answers = c.check_alone-a.ensures ∙ sym e; bytes = sym (laws.refused_same c.args.from c.args.to c.args.s.now c.args.b.now (ap accepted e ∙ h)) }
+
+pub image_in-g-requires : goal.image_in-g-requires
+image_in-g-requires c = (acc.alone_taken _ (taken (goal.at.image_in-g-requires c).Else-not-is_taken)).lies
+
+pub fitting_of-w-requires : goal.fitting_of-w-requires
+fitting_of-w-requires c = (laws.taken_few c.args.s.now c.image_in-g.result (taken (goal.at.fitting_of-w-requires c).Else-not-is_taken) c.image_in-g.ensures, laws.one_line (image_shape (in_form c.args.to c.image_in-g.result)) c.requires.1)
+
+pub returns-then-not-is_taken-2 : goal.returns-then-not-is_taken-2
+returns-then-not-is_taken-2 c =
+    let is : c.fitting_of-w.result ≡ fitting (in_form c.args.to (image_in c.args.s.now)) Taken =
+    c.fitting_of-w.ensures ∙ ap (λ (g : Image). fitting (in_form c.args.to g) Taken) c.image_in-g.ensures in
+    let w : accepted (fitting (in_form c.args.to (image_in c.args.s.now)) Taken) ≡ false = sym (ap accepted is) ∙ sym c.is_taken-2.ensures ∙ not-true c.is_taken-2.result c.if-not-is_taken-2.true-raw in
+    let e = laws.answer_wide c.args.from c.args.to c.args.s.now (length c.args.b.now) (formed (goal.at.returns-then-not-is_taken-2 c).Else-not-is_taken) (taken (goal.at.returns-then-not-is_taken-2 c).Else-not-is_taken) w in record { answers = is ∙ sym e; bytes = sym (laws.refused_same c.args.from c.args.to c.args.s.now c.args.b.now (ap accepted e ∙ w)) }
+
+pub size_of-requires : goal.size_of-requires
+size_of-requires c = c.requires.0
+
+pub returns-then-b-size_of : goal.returns-then-b-size_of
+returns-then-b-size_of c =
+    let is : c.fitting_of-w.result ≡ fitting (in_form c.args.to (image_in c.args.s.now)) Taken = c.fitting_of-w.ensures ∙ ap (λ (g : Image). fitting (in_form c.args.to g) Taken) c.image_in-g.ensures in
+    let w : accepted (fitting (in_form c.args.to (image_in c.args.s.now)) Taken) ≡ true = sym (ap accepted is) ∙ sym c.is_taken-2.ensures ∙ not-false c.is_taken-2.result c.if-not-is_taken-2.false-raw in
+    let size = c.size_of.ensures ∙ ap (λ (g : Image). image_size (image_shape (in_form c.args.to g))) c.image_in-g.ensures in
+    let e = laws.answer_room c.args.from c.args.to c.args.s.now (length c.args.b.now) (formed (goal.at.returns-then-b-size_of c).Else-not-is_taken) (taken (goal.at.returns-then-b-size_of c).Else-not-is_taken) w (rw (← size) c.if-b-size_of.true) in record { answers = sym e; bytes = sym (laws.refused_same c.args.from c.args.to c.args.s.now c.args.b.now (ap accepted e)) }
+
+pub put_image-requires : goal.put_image-requires
+put_image-requires c = (c.requires.0, (laws.taken_few c.args.s.now c.image_in-g.result (taken (goal.at.put_image-requires c).Else-not-is_taken) c.image_in-g.ensures, (laws.one_line (image_shape (in_form c.args.to c.image_in-g.result)) c.requires.1, rw (← c.size_of.ensures) c.if-b-size_of.false)))
+
+pub returns : goal.returns
+returns c =
+    let is : c.fitting_of-w.result ≡ fitting (in_form c.args.to (image_in c.args.s.now)) Taken = c.fitting_of-w.ensures ∙ ap (λ (g : Image). fitting (in_form c.args.to g) Taken) c.image_in-g.ensures in
+    let w : accepted (fitting (in_form c.args.to (image_in c.args.s.now)) Taken) ≡ true = sym (ap accepted is) ∙ sym c.is_taken-2.ensures ∙ not-false c.is_taken-2.result c.if-not-is_taken-2.false-raw in
+    let size = c.size_of.ensures ∙ ap (λ (g : Image). image_size (image_shape (in_form c.args.to g))) c.image_in-g.ensures in
+    let e = laws.answer_taken c.args.from c.args.to c.args.s.now (length c.args.b.now) (formed (goal.at.returns c).Else-not-is_taken) (taken (goal.at.returns c).Else-not-is_taken) w (rw (← size) c.if-b-size_of.false) in
+    let put = c.put_image.ensures ∙ ap (λ (g : Image). over c.args.b.now 0 (image_bytes (in_form c.args.to g))) c.image_in-g.ensures in record { answers = sym e; bytes = put ∙ sym (laws.taken_over c.args.from c.args.to c.args.s.now c.args.b.now (ap accepted e)) }

@@ -1,0 +1,12 @@
+use mathlib.Core.Path.{refl, ap}
+use Rattle.answer.specs.Answers.{told}
+use Rattle.image.specs.Form.{known, per_desk}
+use borrow.Author.Rules.{rules}
+use Rattle.converting.proofs.widen.Goals as goal
+
+pub convert-requires : goal.convert-requires
+unfolding known per_desk
+convert-requires c = (refl, refl)
+
+pub returns : goal.returns
+returns c = record { answers = ap told c.convert.ensures.answers; bytes = c.convert.ensures.bytes }
