@@ -1,0 +1,12 @@
+use borrow.Author.Tests.{lt-ltb, le-ltb}
+use Rattle.mending.specs.Mended.{larger_at}
+use borrow.Author.Rules.{rules}
+use Rattle.mending.proofs.reasons.larger_at.Goals as goal
+
+pub returns-then-x-y : goal.returns-then-x-y
+unfolding larger_at
+returns-then-x-y c = rw (← c.index_at-x.ensures, ← c.index_at-y.ensures, lt-ltb _ _ c.if-x-y.true)
+
+pub returns : goal.returns
+unfolding larger_at
+returns c = rw (← c.index_at-x.ensures, ← c.index_at-y.ensures, le-ltb _ _ c.if-x-y.false)

@@ -1,0 +1,17 @@
+use Prim.Native.Nat.{◌≤◌, ◌-◌, ◌+◌}
+use mathlib.Core.Path.{◌≡◌, refl, sym, ap, ◌∙◌}
+use native.Mathlib.Omega.{arith}
+use lib.ListN.{length}
+use Rattle.lists.specs.Tab.{over}
+use Rattle.lists.proofs.TabLaws.{length_over}
+use Rattle.image.specs.Layout.{image_in}
+use Rattle.mending.specs.Mended.{reason_at, entry_of, changes}
+use Rattle.mending.proofs.Turns as turns
+use lib.ListN.{length-append}
+use Rattle.mending.proofs.writing.put_changes.Given as goal
+
+abbrev pub invariant-loop-i : goal.invariant-loop-i
+invariant-loop-i l = (l.i ≤ l.n) × ((l.at ≡ length (changes (image_in l.s) l.i)) × (l.l ≡ over l.initial.l 0 (changes (image_in l.s) l.i)))
+
+abbrev pub decreases-loop-i : goal.decreases-loop-i
+decreases-loop-i l = l.n - l.i
