@@ -1,0 +1,19 @@
+use native.Mathlib.Numerals.{add-one, add-two, add-three}
+use native.Mathlib.Omega.{arith}
+use lib.ListN.{length-set}
+use Rattle.lists.specs.Tab.{over}
+use Rattle.printing.specs.Digits.{four_digits}
+use Rattle.printing.proofs.put_four.Goals as goal
+
+pub bounds-b-at-2 : goal.bounds-b-at-2
+bounds-b-at-2 c = simp length-set (omega arith)
+
+pub bounds-b-at-3 : goal.bounds-b-at-3
+bounds-b-at-3 c = simp length-set (omega arith)
+
+pub bounds-b-at-4 : goal.bounds-b-at-4
+bounds-b-at-4 c = simp length-set (omega arith)
+
+pub returns : goal.returns
+unfolding over four_digits
+returns c = simp (add-one, add-two, add-three)
