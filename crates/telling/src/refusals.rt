@@ -2,7 +2,7 @@
 use crate::shapes::per_desk;
 use crate::text::{end, field, line_words, said};
 use answer::Told;
-use compare::text::put_all;
+use compare::text::{Output, put_all};
 use image::Shape;
 use machine::Event;
 
@@ -14,7 +14,7 @@ fn is_event(number: u8) -> bool {
     9 <= number && number <= 13
 }
 
-fn kind_words(out: &mut [u8; 65536], at: usize, kind: u8) -> usize {
+fn kind_words(out: &mut Output, at: usize, kind: u8) -> usize {
     match kind {
         1 => put_all(out, at, b"begin an enqueue"),
         2 => put_all(out, at, b"begin a dequeue"),
@@ -25,7 +25,7 @@ fn kind_words(out: &mut [u8; 65536], at: usize, kind: u8) -> usize {
 }
 
 // 4: an image that holds the number of threads holds the schedule's.
-fn threads_words(out: &mut [u8; 65536], at: usize, z: Shape) -> usize {
+fn threads_words(out: &mut Output, at: usize, z: Shape) -> usize {
     if per_desk(z) {
         return put_all(
             out,
@@ -37,7 +37,7 @@ fn threads_words(out: &mut [u8; 65536], at: usize, z: Shape) -> usize {
 }
 
 // Refusals of the bytes: 1 to 8.
-fn bytes_words(out: &mut [u8; 65536], at: usize, t: Told, z: Shape) -> usize {
+fn bytes_words(out: &mut Output, at: usize, t: Told, z: Shape) -> usize {
     let number = t.number;
     match number {
         1 => put_all(
@@ -76,7 +76,7 @@ fn bytes_words(out: &mut [u8; 65536], at: usize, t: Told, z: Shape) -> usize {
 }
 
 // Refusals of event e: 9 to 13, and 19.
-fn event_words(out: &mut [u8; 65536], at: usize, t: Told, e: Event) -> usize {
+fn event_words(out: &mut Output, at: usize, t: Told, e: Event) -> usize {
     if t.number == 9 {
         return said(
             out,
@@ -109,7 +109,7 @@ fn event_words(out: &mut [u8; 65536], at: usize, t: Told, e: Event) -> usize {
     }
 }
 
-fn refusal_words(out: &mut [u8; 65536], at: usize, t: Told, e: Event, z: Shape) -> usize {
+fn refusal_words(out: &mut Output, at: usize, t: Told, e: Event, z: Shape) -> usize {
     if t.number <= 8 {
         return bytes_words(out, at, t, z);
     }
@@ -128,7 +128,7 @@ fn refusal_words(out: &mut [u8; 65536], at: usize, t: Told, e: Event, z: Shape) 
     }
 }
 
-fn event_fields(out: &mut [u8; 65536], at: usize, t: Told, e: Event) -> usize {
+fn event_fields(out: &mut Output, at: usize, t: Told, e: Event) -> usize {
     if is_event(t.number) {
         let first = field(out, at, e.kind as u64);
         let second = field(out, first, e.number as u64);
@@ -138,14 +138,7 @@ fn event_fields(out: &mut [u8; 65536], at: usize, t: Told, e: Event) -> usize {
 }
 
 // The last row, or the last line; z is the shape, as far as the bytes say it.
-pub fn refused(
-    out: &mut [u8; 65536],
-    at: usize,
-    columns: bool,
-    t: Told,
-    e: Event,
-    z: Shape,
-) -> usize {
+pub fn refused(out: &mut Output, at: usize, columns: bool, t: Told, e: Event, z: Shape) -> usize {
     if columns {
         let first = put_all(out, at, b"refused");
         let second = field(out, first, t.number as u64);

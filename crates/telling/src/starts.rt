@@ -2,7 +2,7 @@
 use crate::lines::{begun, cached_of, joined, kept_of, same};
 use crate::shapes::{head_index, line_total, shape_of};
 use crate::text::{content_fields, end, event_field, field, said};
-use compare::text::{put, put_all, put_decimal};
+use compare::text::{Output, put, put_all, put_decimal};
 use image::{Content, Shape};
 use machine::{Machine, Node};
 
@@ -29,7 +29,7 @@ fn item_or_index(v: Node, items: bool) -> u64 {
 }
 
 // The items of the queue, or their indices, apart by blanks, as the links run from the dummy on; - where there is none.
-pub fn queue(out: &mut [u8; 65536], at: usize, m: Machine, items: bool) -> usize {
+pub fn queue(out: &mut Output, at: usize, m: Machine, items: bool) -> usize {
     let mut place = at;
     let mut i = m.head;
     let mut turns: u8 = 0;
@@ -55,7 +55,7 @@ pub fn queue(out: &mut [u8; 65536], at: usize, m: Machine, items: bool) -> usize
 
 // A content of a line: moment, line, place in its list.
 pub fn content_row(
-    out: &mut [u8; 65536],
+    out: &mut Output,
     at: usize,
     moment: usize,
     z: Shape,
@@ -73,7 +73,7 @@ pub fn content_row(
 
 // What a line holds after a start: the persisted content, and the cached one where it is another.
 fn line_begun(
-    out: &mut [u8; 65536],
+    out: &mut Output,
     at: usize,
     columns: bool,
     book: &mut [u64; 10328],
@@ -97,7 +97,7 @@ fn line_begun(
 }
 
 fn lines_begun(
-    out: &mut [u8; 65536],
+    out: &mut Output,
     at: usize,
     columns: bool,
     book: &mut [u64; 10328],
@@ -116,14 +116,14 @@ fn lines_begun(
 }
 
 // In words: the dummy, the head index, the queue.
-pub fn recovered(out: &mut [u8; 65536], at: usize, m: Machine) -> usize {
+pub fn recovered(out: &mut Output, at: usize, m: Machine) -> usize {
     let first = said(out, at, b"the dummy is node ", m.head as u64, b", ");
     let second = said(out, first, b"head index ", head_index(m), b", queue ");
     let last = queue(out, second, m, true);
     end(out, last)
 }
 
-fn start_row(out: &mut [u8; 65536], at: usize, columns: bool, moment: usize, m: Machine) -> usize {
+fn start_row(out: &mut Output, at: usize, columns: bool, moment: usize, m: Machine) -> usize {
     if columns {
         let first = put_all(out, at, b"start");
         let second = event_field(out, first, moment);
@@ -147,7 +147,7 @@ fn start_row(out: &mut [u8; 65536], at: usize, columns: bool, moment: usize, m: 
 }
 
 pub fn started(
-    out: &mut [u8; 65536],
+    out: &mut Output,
     at: usize,
     columns: bool,
     book: &mut [u64; 10328],

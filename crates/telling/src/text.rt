@@ -1,21 +1,21 @@
 // Pieces of rows and of sentences.
 use crate::shapes::{is_head, line_of, per_desk};
-use compare::text::{put, put_all, put_decimal};
+use compare::text::{Output, put, put_all, put_decimal};
 use image::{Content, Shape};
 use machine::{Line, Machine};
 
 // A number behind a tab.
-pub fn field(out: &mut [u8; 65536], at: usize, x: u64) -> usize {
+pub fn field(out: &mut Output, at: usize, x: u64) -> usize {
     let place = put(out, at, b'\t');
     put_decimal(out, place, x)
 }
 
-pub fn end(out: &mut [u8; 65536], at: usize) -> usize {
+pub fn end(out: &mut Output, at: usize) -> usize {
     put(out, at, b'\n')
 }
 
 // Words, a number, words.
-pub fn said(out: &mut [u8; 65536], at: usize, before: &[u8], x: u64, after: &[u8]) -> usize {
+pub fn said(out: &mut Output, at: usize, before: &[u8], x: u64, after: &[u8]) -> usize {
     let first = put_all(out, at, before);
     let second = put_decimal(out, first, x);
     put_all(out, second, after)
@@ -23,7 +23,7 @@ pub fn said(out: &mut [u8; 65536], at: usize, before: &[u8], x: u64, after: &[u8
 
 // The same with two numbers.
 pub fn said_both(
-    out: &mut [u8; 65536],
+    out: &mut Output,
     at: usize,
     before: &[u8],
     x: u64,
@@ -35,7 +35,7 @@ pub fn said_both(
 }
 
 // The event of a moment: moment 0 is the start, moment i + 1 event i.
-pub fn event_field(out: &mut [u8; 65536], at: usize, moment: usize) -> usize {
+pub fn event_field(out: &mut Output, at: usize, moment: usize) -> usize {
     if moment == 0 {
         return put_all(out, at, b"\t-");
     }
@@ -43,7 +43,7 @@ pub fn event_field(out: &mut [u8; 65536], at: usize, moment: usize) -> usize {
 }
 
 // A1 to A12, D1 to D7.
-fn numbered(out: &mut [u8; 65536], at: usize, step: u8) -> usize {
+fn numbered(out: &mut Output, at: usize, step: u8) -> usize {
     if step <= Machine::A12 {
         return said(out, at, b"A", step as u64, b"");
     }
@@ -51,7 +51,7 @@ fn numbered(out: &mut [u8; 65536], at: usize, step: u8) -> usize {
 }
 
 // The same, the stores S3 and S6 of "UQP", and the fences F10, F3 and F6.
-pub fn step_name(out: &mut [u8; 65536], at: usize, step: u8) -> usize {
+pub fn step_name(out: &mut Output, at: usize, step: u8) -> usize {
     match step {
         Machine::S3 => put_all(out, at, b"S3"),
         Machine::S6 => put_all(out, at, b"S6"),
@@ -62,14 +62,14 @@ pub fn step_name(out: &mut [u8; 65536], at: usize, step: u8) -> usize {
     }
 }
 
-fn head_name(out: &mut [u8; 65536], at: usize, z: Shape, k: u8) -> usize {
+fn head_name(out: &mut Output, at: usize, z: Shape, k: u8) -> usize {
     if per_desk(z) {
         return said(out, at, b"head of desk ", k as u64, b"");
     }
     put_all(out, at, b"Head")
 }
 
-pub fn line_name(out: &mut [u8; 65536], at: usize, z: Shape, line: u8) -> usize {
+pub fn line_name(out: &mut Output, at: usize, z: Shape, line: u8) -> usize {
     let l = line_of(z, line);
     match l {
         Line::OfHead(k) => head_name(out, at, z, k),
@@ -78,7 +78,7 @@ pub fn line_name(out: &mut [u8; 65536], at: usize, z: Shape, line: u8) -> usize 
 }
 
 // The line itself, in a sentence.
-pub fn line_words(out: &mut [u8; 65536], at: usize, z: Shape, line: u8) -> usize {
+pub fn line_words(out: &mut Output, at: usize, z: Shape, line: u8) -> usize {
     if per_desk(z) && is_head(z, line) {
         return said(out, at, b"the head line of desk ", line as u64, b"");
     }
@@ -87,7 +87,7 @@ pub fn line_words(out: &mut [u8; 65536], at: usize, z: Shape, line: u8) -> usize
 }
 
 // A content as three fields.
-pub fn content_fields(out: &mut [u8; 65536], at: usize, z: Shape, line: u8, c: Content) -> usize {
+pub fn content_fields(out: &mut Output, at: usize, z: Shape, line: u8, c: Content) -> usize {
     if is_head(z, line) {
         let first = put_all(out, at, b"\t-");
         let second = field(out, first, c.index);
@@ -98,7 +98,7 @@ pub fn content_fields(out: &mut [u8; 65536], at: usize, z: Shape, line: u8, c: C
     field(out, second, c.item as u64)
 }
 
-pub fn content_words(out: &mut [u8; 65536], at: usize, z: Shape, line: u8, c: Content) -> usize {
+pub fn content_words(out: &mut Output, at: usize, z: Shape, line: u8, c: Content) -> usize {
     if is_head(z, line) {
         return said(out, at, b"index ", c.index, b"");
     }
@@ -112,7 +112,7 @@ pub fn content_words(out: &mut [u8; 65536], at: usize, z: Shape, line: u8, c: Co
 }
 
 // Letters a to p, + for those behind.
-pub fn letter(out: &mut [u8; 65536], at: usize, j: u8) -> usize {
+pub fn letter(out: &mut Output, at: usize, j: u8) -> usize {
     if j < 16 {
         return put(out, at, 97 + j);
     }
