@@ -2,13 +2,13 @@
 ghost use Rattle.std.specs.Prelude.{◌≤◌, length};
 
 use answer::{Answer, told_of};
-use compare::text::{put, put_front, put_pair};
+use compare::text::{Output, put, put_front, put_pair};
 use converting::{narrow, widen};
 use stream::half;
 
 // Number, place and the whole of what was lent.
 pub(crate) fn put_lent(
-    out: &mut [u8; 65536],
+    out: &mut Output,
     at: usize,
     a: Answer,
     lent: &[u8],
@@ -40,7 +40,7 @@ fn convert(s: &[u8], b: &mut [u8], wide: bool) -> Answer {
 }
 
 fn put_converted(
-    out: &mut [u8; 65536],
+    out: &mut Output,
     at: usize,
     s: &[u8],
     lent: &mut [u8],
@@ -53,7 +53,7 @@ fn put_converted(
     put_lent(out, at, a, lent, room)
 }
 
-pub(crate) fn answer_converted(s: &[u8], out: &mut [u8; 65536], at: usize, wide: bool) -> usize {
+pub(crate) fn answer_converted(s: &[u8], out: &mut Output, at: usize, wide: bool) -> usize {
     let end = image_end(s);
     let room = half(&s[end..], 0);
     let mut lent = [0xaau8; 65536];

@@ -2,17 +2,18 @@
 ghost use Rattle.std.specs.Prelude.{◌≤◌, length};
 
 use crate::conversions::{image_end, put_lent};
+use compare::text::Output;
 use converting::{export_desks, import_desks};
 use stream::half;
 
-fn put_imported(out: &mut [u8; 65536], at: usize, s: &[u8], lent: &mut [u8], room: usize) -> usize
+fn put_imported(out: &mut Output, at: usize, s: &[u8], lent: &mut [u8], room: usize) -> usize
     requires { room ≤ length lent.old }
 {
     let a = import_desks(s, &mut lent[..room]);
     put_lent(out, at, a, lent, room)
 }
 
-pub(crate) fn answer_imported(s: &[u8], out: &mut [u8; 65536], at: usize) -> usize {
+pub(crate) fn answer_imported(s: &[u8], out: &mut Output, at: usize) -> usize {
     let end = image_end(s);
     let room = half(&s[end..], 0);
     let mut lent = [0xaau8; 65536];
@@ -31,7 +32,7 @@ fn threads_at(s: &[u8]) -> usize
 }
 
 fn put_exported(
-    out: &mut [u8; 65536],
+    out: &mut Output,
     at: usize,
     s: &[u8],
     t: u8,
@@ -44,7 +45,7 @@ fn put_exported(
     put_lent(out, at, a, lent, room)
 }
 
-pub(crate) fn answer_exported(s: &[u8], out: &mut [u8; 65536], at: usize) -> usize {
+pub(crate) fn answer_exported(s: &[u8], out: &mut Output, at: usize) -> usize {
     let end = threads_at(s);
     let t = half(&s[end..], 0) % 256;
     let room = half(&s[end..], 1);

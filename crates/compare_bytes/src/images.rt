@@ -1,6 +1,6 @@
 // Images read, and written again.
 use answer::told_of;
-use compare::text::{put, put_front, put_refusal};
+use compare::text::{Output, put, put_front, put_refusal};
 use image::Image;
 
 fn size_of(form: u8, n: u8, t: u8) -> usize {
@@ -14,7 +14,7 @@ fn size_of(form: u8, n: u8, t: u8) -> usize {
 }
 
 // The image as write_image writes it, in hex.
-pub(crate) fn put_image(out: &mut [u8; 65536], at: usize, g: Image) -> usize {
+pub(crate) fn put_image(out: &mut Output, at: usize, g: Image) -> usize {
     let mut bytes = [0u8; 846];
     let a = codec::write_image(g, &mut bytes);
     let t = told_of(a);
@@ -25,7 +25,7 @@ pub(crate) fn put_image(out: &mut [u8; 65536], at: usize, g: Image) -> usize {
     put_front(out, at, &bytes, size)
 }
 
-pub(crate) fn answer_image(s: &[u8], out: &mut [u8; 65536], at: usize) -> usize {
+pub(crate) fn answer_image(s: &[u8], out: &mut Output, at: usize) -> usize {
     let r = codec::read_image(s);
     let a = r.answer;
     let t = told_of(a);

@@ -19,7 +19,7 @@ mod images;
 mod mended;
 mod schedules;
 
-use compare::text::finish;
+use compare::text::{Output, finish};
 use contents::{answer_contents, answer_wide_contents};
 use conversions::answer_converted;
 use desks::{answer_exported, answer_imported};
@@ -29,7 +29,7 @@ use mended::answer_mended;
 use schedules::answer_schedule;
 use stream::next_item;
 
-fn answer_one(mode: u8, s: &[u8], out: &mut [u8; 65536], at: usize) -> usize {
+fn answer_one(mode: u8, s: &[u8], out: &mut Output, at: usize) -> usize {
     match mode {
         b'i' => answer_image(s, out, at),
         b's' => answer_schedule(s, out, at),
@@ -45,7 +45,7 @@ fn answer_one(mode: u8, s: &[u8], out: &mut [u8; 65536], at: usize) -> usize {
 }
 
 // Nothing says that the input ends, so the turns are counted down from a number that no run uses up.
-fn answer_all(mode: u8, item: &mut [u8], out: &mut [u8; 65536]) -> usize {
+fn answer_all(mode: u8, item: &mut [u8], out: &mut Output) -> usize {
     let mut at = 0;
     let mut turns = u64::MAX;
     while turns > 0 {

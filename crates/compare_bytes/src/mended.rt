@@ -2,11 +2,11 @@
 ghost use Rattle.std.specs.Prelude.{◌≤◌, length};
 
 use answer::told_of;
-use compare::text::{put, put_all, put_decimal, put_front, put_pair};
+use compare::text::{Output, put, put_all, put_decimal, put_front, put_pair};
 use stream::{byte, half};
 
 // ` NODE:REASON` for each entry.
-fn put_entries(out: &mut [u8; 65536], at: usize, list: &[u8], count: u8) -> usize {
+fn put_entries(out: &mut Output, at: usize, list: &[u8], count: u8) -> usize {
     let n = count as usize;
     let mut place = at;
     let mut i = 0;
@@ -22,7 +22,7 @@ fn put_entries(out: &mut [u8; 65536], at: usize, list: &[u8], count: u8) -> usiz
 }
 
 // Lends the buffer's front, and puts number, place, the whole of what was lent, and the list, or `-` where it is empty.
-fn put_mended(out: &mut [u8; 65536], at: usize, s: &[u8], lent: &mut [u8], room: usize) -> usize
+fn put_mended(out: &mut Output, at: usize, s: &[u8], lent: &mut [u8], room: usize) -> usize
     requires { room ≤ length lent.old }
 {
     let mut list = [0xaau8; 128];
@@ -39,7 +39,7 @@ fn put_mended(out: &mut [u8; 65536], at: usize, s: &[u8], lent: &mut [u8], room:
     put(out, fourth, b'\n')
 }
 
-pub(crate) fn answer_mended(s: &[u8], out: &mut [u8; 65536], at: usize) -> usize {
+pub(crate) fn answer_mended(s: &[u8], out: &mut Output, at: usize) -> usize {
     let len = s.len();
     if len < 2 {
         return at;

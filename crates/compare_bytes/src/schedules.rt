@@ -1,10 +1,10 @@
 // Schedules read up to their events, and each event.
 use crate::images::put_image;
 use answer::told_of;
-use compare::text::{put, put_all, put_hex, put_pair, put_refusal};
+use compare::text::{Output, put, put_all, put_hex, put_pair, put_refusal};
 use machine::Event;
 
-fn put_event(out: &mut [u8; 65536], at: usize, e: Event) -> usize {
+fn put_event(out: &mut Output, at: usize, e: Event) -> usize {
     let mut bytes = [0u8; 6];
     bytes[0] = e.kind;
     bytes[1] = e.number;
@@ -15,7 +15,7 @@ fn put_event(out: &mut [u8; 65536], at: usize, e: Event) -> usize {
     put_hex(out, at, &bytes)
 }
 
-fn put_events(out: &mut [u8; 65536], at: usize, s: &[u8], count: usize) -> usize {
+fn put_events(out: &mut Output, at: usize, s: &[u8], count: usize) -> usize {
     let mut place = at;
     let mut i = 0;
     while i < count {
@@ -28,7 +28,7 @@ fn put_events(out: &mut [u8; 65536], at: usize, s: &[u8], count: usize) -> usize
     place
 }
 
-pub(crate) fn answer_schedule(s: &[u8], out: &mut [u8; 65536], at: usize) -> usize {
+pub(crate) fn answer_schedule(s: &[u8], out: &mut Output, at: usize) -> usize {
     let o = codec::read_schedule(s);
     let a = o.answer;
     let t = told_of(a);

@@ -1,17 +1,17 @@
 // The despatch desk's list.
 use answer::told_of;
-use compare::text::{put, put_all, put_decimal, put_refusal};
+use compare::text::{Output, put, put_all, put_decimal, put_refusal};
 use stream::{byte, word};
 
 // ` ITEM:GROUP`
-fn put_entry(out: &mut [u8; 65536], at: usize, entry: &[u8]) -> usize {
+fn put_entry(out: &mut Output, at: usize, entry: &[u8]) -> usize {
     let first = put(out, at, b' ');
     let second = put_decimal(out, first, word(entry, 4) as u64);
     let third = put(out, second, b':');
     put_decimal(out, third, byte(entry, 3) as u64)
 }
 
-fn put_entries(out: &mut [u8; 65536], at: usize, b: &[u8], count: usize) -> usize {
+fn put_entries(out: &mut Output, at: usize, b: &[u8], count: usize) -> usize {
     let mut place = at;
     let mut i = 0;
     while i < count {
@@ -26,7 +26,7 @@ fn put_entries(out: &mut [u8; 65536], at: usize, b: &[u8], count: usize) -> usiz
 }
 
 // An ending's number (4 bytes) and a schedule: `refused N at P`, or `list COUNT` and ` ITEM:GROUP` for each entry.
-pub(crate) fn answer_list(s: &[u8], out: &mut [u8; 65536], at: usize) -> usize {
+pub(crate) fn answer_list(s: &[u8], out: &mut Output, at: usize) -> usize {
     if s.len() < 4 {
         return at;
     }

@@ -25,7 +25,7 @@ mod soak;
 mod starts;
 mod traces;
 
-use compare::text::finish;
+use compare::text::{Output, finish};
 use libc::STDIN_FILENO;
 use listing::answer_list;
 use probes::answer_probe;
@@ -35,7 +35,7 @@ use starts::{answer_fresh, answer_start, answer_wide_start};
 use stream::next_item;
 use traces::answer_trace;
 
-fn answer_one(mode: u8, s: &[u8], out: &mut [u8; 65536], at: usize) -> usize {
+fn answer_one(mode: u8, s: &[u8], out: &mut Output, at: usize) -> usize {
     match mode {
         b't' => answer_trace(s, out, at, false),
         b'u' => answer_trace(s, out, at, true),
@@ -55,7 +55,7 @@ fn answer_one(mode: u8, s: &[u8], out: &mut [u8; 65536], at: usize) -> usize {
 }
 
 // Nothing says that the input ends, so the turns are counted down from a number that no run uses up.
-fn answer_all(mode: u8, item: &mut [u8], out: &mut [u8; 65536]) -> usize {
+fn answer_all(mode: u8, item: &mut [u8], out: &mut Output) -> usize {
     let mut at = 0;
     let mut turns = u64::MAX;
     while turns > 0 {

@@ -1,9 +1,9 @@
 // A probe file replayed.
 use answer::told_of;
-use compare::text::{put, put_all, put_decimal, put_pair, put_refusal};
+use compare::text::{Output, put, put_all, put_decimal, put_pair, put_refusal};
 
 // `event E recorded ANSWER ITEM given ANSWER ITEM` of the first that differs, `all agree`, or `refused N at P`
-pub(crate) fn answer_probe(s: &[u8], out: &mut [u8; 65536], at: usize) -> usize {
+pub(crate) fn answer_probe(s: &[u8], out: &mut Output, at: usize) -> usize {
     let r = replaying::replay(s);
     let a = r.answer;
     let t = told_of(a);

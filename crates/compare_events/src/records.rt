@@ -4,7 +4,7 @@ ghost use Rattle.std.specs.Prelude.{◌≤◌, length};
 use crate::kept::event_by;
 use crate::moments::put_moment;
 use answer::{Told, told_of};
-use compare::text::{put, put_front, put_pair};
+use compare::text::{Output, put, put_front, put_pair};
 use machine::{Event, Machine, Out, Places};
 use record::SIZE;
 use stream::{byte, half, word};
@@ -25,13 +25,13 @@ fn event_of(s: &[u8]) -> Event {
 }
 
 // `N P` with a blank behind
-fn put_verdict(out: &mut [u8; 65536], at: usize, t: Told) -> usize {
+fn put_verdict(out: &mut Output, at: usize, t: Told) -> usize {
     let first = put_pair(out, at, t.number as u64, t.place as u64);
     put(out, first, b' ')
 }
 
 // Bytes that are no record: they stay, with no reply.
-fn put_unread(out: &mut [u8; 65536], at: usize, t: Told, s: &[u8]) -> usize {
+fn put_unread(out: &mut Output, at: usize, t: Told, s: &[u8]) -> usize {
     let first = put_verdict(out, at, t);
     let second = put_pair(out, first, 0, 0);
     let third = put(out, second, b' ');
@@ -39,7 +39,7 @@ fn put_unread(out: &mut [u8; 65536], at: usize, t: Told, s: &[u8]) -> usize {
     put(out, fourth, b'\n')
 }
 
-pub(crate) fn answer_record(s: &[u8], out: &mut [u8; 65536], at: usize, kept: bool) -> usize {
+pub(crate) fn answer_record(s: &[u8], out: &mut Output, at: usize, kept: bool) -> usize {
     let o = record_of(s);
     let b = o.answer;
     let u = told_of(b);
@@ -56,7 +56,7 @@ pub(crate) fn answer_record(s: &[u8], out: &mut [u8; 65536], at: usize, kept: bo
     put_moment(out, first, t, after)
 }
 
-fn put_places(out: &mut [u8; 65536], at: usize, t: Told, c: Places) -> usize {
+fn put_places(out: &mut Output, at: usize, t: Told, c: Places) -> usize {
     let first = put_verdict(out, at, t);
     let second = put_pair(out, first, c.queue as u64, c.free as u64);
     let third = put(out, second, b' ');
@@ -66,7 +66,7 @@ fn put_places(out: &mut [u8; 65536], at: usize, t: Told, c: Places) -> usize {
     put(out, sixth, b'\n')
 }
 
-pub(crate) fn answer_places(s: &[u8], out: &mut [u8; 65536], at: usize) -> usize {
+pub(crate) fn answer_places(s: &[u8], out: &mut Output, at: usize) -> usize {
     let o = record_of(s);
     let b = o.answer;
     let u = told_of(b);
@@ -82,7 +82,7 @@ pub(crate) fn answer_places(s: &[u8], out: &mut [u8; 65536], at: usize) -> usize
 }
 
 // Lends the buffer's front, and puts number, place and the whole of what was lent.
-fn put_saved(out: &mut [u8; 65536], at: usize, m: Machine, lent: &mut [u8], room: usize) -> usize
+fn put_saved(out: &mut Output, at: usize, m: Machine, lent: &mut [u8], room: usize) -> usize
     requires { room ≤ length lent.old }
 {
     let a = events::save(m, &mut lent[..room]);
@@ -92,7 +92,7 @@ fn put_saved(out: &mut [u8; 65536], at: usize, m: Machine, lent: &mut [u8], room
     put(out, second, b'\n')
 }
 
-pub(crate) fn answer_saved(s: &[u8], out: &mut [u8; 65536], at: usize) -> usize {
+pub(crate) fn answer_saved(s: &[u8], out: &mut Output, at: usize) -> usize {
     let o = record_of(s);
     let b = o.answer;
     let u = told_of(b);

@@ -2,7 +2,7 @@
 use crate::kept::event_by;
 use answer::told_of;
 use compare::sums::put_sum;
-use compare::text::{put, put_pair, put_refusal};
+use compare::text::{Output, put, put_pair, put_refusal};
 use machine::{Event, Machine};
 use stream::{byte, word};
 
@@ -83,7 +83,7 @@ fn soaked(start: Machine, first: u64, count: u64, kept: bool) -> Ended {
     }
 }
 
-pub(crate) fn answer_soak(s: &[u8], out: &mut [u8; 65536], at: usize, kept: bool) -> usize {
+pub(crate) fn answer_soak(s: &[u8], out: &mut Output, at: usize, kept: bool) -> usize {
     let n = byte(s, 0);
     let t = byte(s, 1);
     let r = Machine::fresh(n, t);

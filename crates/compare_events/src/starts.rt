@@ -2,12 +2,12 @@
 use crate::moments::{put_moment, put_moment_sum};
 use answer::told_of;
 use compare::contents::{contents_of, wide_contents_of};
-use compare::text::put_refusal;
+use compare::text::{Output, put_refusal};
 use image::Image;
 use machine::Machine;
 use stream::byte;
 
-fn put_start(out: &mut [u8; 65536], at: usize, g: Image, t: u8) -> usize {
+fn put_start(out: &mut Output, at: usize, g: Image, t: u8) -> usize {
     let r = machine::start_from(g, t);
     let a = r.answer;
     let u = told_of(a);
@@ -19,19 +19,19 @@ fn put_start(out: &mut [u8; 65536], at: usize, g: Image, t: u8) -> usize {
 }
 
 // The last digit of the byte behind the nodes is T.
-pub(crate) fn answer_start(s: &[u8], out: &mut [u8; 65536], at: usize) -> usize {
+pub(crate) fn answer_start(s: &[u8], out: &mut Output, at: usize) -> usize {
     let g = contents_of(s);
     let t = byte(s, 581) % 10;
     put_start(out, at, g, t)
 }
 
-pub(crate) fn answer_wide_start(s: &[u8], out: &mut [u8; 65536], at: usize) -> usize {
+pub(crate) fn answer_wide_start(s: &[u8], out: &mut Output, at: usize) -> usize {
     let g = wide_contents_of(s);
     let t = byte(s, 842) % 10;
     put_start(out, at, g, t)
 }
 
-pub(crate) fn answer_fresh(s: &[u8], out: &mut [u8; 65536], at: usize) -> usize {
+pub(crate) fn answer_fresh(s: &[u8], out: &mut Output, at: usize) -> usize {
     let n = byte(s, 0);
     let t = byte(s, 1);
     let r = Machine::fresh(n, t);

@@ -2,11 +2,11 @@
 use crate::kept::event_by;
 use crate::moments::put_moment_sum;
 use answer::{Told, told_of};
-use compare::text::put_refusal;
+use compare::text::{Output, put_refusal};
 use machine::Machine;
 
 // The refusal of a run names the event's number, where that of a single event names 0.
-fn put_refused(out: &mut [u8; 65536], at: usize, t: Told, i: usize) -> usize {
+fn put_refused(out: &mut Output, at: usize, t: Told, i: usize) -> usize {
     let place = (i % 65536) as u32;
     put_refusal(
         out,
@@ -21,7 +21,7 @@ fn put_refused(out: &mut [u8; 65536], at: usize, t: Told, i: usize) -> usize {
 }
 
 fn put_events(
-    out: &mut [u8; 65536],
+    out: &mut Output,
     at: usize,
     s: &[u8],
     start: Machine,
@@ -49,7 +49,7 @@ fn put_events(
     place
 }
 
-pub(crate) fn answer_trace(s: &[u8], out: &mut [u8; 65536], at: usize, kept: bool) -> usize {
+pub(crate) fn answer_trace(s: &[u8], out: &mut Output, at: usize, kept: bool) -> usize {
     let o = codec::read_schedule(s);
     let a = o.answer;
     let t = told_of(a);

@@ -4,11 +4,11 @@
 #![tactic(auto)]
 
 use answer::told_of;
-use compare::text::{finish, put, put_all, put_decimal, put_refusal};
+use compare::text::{Output, finish, put, put_all, put_decimal, put_refusal};
 use judging::Verdict;
 use stream::next_item;
 
-fn put_order(out: &mut [u8; 65536], at: usize, order: [u8; 16], count: usize) -> usize {
+fn put_order(out: &mut Output, at: usize, order: [u8; 16], count: usize) -> usize {
     let mut place = put_all(out, at, b" order");
     let mut i = 0;
     while i < 16 {
@@ -23,7 +23,7 @@ fn put_order(out: &mut [u8; 65536], at: usize, order: [u8; 16], count: usize) ->
     place
 }
 
-fn put_verdict(out: &mut [u8; 65536], at: usize, v: Verdict) -> usize {
+fn put_verdict(out: &mut Output, at: usize, v: Verdict) -> usize {
     match v {
         Verdict::Unlawful => put_all(out, at, b"unlawful "),
         Verdict::Lawful => put_all(out, at, b"lawful "),
@@ -31,7 +31,7 @@ fn put_verdict(out: &mut [u8; 65536], at: usize, v: Verdict) -> usize {
     }
 }
 
-fn answer_history(s: &[u8], out: &mut [u8; 65536], at: usize) -> usize {
+fn answer_history(s: &[u8], out: &mut Output, at: usize) -> usize {
     let r = judging::judge_history(s);
     let a = r.answer;
     let t = told_of(a);
@@ -52,7 +52,7 @@ fn answer_history(s: &[u8], out: &mut [u8; 65536], at: usize) -> usize {
 }
 
 // Nothing says that the input ends, so the turns are counted down from a number that no run uses up.
-fn answer_all(item: &mut [u8], out: &mut [u8; 65536]) -> usize {
+fn answer_all(item: &mut [u8], out: &mut Output) -> usize {
     let mut at = 0;
     let mut turns = u64::MAX;
     while turns > 0 {

@@ -4,7 +4,7 @@ ghost use Rattle.std.specs.Prelude.{◌≤◌, length};
 use crate::paged::sum_endings;
 use crate::sums::{START, put_sum_line, sum_front};
 use answer::{Told, told_of};
-use compare::text::{put, put_all, put_decimal, put_front, put_refusal};
+use compare::text::{Output, put, put_all, put_decimal, put_front, put_refusal};
 use stream::byte;
 
 // Ending k into the buffer's front of `room` bytes.
@@ -17,7 +17,7 @@ fn lend(s: &[u8], k: u64, lent: &mut [u8], room: usize) -> Told
 
 // The line of ending k: `whole` bytes, which are left in the buffer, or its refusal.
 fn put_ending(
-    out: &mut [u8; 65536],
+    out: &mut Output,
     at: usize,
     s: &[u8],
     k: u64,
@@ -36,7 +36,7 @@ fn put_ending(
 
 // The lines of all endings, then their sum.
 fn put_endings(
-    out: &mut [u8; 65536],
+    out: &mut Output,
     at: usize,
     s: &[u8],
     count: u32,
@@ -60,7 +60,7 @@ fn put_endings(
 
 // What is given back for ending k in a buffer of `room` bytes; it is to be refused.
 fn put_refused(
-    out: &mut [u8; 65536],
+    out: &mut Output,
     at: usize,
     s: &[u8],
     k: u64,
@@ -74,7 +74,7 @@ fn put_refused(
 }
 
 fn put_all_endings(
-    out: &mut [u8; 65536],
+    out: &mut Output,
     at: usize,
     s: &[u8],
     count: u32,
@@ -106,7 +106,7 @@ fn size_of(s: &[u8]) -> usize
 }
 
 // It has at least one ending.
-fn put_taken(out: &mut [u8; 65536], at: usize, s: &[u8], count: u32) -> usize {
+fn put_taken(out: &mut Output, at: usize, s: &[u8], count: u32) -> usize {
     let whole = size_of(s);
     let last = if count == 0 { 0 } else { count - 1 };
     let mut lent = [0xaau8; 3329];
@@ -118,7 +118,7 @@ fn put_taken(out: &mut [u8; 65536], at: usize, s: &[u8], count: u32) -> usize {
     put_refused(out, fifth, s, last as u64, &mut lent, whole - 1)
 }
 
-pub(crate) fn answer_schedule(s: &[u8], out: &mut [u8; 65536], at: usize) -> usize {
+pub(crate) fn answer_schedule(s: &[u8], out: &mut Output, at: usize) -> usize {
     let c = pages::count_endings(s);
     let a = c.answer;
     let t = told_of(a);

@@ -12,12 +12,12 @@ mod endings;
 mod paged;
 mod sums;
 
-use compare::text::finish;
+use compare::text::{Output, finish};
 use endings::answer_schedule;
 use stream::next_item;
 
 // Nothing says that the input ends, so the turns are counted down from a number that no run uses up.
-fn answer_all(item: &mut [u8], out: &mut [u8; 65536]) -> usize {
+fn answer_all(item: &mut [u8], out: &mut Output) -> usize {
     let mut at = 0;
     let mut turns = u64::MAX;
     while turns > 0 {

@@ -1,5 +1,5 @@
 // The FNV-1a sum, 64 bits, of bytes that come piece by piece.
-use compare::text::{put, put_all, put_hex};
+use compare::text::{Output, put, put_all, put_hex};
 
 pub(crate) const START: u64 = 14695981039346656037;
 
@@ -36,7 +36,7 @@ pub(crate) fn sum_front(sum: u64, s: &[u8], n: usize) -> u64 {
 }
 
 // The line of a sum: its 8 bytes, little-endian, in hex.
-pub(crate) fn put_sum_line(out: &mut [u8; 65536], at: usize, x: u64) -> usize {
+pub(crate) fn put_sum_line(out: &mut Output, at: usize, x: u64) -> usize {
     let mut bytes = [0u8; 8];
     bytes[0] = (x % 256) as u8;
     bytes[1] = (x / 256 % 256) as u8;

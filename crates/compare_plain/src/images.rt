@@ -3,7 +3,7 @@ ghost use Rattle.std.specs.Prelude.{◌≤◌, length};
 
 use answer::{Told, told_of};
 use compare::sums::put_sum;
-use compare::text::{put, put_all, put_decimal, put_refusal};
+use compare::text::{Output, put, put_all, put_decimal, put_refusal};
 use stream::byte;
 
 // A schedule that is taken has the last letter of its image's mark at byte 10, the version at byte 11 and N at byte 13, behind "UQP" T
@@ -22,7 +22,7 @@ fn size_of(s: &[u8]) -> usize
 }
 
 // The sum of the first n bytes, or of all where there are fewer.
-fn put_front_sum(out: &mut [u8; 65536], at: usize, s: &[u8], n: usize) -> usize {
+fn put_front_sum(out: &mut Output, at: usize, s: &[u8], n: usize) -> usize {
     if n < s.len() {
         return put_sum(out, at, &s[..n]);
     }
@@ -38,7 +38,7 @@ fn lend(s: &[u8], lent: &mut [u8], room: usize) -> Told
     told_of(a)
 }
 
-fn put_taken(out: &mut [u8; 65536], at: usize, lent: &[u8], count: u32, all: usize) -> usize {
+fn put_taken(out: &mut Output, at: usize, lent: &[u8], count: u32, all: usize) -> usize {
     let first = put_all(out, at, b"endings ");
     let second = put_decimal(out, first, count as u64);
     let third = put_all(out, second, b"\nsum ");
@@ -47,7 +47,7 @@ fn put_taken(out: &mut [u8; 65536], at: usize, lent: &[u8], count: u32, all: usi
 }
 
 // Where there is an image, a buffer that is one byte short is refused.
-fn put_short(out: &mut [u8; 65536], at: usize, s: &[u8], lent: &mut [u8], all: usize) -> usize {
+fn put_short(out: &mut Output, at: usize, s: &[u8], lent: &mut [u8], all: usize) -> usize {
     if all == 0 {
         return at;
     }
@@ -61,7 +61,7 @@ fn put_short(out: &mut [u8; 65536], at: usize, s: &[u8], lent: &mut [u8], all: u
 pub(crate) fn answer_schedule(
     s: &[u8],
     lent: &mut [u8],
-    out: &mut [u8; 65536],
+    out: &mut Output,
     at: usize,
 ) -> usize {
     let r = plainway::plain_page(s, lent);

@@ -9,20 +9,20 @@
 ghost use Rattle.std.specs.Prelude.{◌≤◌, length};
 
 use answer::told_of;
-use compare::text::{finish, put, put_all, put_front, put_pair, put_refusal};
+use compare::text::{Output, finish, put, put_all, put_front, put_pair, put_refusal};
 use libc::STDIN_FILENO;
 use spelling::{Said, Spelled};
 use stream::{half, next_item};
 
 // The first n bytes, or all where there are fewer.
-fn put_part(out: &mut [u8; 65536], at: usize, s: &[u8], n: usize) -> usize {
+fn put_part(out: &mut Output, at: usize, s: &[u8], n: usize) -> usize {
     if n < s.len() {
         return put_all(out, at, &s[..n]);
     }
     put_all(out, at, s)
 }
 
-fn answer_words(s: &[u8], out: &mut [u8; 65536], at: usize) -> usize {
+fn answer_words(s: &[u8], out: &mut Output, at: usize) -> usize {
     let mut lent = [0u8; 266880];
     let w = desk::spell_lines(s, 0, &mut lent);
     let a = w.answer;
@@ -33,7 +33,7 @@ fn answer_words(s: &[u8], out: &mut [u8; 65536], at: usize) -> usize {
     put_part(out, at, &lent, w.bytes)
 }
 
-fn put_said(out: &mut [u8; 65536], at: usize, a: Said) -> usize {
+fn put_said(out: &mut Output, at: usize, a: Said) -> usize {
     match a {
         Said::Taken => put_pair(out, at, 0, 0),
         Said::Strange(i) => put_pair(out, at, 1, i),
@@ -43,7 +43,7 @@ fn put_said(out: &mut [u8; 65536], at: usize, a: Said) -> usize {
     }
 }
 
-fn answer_text(s: &[u8], out: &mut [u8; 65536], at: usize) -> usize {
+fn answer_text(s: &[u8], out: &mut Output, at: usize) -> usize {
     let mut lent = [0u8; 396547];
     let r = desk::read_words(s, &mut lent);
     let a = r.answer;
@@ -60,7 +60,7 @@ fn spell_front(s: &[u8], k: u64, lent: &mut [u8], room: usize) -> Spelled
     desk::spell_lines(s, k, &mut lent[..room])
 }
 
-fn put_spelled(out: &mut [u8; 65536], at: usize, w: Spelled) -> usize {
+fn put_spelled(out: &mut Output, at: usize, w: Spelled) -> usize {
     let a = w.answer;
     let t = told_of(a);
     let first = put_pair(out, at, t.number as u64, t.place as u64);
@@ -69,7 +69,7 @@ fn put_spelled(out: &mut [u8; 65536], at: usize, w: Spelled) -> usize {
 }
 
 // What was answered, and the whole of what was lent.
-fn answer_piece(s: &[u8], out: &mut [u8; 65536], at: usize) -> usize {
+fn answer_piece(s: &[u8], out: &mut Output, at: usize) -> usize {
     if s.len() < 4 {
         return at;
     }
@@ -83,7 +83,7 @@ fn answer_piece(s: &[u8], out: &mut [u8; 65536], at: usize) -> usize {
     put(out, third, b'\n')
 }
 
-fn answer_one(mode: u8, s: &[u8], out: &mut [u8; 65536], at: usize) -> usize {
+fn answer_one(mode: u8, s: &[u8], out: &mut Output, at: usize) -> usize {
     match mode {
         b'w' => answer_words(s, out, at),
         b'u' => answer_text(s, out, at),
@@ -93,7 +93,7 @@ fn answer_one(mode: u8, s: &[u8], out: &mut [u8; 65536], at: usize) -> usize {
 }
 
 // Nothing says that the input ends, so the turns are counted down from a number that no run uses up.
-fn answer_all(mode: u8, item: &mut [u8], out: &mut [u8; 65536]) -> usize {
+fn answer_all(mode: u8, item: &mut [u8], out: &mut Output) -> usize {
     let mut at = 0;
     let mut turns = u64::MAX;
     while turns > 0 {

@@ -1,5 +1,5 @@
 // What a step did, in words: from the records before and after it.
-use compare::text::put_all;
+use compare::text::{Output, put_all};
 use machine::{Machine, Thread};
 use telling::fences::{fence_line, is_over};
 use telling::lines::{cached_of, thread_of};
@@ -16,7 +16,7 @@ fn index_of(m: Machine, i: u8) -> u64 {
 }
 
 // A node's number, or none.
-fn node_or_none(out: &mut [u8; 65536], at: usize, i: u8) -> usize {
+fn node_or_none(out: &mut Output, at: usize, i: u8) -> usize {
     if i == 255 {
         return put_all(out, at, b"none");
     }
@@ -33,14 +33,14 @@ fn next_of(m: Machine, i: u8) -> u8 {
 }
 
 // A6 and D2.
-fn next_read(out: &mut [u8; 65536], at: usize, m: Machine, of: u8, step: u8) -> usize {
+fn next_read(out: &mut Output, at: usize, m: Machine, of: u8, step: u8) -> usize {
     let first = said(out, at, b"next of node ", of as u64, b" read: ");
     let second = node_or_none(out, first, next_of(m, of));
     let third = put_all(out, second, b", on to ");
     step_name(out, third, step)
 }
 
-fn a7(out: &mut [u8; 65536], at: usize, b: Thread, th: Thread, after: Machine) -> usize {
+fn a7(out: &mut Output, at: usize, b: Thread, th: Thread, after: Machine) -> usize {
     if th.step == 0 {
         return said(
             out,
@@ -60,7 +60,7 @@ fn a7(out: &mut [u8; 65536], at: usize, b: Thread, th: Thread, after: Machine) -
     )
 }
 
-fn a8(out: &mut [u8; 65536], at: usize, b: Thread, th: Thread) -> usize {
+fn a8(out: &mut Output, at: usize, b: Thread, th: Thread) -> usize {
     if th.step == Machine::A9 {
         return said_both(
             out,
@@ -81,7 +81,7 @@ fn a8(out: &mut [u8; 65536], at: usize, b: Thread, th: Thread) -> usize {
 }
 
 // A11 and A12: Tail becomes `to` if it is still `from`.
-fn tail_moves(out: &mut [u8; 65536], at: usize, m: Machine, after: Machine, from: u8) -> usize {
+fn tail_moves(out: &mut Output, at: usize, m: Machine, after: Machine, from: u8) -> usize {
     if m.tail == from {
         return said(out, at, b"Tail becomes node ", after.tail as u64, b"");
     }
@@ -95,7 +95,7 @@ fn tail_moves(out: &mut [u8; 65536], at: usize, m: Machine, after: Machine, from
 }
 
 fn enqueue_deed(
-    out: &mut [u8; 65536],
+    out: &mut Output,
     at: usize,
     b: Thread,
     th: Thread,
@@ -125,7 +125,7 @@ fn enqueue_deed(
 }
 
 // D1. Where each desk has a head line, Head is a node number alone.
-fn head_read(out: &mut [u8; 65536], at: usize, th: Thread, m: Machine) -> usize {
+fn head_read(out: &mut Output, at: usize, th: Thread, m: Machine) -> usize {
     let first = said(out, at, b"Head read: node ", th.head as u64, b"");
     if per_desk(shape_of(m)) {
         return first;
@@ -134,14 +134,14 @@ fn head_read(out: &mut [u8; 65536], at: usize, th: Thread, m: Machine) -> usize 
 }
 
 // D4 of "UQP".
-fn node_moves(out: &mut [u8; 65536], at: usize, b: Thread, th: Thread) -> usize {
+fn node_moves(out: &mut Output, at: usize, b: Thread, th: Thread) -> usize {
     if th.step == Machine::D5 {
         return said(out, at, b"Head becomes node ", b.next as u64, b"");
     }
     put_all(out, at, b"Head is no longer the node read, back to D1")
 }
 
-fn d4(out: &mut [u8; 65536], at: usize, b: Thread, th: Thread, after: Machine) -> usize {
+fn d4(out: &mut Output, at: usize, b: Thread, th: Thread, after: Machine) -> usize {
     if per_desk(shape_of(after)) {
         return node_moves(out, at, b, th);
     }
@@ -160,7 +160,7 @@ fn d4(out: &mut [u8; 65536], at: usize, b: Thread, th: Thread, after: Machine) -
 }
 
 // S3 and S6: the index of node i.
-fn index_stored(out: &mut [u8; 65536], at: usize, m: Machine, i: u8) -> usize {
+fn index_stored(out: &mut Output, at: usize, m: Machine, i: u8) -> usize {
     let x = index_of(m, i);
     said_both(
         out,
@@ -173,7 +173,7 @@ fn index_stored(out: &mut [u8; 65536], at: usize, m: Machine, i: u8) -> usize {
 }
 
 // The head line that the desk flushes and waits for.
-fn own_line(out: &mut [u8; 65536], at: usize, m: Machine) -> usize {
+fn own_line(out: &mut Output, at: usize, m: Machine) -> usize {
     if per_desk(shape_of(m)) {
         return put_all(out, at, b"its head line");
     }
@@ -181,12 +181,12 @@ fn own_line(out: &mut [u8; 65536], at: usize, m: Machine) -> usize {
 }
 
 // D3 and D6.
-fn head_flushed(out: &mut [u8; 65536], at: usize, m: Machine) -> usize {
+fn head_flushed(out: &mut Output, at: usize, m: Machine) -> usize {
     let first = own_line(out, at, m);
     put_all(out, first, b" is flushed")
 }
 
-fn d7(out: &mut [u8; 65536], at: usize, b: Thread) -> usize {
+fn d7(out: &mut Output, at: usize, b: Thread) -> usize {
     let first = said(out, at, b"node ", b.head as u64, b" is held");
     if b.held == 255 {
         return first;
@@ -201,7 +201,7 @@ fn d7(out: &mut [u8; 65536], at: usize, b: Thread) -> usize {
 }
 
 fn dequeue_deed(
-    out: &mut [u8; 65536],
+    out: &mut Output,
     at: usize,
     b: Thread,
     th: Thread,
@@ -229,7 +229,7 @@ fn dequeue_deed(
 }
 
 // F10, F3 and F6, of the line.
-fn fence_deed(out: &mut [u8; 65536], at: usize, k: u8, b: Thread, m: Machine, line: u8) -> usize {
+fn fence_deed(out: &mut Output, at: usize, k: u8, b: Thread, m: Machine, line: u8) -> usize {
     let first = put_all(out, at, b"waits at the fence: ");
     if is_over(m, line, k) {
         return put_all(
@@ -250,7 +250,7 @@ fn fence_deed(out: &mut [u8; 65536], at: usize, k: u8, b: Thread, m: Machine, li
 }
 
 // What the step of thread k did.
-pub fn deed(out: &mut [u8; 65536], at: usize, k: u8, m: Machine, after: Machine) -> usize {
+pub fn deed(out: &mut Output, at: usize, k: u8, m: Machine, after: Machine) -> usize {
     let b = thread_of(m, k);
     let th = thread_of(after, k);
     let line = fence_line(shape_of(m), k, b);

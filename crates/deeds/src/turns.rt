@@ -1,7 +1,7 @@
 // Events: what each did to desks and lines.
 use crate::steps::deed;
 use answer::Told;
-use compare::text::{put, put_all};
+use compare::text::{Output, put, put_all};
 use machine::{Event, Machine};
 use telling::fences::{fence_line, fenced, flush_line, flush_of, flushed, is_over, joined_since};
 use telling::lines::{begun, cached_of, joined, same, thread_of};
@@ -10,12 +10,12 @@ use telling::starts::{content_row, started};
 use telling::text::{content_words, end, field, line_name, line_words, said, step_name};
 
 // A row begins: its name, the event's number.
-fn row(out: &mut [u8; 65536], at: usize, name: &[u8], i: u16) -> usize {
+fn row(out: &mut Output, at: usize, name: &[u8], i: u16) -> usize {
     let first = put_all(out, at, name);
     field(out, first, i as u64)
 }
 
-fn begin(out: &mut [u8; 65536], at: usize, columns: bool, i: u16, e: Event) -> usize {
+fn begin(out: &mut Output, at: usize, columns: bool, i: u16, e: Event) -> usize {
     if columns {
         let first = row(out, at, b"begin", i);
         let second = field(out, first, e.number as u64);
@@ -36,7 +36,7 @@ fn begin(out: &mut [u8; 65536], at: usize, columns: bool, i: u16, e: Event) -> u
 
 // The line changed: in rows with its place, in words behind the step.
 fn changed(
-    out: &mut [u8; 65536],
+    out: &mut Output,
     at: usize,
     columns: bool,
     book: &mut [u64; 10328],
@@ -62,7 +62,7 @@ fn changed(
 }
 
 fn changes(
-    out: &mut [u8; 65536],
+    out: &mut Output,
     at: usize,
     columns: bool,
     book: &mut [u64; 10328],
@@ -82,7 +82,7 @@ fn changes(
 }
 
 // A row's line and step, behind its event.
-fn of_line(out: &mut [u8; 65536], at: usize, line: u8, step: u8) -> usize {
+fn of_line(out: &mut Output, at: usize, line: u8, step: u8) -> usize {
     let first = field(out, at, line as u64);
     let second = put(out, first, b'\t');
     step_name(out, second, step)
@@ -90,7 +90,7 @@ fn of_line(out: &mut [u8; 65536], at: usize, line: u8, step: u8) -> usize {
 
 // A10, D3 and D6: the contents from here on are kept apart until the fence.
 fn flushes(
-    out: &mut [u8; 65536],
+    out: &mut Output,
     at: usize,
     columns: bool,
     book: &mut [u64; 10328],
@@ -111,7 +111,7 @@ fn flushes(
 
 // F10, F3 and F6: the line's list begins with the content at the flush, unless what is persisted is later.
 fn waits(
-    out: &mut [u8; 65536],
+    out: &mut Output,
     at: usize,
     columns: bool,
     book: &mut [u64; 10328],
@@ -137,7 +137,7 @@ fn waits(
 
 // What desk k's step did to the line that it flushes or waits for.
 fn assured(
-    out: &mut [u8; 65536],
+    out: &mut Output,
     at: usize,
     columns: bool,
     book: &mut [u64; 10328],
@@ -158,7 +158,7 @@ fn assured(
     at
 }
 
-fn reply_words(out: &mut [u8; 65536], at: usize, reply: u8) -> usize {
+fn reply_words(out: &mut Output, at: usize, reply: u8) -> usize {
     match reply {
         1 => put_all(out, at, b"Done"),
         2 => put_all(out, at, b"Full"),
@@ -167,7 +167,7 @@ fn reply_words(out: &mut [u8; 65536], at: usize, reply: u8) -> usize {
     }
 }
 
-fn answered(out: &mut [u8; 65536], at: usize, columns: bool, i: u16, k: u8, t: Told) -> usize {
+fn answered(out: &mut Output, at: usize, columns: bool, i: u16, k: u8, t: Told) -> usize {
     if t.reply == 0 {
         return at;
     }
@@ -190,7 +190,7 @@ fn answered(out: &mut [u8; 65536], at: usize, columns: bool, i: u16, k: u8, t: T
     reply_words(out, first, t.reply)
 }
 
-fn step_row(out: &mut [u8; 65536], at: usize, columns: bool, i: u16, k: u8, step: u8) -> usize {
+fn step_row(out: &mut Output, at: usize, columns: bool, i: u16, k: u8, step: u8) -> usize {
     if columns {
         let first = row(out, at, b"step", i);
         let second = field(out, first, k as u64);
@@ -205,7 +205,7 @@ fn step_row(out: &mut [u8; 65536], at: usize, columns: bool, i: u16, k: u8, step
 }
 
 fn stepped(
-    out: &mut [u8; 65536],
+    out: &mut Output,
     at: usize,
     columns: bool,
     book: &mut [u64; 10328],
@@ -233,7 +233,7 @@ fn stepped(
 
 // A write-back: the line's list begins anew.
 fn written_back(
-    out: &mut [u8; 65536],
+    out: &mut Output,
     at: usize,
     columns: bool,
     book: &mut [u64; 10328],
@@ -254,7 +254,7 @@ fn written_back(
 
 // Event i, which led from m to `after` and answered t.
 pub fn happened(
-    out: &mut [u8; 65536],
+    out: &mut Output,
     at: usize,
     columns: bool,
     book: &mut [u64; 10328],

@@ -8,7 +8,7 @@ mod asked;
 
 use answer::{Told, told_of};
 use asked::Asked;
-use compare::text::{finish, put, put_all};
+use compare::text::{Output, finish, put, put_all};
 use image::Shape;
 use libc::STDERR_FILENO;
 use machine::{Event, Machine};
@@ -32,7 +32,7 @@ fn no_event() -> Event {
     }
 }
 
-fn names(out: &mut [u8; 65536], at: usize, z: Shape, n: u8) -> usize {
+fn names(out: &mut Output, at: usize, z: Shape, n: u8) -> usize {
     let mut place = at;
     let mut line: u8 = 0;
     while line < n {
@@ -46,7 +46,7 @@ fn names(out: &mut [u8; 65536], at: usize, z: Shape, n: u8) -> usize {
     place
 }
 
-fn sizes(out: &mut [u8; 65536], at: usize, columns: bool, t: u8, count: u16, n: u8) -> usize {
+fn sizes(out: &mut Output, at: usize, columns: bool, t: u8, count: u16, n: u8) -> usize {
     let nodes = n as u64;
     if columns {
         let first = put_all(out, at, b"sizes");
@@ -72,7 +72,7 @@ fn at_event(t: Told, i: usize) -> Told {
 }
 
 fn events_told(
-    out: &mut [u8; 65536],
+    out: &mut Output,
     at: usize,
     columns: bool,
     book: &mut [u64; 10328],
@@ -122,7 +122,7 @@ fn events_told(
 }
 
 fn endings_told(
-    out: &mut [u8; 65536],
+    out: &mut Output,
     at: usize,
     how: Asked,
     book: &mut [u64; 10328],
@@ -162,7 +162,7 @@ fn endings_told(
 
 // What stands behind the last event.
 fn stop_told(
-    out: &mut [u8; 65536],
+    out: &mut Output,
     at: usize,
     how: Asked,
     book: &mut [u64; 10328],
@@ -186,7 +186,7 @@ fn stop_told(
 }
 
 fn run_told(
-    out: &mut [u8; 65536],
+    out: &mut Output,
     at: usize,
     how: Asked,
     book: &mut [u64; 10328],
@@ -223,7 +223,7 @@ fn shape_said(s: &[u8]) -> Shape {
     codec::shape_in(&s[8..])
 }
 
-fn explained(out: &mut [u8; 65536], how: Asked, book: &mut [u64; 10328], s: &[u8]) -> usize {
+fn explained(out: &mut Output, how: Asked, book: &mut [u64; 10328], s: &[u8]) -> usize {
     let mut place = 0;
     if how.columns {
         let next = put_all(out, 0, b"columns\t1\n");

@@ -2,7 +2,7 @@
 
 #![tactic(auto)]
 
-use compare::text::{put, put_all};
+use compare::text::{Output, put, put_all};
 use image::{Content, Image, Shape};
 use machine::{Line, Machine};
 use telling::lines::{begun, content_at, count_of, head_in, joined, node_in, seat_of, thread_of};
@@ -12,7 +12,7 @@ use telling::text::{
     content_fields, content_words, end, field, letter, line_name, said, step_name,
 };
 
-fn next_step(out: &mut [u8; 65536], at: usize, columns: bool, m: Machine, k: u8) -> usize {
+fn next_step(out: &mut Output, at: usize, columns: bool, m: Machine, k: u8) -> usize {
     let th = thread_of(m, k);
     if th.step == 0 {
         return at;
@@ -29,7 +29,7 @@ fn next_step(out: &mut [u8; 65536], at: usize, columns: bool, m: Machine, k: u8)
     end(out, last)
 }
 
-pub fn next_steps(out: &mut [u8; 65536], at: usize, columns: bool, m: Machine, n: u8) -> usize {
+pub fn next_steps(out: &mut Output, at: usize, columns: bool, m: Machine, n: u8) -> usize {
     let mut place = at;
     let mut k: u8 = 0;
     while k < n {
@@ -65,7 +65,7 @@ pub fn lines_called(s: &[u8], book: &mut [u64; 10328], n: u8) {
 }
 
 fn kept(
-    out: &mut [u8; 65536],
+    out: &mut Output,
     at: usize,
     columns: bool,
     z: Shape,
@@ -88,7 +88,7 @@ fn kept(
 }
 
 fn line_kept(
-    out: &mut [u8; 65536],
+    out: &mut Output,
     at: usize,
     columns: bool,
     book: &mut [u64; 10328],
@@ -113,7 +113,7 @@ fn line_kept(
 }
 
 pub fn lines_kept(
-    out: &mut [u8; 65536],
+    out: &mut Output,
     at: usize,
     columns: bool,
     book: &mut [u64; 10328],
@@ -142,7 +142,7 @@ fn content_in(g: Image, line: u8) -> Content {
 }
 
 // The letter of a line with a choice.
-fn choice(out: &mut [u8; 65536], at: usize, book: &mut [u64; 10328], g: Image, line: u8) -> usize {
+fn choice(out: &mut Output, at: usize, book: &mut [u64; 10328], g: Image, line: u8) -> usize {
     if count_of(book, line) < 2 {
         return at;
     }
@@ -160,7 +160,7 @@ fn has_choice(book: &mut [u64; 10328], n: u8) -> bool {
     false
 }
 
-fn choices(out: &mut [u8; 65536], at: usize, book: &mut [u64; 10328], g: Image, n: u8) -> usize {
+fn choices(out: &mut Output, at: usize, book: &mut [u64; 10328], g: Image, n: u8) -> usize {
     if !has_choice(book, n) {
         return put(out, at, b'-');
     }
@@ -212,7 +212,7 @@ pub fn ended_at(s: &[u8], m: Machine, k: u64) -> Ended {
 }
 
 fn ending_row(
-    out: &mut [u8; 65536],
+    out: &mut Output,
     at: usize,
     book: &mut [u64; 10328],
     k: u32,
@@ -235,7 +235,7 @@ fn ending_row(
 
 // Every ending, a row each.
 pub fn endings(
-    out: &mut [u8; 65536],
+    out: &mut Output,
     at: usize,
     s: &[u8],
     book: &mut [u64; 10328],
@@ -253,7 +253,7 @@ pub fn endings(
     place
 }
 
-fn line_in(out: &mut [u8; 65536], at: usize, book: &mut [u64; 10328], g: Image, line: u8) -> usize {
+fn line_in(out: &mut Output, at: usize, book: &mut [u64; 10328], g: Image, line: u8) -> usize {
     let c = content_in(g, line);
     let z = image_shape(g);
     let first = put_all(out, at, b"  ");
@@ -265,7 +265,7 @@ fn line_in(out: &mut [u8; 65536], at: usize, book: &mut [u64; 10328], g: Image, 
     end(out, last)
 }
 
-fn lines_in(out: &mut [u8; 65536], at: usize, book: &mut [u64; 10328], g: Image, n: u8) -> usize {
+fn lines_in(out: &mut Output, at: usize, book: &mut [u64; 10328], g: Image, n: u8) -> usize {
     let mut place = at;
     let mut line: u8 = 0;
     while line < n {
@@ -278,7 +278,7 @@ fn lines_in(out: &mut [u8; 65536], at: usize, book: &mut [u64; 10328], g: Image,
 
 // One ending in words: which content each line has, and what recovery makes of it.
 pub fn ending_words(
-    out: &mut [u8; 65536],
+    out: &mut Output,
     at: usize,
     book: &mut [u64; 10328],
     k: u64,
