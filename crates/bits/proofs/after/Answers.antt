@@ -5,7 +5,6 @@ use native.Mathlib.Numerals.{add-one}
 use Rattle.lists.specs.Word.{has}
 use Rattle.lists.proofs.FindLaws as find
 use Rattle.lists.proofs.WordLaws as laws
-use borrow.Author.Rules.{rules}
 use Rattle.bits.proofs.after.Goals as goal
 
 pub returns-then-behind-eq0 : goal.returns-then-behind-eq0

@@ -1,6 +1,5 @@
 use mathlib.Core.Path.{sym}
 use Rattle.lists.proofs.WordLaws as laws
-use borrow.Author.Rules.{rules}
 use Rattle.bits.proofs.is_in.Goals as goal
 
 pub returns : goal.returns

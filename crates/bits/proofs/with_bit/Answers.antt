@@ -1,7 +1,6 @@
 use Rattle.lists.proofs.WordLaws as laws
 use Rattle.lists.specs.Word.{with}
 use mathlib.Core.Path.{sym, ◌∙◌}
-use borrow.Author.Rules.{rules}
 use Rattle.bits.proofs.with_bit.Goals as goal
 
 pub returns-then-is_in : goal.returns-then-is_in

@@ -1,7 +1,6 @@
 use Rattle.lists.proofs.WordLaws as laws
 use Rattle.lists.specs.Word.{without}
 use mathlib.Core.Path.{sym, ◌∙◌}
-use borrow.Author.Rules.{rules}
 use Rattle.bits.proofs.without_bit.Goals as goal
 
 pub overflow_sub-result : goal.overflow_sub-result

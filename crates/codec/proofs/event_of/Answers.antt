@@ -14,7 +14,6 @@ use mathlib.Core.Path.{◌≡◌, sym, ap, subst, ◌∙◌}
 use Prim.Native.Nat.{◌+◌, ◌≤◌}
 use lib.ListN.{length}
 use Rattle.image.specs.Form.{known}
-use borrow.Author.Rules.{rules}
 use native.Mathlib.Omega.{arith}
 use Rattle.codec.proofs.event_of.Goals as goal
 use Rattle.codec.proofs.event_of.Goals.{Else-not-is_taken}

@@ -4,7 +4,6 @@ use Rattle.image.specs.declared.Read.{Read}
 use Rattle.answer.specs.Answers.{told}
 use Prim.Native.Nat.{ℕ}
 use mathlib.Core.Path.{ap, ◌∙◌}
-use borrow.Author.Rules.{rules}
 use Rattle.codec.proofs.read_image.Goals as goal
 
 pub returns : goal.returns

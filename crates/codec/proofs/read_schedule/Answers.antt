@@ -1,7 +1,6 @@
 use Rattle.schedule.specs.declared.Opened.{Opened}
 use Rattle.answer.specs.Answers.{told}
 use mathlib.Core.Path.{ap}
-use borrow.Author.Rules.{rules}
 use Rattle.codec.proofs.read_schedule.Goals as goal
 
 pub returns : goal.returns

@@ -1,5 +1,4 @@
 use Rattle.image.specs.Layout.{form_in}
-use borrow.Author.Rules.{rules}
 use Rattle.codec.proofs.bytes.form_in.Goals as goal
 
 pub returns-then-is_marked : goal.returns-then-is_marked

@@ -1,7 +1,6 @@
 use mathlib.Core.Path.{sym, ap, ◌∙◌}
 use Rattle.image.specs.Bytes.{num_of, at_w}
 use Rattle.image.proofs.ByteLaws.{two_at}
-use borrow.Author.Rules.{rules}
 use Rattle.codec.proofs.bytes.half_at.Goals as goal
 
 pub returns : goal.returns

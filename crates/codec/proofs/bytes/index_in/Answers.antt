@@ -1,7 +1,5 @@
-use mathlib.Core.Path.{◌≡◌, refl, sym, ap, ◌∙◌}
 use native.Mathlib.Omega.{arith}
 use Rattle.image.proofs.FormLaws as forms
-use borrow.Author.Rules.{rules}
 use Rattle.codec.proofs.bytes.index_in.Goals as goal
 
 pub long_at-requires : goal.long_at-requires

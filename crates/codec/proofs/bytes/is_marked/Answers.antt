@@ -1,6 +1,5 @@
 use Rattle.image.specs.Layout.{marked}
 use borrow.Author.Tests.{eq-eqb, ne_eqb}
-use borrow.Author.Rules.{rules}
 use Rattle.codec.proofs.bytes.is_marked.Goals as goal
 
 pub returns-then-s-x : goal.returns-then-s-x

@@ -1,7 +1,6 @@
-use mathlib.Core.Path.{◌≡◌, refl, sym, ap, ◌∙◌}
+use mathlib.Core.Path.{sym}
 use native.Mathlib.Omega.{arith}
 use Rattle.image.proofs.ByteLaws.{at_split}
-use borrow.Author.Rules.{rules}
 use Rattle.codec.proofs.bytes.long_at.Goals as goal
 
 pub returns : goal.returns

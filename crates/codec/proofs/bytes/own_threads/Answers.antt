@@ -2,7 +2,6 @@ use mathlib.Core.Path.{ap}
 use lib.ListN.{get_or-eq_default}
 use Rattle.image.specs.declared.Shape.{Shape}
 use Rattle.codec.proofs.Shapes as shapes
-use borrow.Author.Rules.{rules}
 use native.Mathlib.Omega.{arith}
 use Rattle.codec.proofs.bytes.own_threads.Goals as goal
 

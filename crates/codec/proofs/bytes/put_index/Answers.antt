@@ -1,7 +1,5 @@
-use mathlib.Core.Path.{◌≡◌, refl, sym, ap, ◌∙◌}
 use native.Mathlib.Omega.{arith}
 use Rattle.image.proofs.FormLaws as forms
-use borrow.Author.Rules.{rules}
 use Rattle.codec.proofs.bytes.put_index.Goals as goal
 
 pub put_long-requires : goal.put_long-requires

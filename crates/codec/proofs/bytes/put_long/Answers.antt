@@ -1,7 +1,4 @@
-use mathlib.Core.Path.{◌≡◌, refl, sym, ap, ◌∙◌}
-use native.Mathlib.Omega.{arith}
 use Rattle.codec.proofs.Laws as laws
-use borrow.Author.Rules.{rules}
 use Rattle.codec.proofs.bytes.put_long.Goals as goal
 
 pub returns : goal.returns

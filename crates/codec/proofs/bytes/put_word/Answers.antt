@@ -2,7 +2,6 @@ use native.Mathlib.Numerals.{add-one, add-two, add-three}
 use Rattle.lists.specs.Tab.{over}
 use lib.ListN.{length-set}
 use native.Mathlib.Omega.{arith}
-use borrow.Author.Rules.{rules}
 use Rattle.codec.proofs.bytes.put_word.Goals as goal
 
 pub bounds-b-at-2 : goal.bounds-b-at-2

@@ -1,5 +1,4 @@
 use Rattle.codec.proofs.Shapes as shapes
-use borrow.Author.Rules.{rules}
 use Rattle.codec.proofs.bytes.shape_in.Goals as goal
 
 pub returns-then-form-eq4 : goal.returns-then-form-eq4

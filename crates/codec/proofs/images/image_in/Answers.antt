@@ -1,4 +1,3 @@
-use mathlib.Core.Path.{◌≡◌, refl, sym, ap, ◌∙◌}
 use Rattle.image.specs.Layout.{shape_in, image_in}
 use Rattle.codec.proofs.Lying as lying
 use Rattle.codec.proofs.Shapes as shapes

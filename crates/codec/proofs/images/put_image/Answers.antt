@@ -1,4 +1,3 @@
-use mathlib.Core.Path.{◌≡◌, refl, sym, ap, ◌∙◌}
 use Rattle.image.specs.Layout.{head_in, image_shape, image_bytes}
 use Rattle.codec.proofs.Laws as laws
 use Rattle.codec.proofs.Shapes as shapes

@@ -1,15 +1,9 @@
-use mathlib.Core.Path.{◌≡◌, refl, sym, ap, ◌∙◌}
-use Prim.Native.Nat.{ℕ, ◌+◌, ◌-◌, ◌≤◌, ◌<◌}
-use lib.ListN.{length, get_or}
+use mathlib.Core.Path.{◌≡◌}
+use Prim.Native.Nat.{◌-◌, ◌≤◌}
+use lib.ListN.{get_or}
 use Rattle.lists.specs.Tab.{over}
-use Rattle.lists.proofs.TabLaws as tabs
-use Rattle.image.specs.Form.{heads_at, head_lines}
-use Rattle.image.specs.Layout.{mark_bytes}
-use Rattle.image.proofs.FormLaws as forms
+use Rattle.image.specs.Form.{heads_at}
 use Rattle.codec.proofs.Laws as laws
-use Rattle.codec.proofs.Shapes as shapes
-use borrow.Author.Rules.{rules}
-use native.Mathlib.Omega.{arith}
 use Rattle.codec.proofs.lines.put_head.Given as goal
 
 abbrev pub invariant-loop-k : goal.invariant-loop-k

@@ -1,8 +1,4 @@
-use mathlib.Core.Path.{◌≡◌, refl, sym, ap, ◌∙◌}
-use lib.ListN.{length-set, set}
-use mathlib.Core.List.{[], ◌∷◌}
 use Rattle.lists.specs.Tab.{over}
-use Rattle.lists.proofs.TabLaws as tabs
 use Rattle.image.proofs.FormLaws as forms
 use Rattle.codec.proofs.Shapes as shapes
 use native.Mathlib.Omega.{arith}

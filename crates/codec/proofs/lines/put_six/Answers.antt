@@ -1,4 +1,4 @@
-use mathlib.Core.Path.{◌≡◌, refl}
+use mathlib.Core.Path.{refl}
 use lib.ListN.{length-set}
 use Rattle.lists.specs.Tab.{over}
 use native.Mathlib.Omega.{arith}

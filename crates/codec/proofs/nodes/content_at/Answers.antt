@@ -1,6 +1,5 @@
 use native.Mathlib.Omega.{arith}
 use Rattle.image.proofs.FormLaws as forms
-use borrow.Author.Rules.{rules}
 use Rattle.codec.proofs.nodes.content_at.Goals as goal
 
 pub index_in-index-requires : goal.index_in-index-requires

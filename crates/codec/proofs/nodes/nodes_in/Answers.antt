@@ -1,10 +1,8 @@
-use mathlib.Core.Path.{◌≡◌, refl, sym, ap, ◌∙◌}
+use mathlib.Core.Path.{◌≡◌, ap, ◌∙◌}
 use native.Mathlib.Omega.{arith}
-use Prim.Native.Nat.{ℕ, ◌+◌, ◌-◌, ◌≤◌, ◌<◌}
 use Rattle.image.proofs.FormLaws as forms
 use Rattle.codec.proofs.Laws as laws
 use Rattle.codec.proofs.Shapes.{size_place}
-use borrow.Author.Rules.{rules}
 use Rattle.codec.proofs.nodes.nodes_in.Goals as goal
 
 pub loop-i-init : goal.loop-i-init

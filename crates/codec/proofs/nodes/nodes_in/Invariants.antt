@@ -1,10 +1,6 @@
-use mathlib.Core.Path.{◌≡◌, refl, sym, ap, ◌∙◌}
-use native.Mathlib.Omega.{arith}
-use Prim.Native.Nat.{ℕ, ◌+◌, ◌-◌, ◌≤◌, ◌<◌}
-use Rattle.image.proofs.FormLaws as forms
+use mathlib.Core.Path.{◌≡◌}
+use Prim.Native.Nat.{◌-◌, ◌≤◌}
 use Rattle.codec.proofs.Laws as laws
-use Rattle.codec.proofs.Shapes.{size_place}
-use borrow.Author.Rules.{rules}
 use Rattle.codec.proofs.nodes.nodes_in.Given as goal
 
 abbrev pub invariant-loop-i : goal.invariant-loop-i

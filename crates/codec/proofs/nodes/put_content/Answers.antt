@@ -1,10 +1,8 @@
-use mathlib.Core.Path.{◌≡◌, refl, sym, ap, ◌∙◌}
 use native.Mathlib.Omega.{arith}
 use lib.ListN.{length-set}
 use Rattle.image.specs.Form.{width_of}
 use Rattle.image.proofs.FormLaws as forms
 use Rattle.codec.proofs.Laws as laws
-use borrow.Author.Rules.{rules}
 use Rattle.codec.proofs.nodes.put_content.Goals as goal
 
 pub bounds-b-at : goal.bounds-b-at

@@ -1,6 +1,6 @@
-use mathlib.Core.Path.{◌≡◌, refl, sym, ap, ◌∙◌}
+use mathlib.Core.Path.{◌≡◌, refl, ap, ◌∙◌}
 use native.Mathlib.Omega.{arith}
-use Prim.Native.Nat.{ℕ, ◌+◌, ◌-◌, ◌≤◌, ◌<◌}
+use Prim.Native.Nat.{ℕ}
 use Rattle.image.proofs.FormLaws as forms
 use Rattle.codec.proofs.Laws as laws
 use Rattle.codec.proofs.Shapes.{size_place}
@@ -9,7 +9,6 @@ use Rattle.lists.specs.Tab.{over, joined}
 use Rattle.lists.proofs.TabLaws as tabs
 use Rattle.image.specs.Form.{header_size}
 use Rattle.image.specs.Layout.{body_bytes}
-use borrow.Author.Rules.{rules}
 use Rattle.codec.proofs.nodes.put_nodes.Goals as goal
 
 pub loop-i-init : goal.loop-i-init

@@ -9,7 +9,6 @@ use mathlib.Core.Bool.{true}
 use mathlib.Core.Path.{◌≡◌, sym, ap, ◌∙◌}
 use native.Mathlib.Omega.{arith}
 use borrow.Author.Tests.{not-true, not-false}
-use borrow.Author.Rules.{rules}
 use Rattle.codec.proofs.opening.open_file.Goals as goal
 
 pub returns-then-not-is_taken : goal.returns-then-not-is_taken

@@ -1,7 +1,6 @@
 use mathlib.Core.Path.{ap, ◌∙◌}
 use Prim.Native.Nat.{ℕ}
 use Rattle.image.specs.Refusals.{image_answer, alone_answer}
-use borrow.Author.Rules.{rules}
 use Rattle.codec.proofs.reading.check_alone.Goals as goal
 
 pub returns : goal.returns

@@ -1,8 +1,7 @@
-use mathlib.Core.Path.{◌≡◌, refl, sym, ap, ◌∙◌}
+use mathlib.Core.Path.{sym, ap, ◌∙◌}
 use borrow.Author.Tests.{not-true, not-false}
 use Rattle.answer.specs.Answers.{accepted}
 use Rattle.codec.proofs.Accepted as acc
-use borrow.Author.Rules.{rules}
 use native.Mathlib.Omega.{arith}
 use Rattle.codec.proofs.reading.check_part.Goals as goal
 

@@ -5,7 +5,6 @@ use Rattle.codec.proofs.Accepted as laws
 use mathlib.Core.Path.{◌≡◌, sym, ◌∙◌}
 use mathlib.Core.Bool.{true}
 use borrow.Author.Tests.{not-true, not-false}
-use borrow.Author.Rules.{rules}
 use Rattle.codec.proofs.reading.read_part.Goals as goal
 
 pub returns-then-not-is_taken : goal.returns-then-not-is_taken

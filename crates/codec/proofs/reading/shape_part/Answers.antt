@@ -1,5 +1,5 @@
 use mathlib.Core.Bool.{true, false, not}
-use mathlib.Core.Path.{◌≡◌, refl, sym, ap, ◌∙◌}
+use mathlib.Core.Path.{sym, ap, ◌∙◌}
 use borrow.Author.Tests.{eq-eqb, ne_eqb, lt-ltb, le-ltb, not-true, not-false}
 use Prim.Native.Nat.{◌+◌}
 use lib.Dec.{eqb}
@@ -7,11 +7,9 @@ use lib.ListN.{length}
 use Rattle.answer.specs.Answers.{check, accepted}
 use Rattle.answer.specs.declared.Answer.TheVariants.{Taken, Length}
 use Rattle.image.specs.Form.{image_size}
-use Rattle.image.specs.Refusals.{shape_answer}
 use Rattle.image.proofs.ShapeLaws.{Shaped, shape_is, shape_then, shape_else, nodes_range}
 use Rattle.codec.specs.Parts.{shape}
 use Rattle.codec.proofs.Shapes.{size_most}
-use borrow.Author.Rules.{rules}
 use native.Mathlib.Omega.{arith}
 use Rattle.codec.proofs.reading.shape_part.Goals as goal
 use Rattle.codec.proofs.reading.shape_part.Goals.{Else-not-is_taken}

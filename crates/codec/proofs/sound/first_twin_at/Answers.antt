@@ -1,10 +1,9 @@
-use Prim.Native.Nat.{◌≤◌, ◌-◌}
 use mathlib.Core.Path.{◌≡◌, refl, sym, ◌∙◌}
 use mathlib.Core.Bool.{true, false}
 use native.Mathlib.Nat.{sub-zero}
 use native.Mathlib.Omega.{arith}
 use borrow.Author.Rules.{rules}
-use Rattle.lists.specs.Find.{least, any}
+use Rattle.lists.specs.Find.{any}
 use Rattle.lists.proofs.FindLaws as find
 use Rattle.image.specs.Layout.{image_in}
 use Rattle.image.specs.Recovered.{twins, has_twin, first_twin}

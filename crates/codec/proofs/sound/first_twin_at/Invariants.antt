@@ -1,14 +1,9 @@
 use Prim.Native.Nat.{◌≤◌, ◌-◌}
-use mathlib.Core.Path.{◌≡◌, refl, sym, ◌∙◌}
-use mathlib.Core.Bool.{true, false}
-use native.Mathlib.Nat.{sub-zero}
-use native.Mathlib.Omega.{arith}
-use borrow.Author.Rules.{rules}
+use mathlib.Core.Path.{◌≡◌}
+use mathlib.Core.Bool.{false}
 use Rattle.lists.specs.Find.{least, any}
-use Rattle.lists.proofs.FindLaws as find
 use Rattle.image.specs.Layout.{image_in}
 use Rattle.image.specs.Recovered.{twins, has_twin, first_twin}
-use Rattle.codec.proofs.Lying.{nodes_in_lem}
 use Rattle.codec.proofs.sound.first_twin_at.Given as goal
 
 -- no node below j is a twin of node i

@@ -1,13 +1,10 @@
-use Prim.Native.Nat.{◌≤◌, ◌-◌}
-use mathlib.Core.Path.{◌≡◌, sym, ap, ◌∙◌}
+use mathlib.Core.Path.{sym, ◌∙◌}
 use native.Mathlib.Nat.{sub-zero}
 use native.Mathlib.Omega.{arith}
 use borrow.Author.Tests.{lt-ltb, le-ltb}
 use borrow.Author.Rules.{rules}
-use Rattle.lists.specs.Find.{least}
 use Rattle.lists.proofs.FindLaws as find
 use Rattle.image.specs.Layout.{image_in}
-use Rattle.image.specs.Recovered.{first_unclear}
 use Rattle.image.proofs.RecoveredLaws.{unclear, unclear_is}
 use Rattle.codec.proofs.Lying.{nodes_in_lem}
 use Rattle.codec.proofs.sound.first_unclear_at.Goals as goal

@@ -1,4 +1,4 @@
-use mathlib.Core.Path.{◌≡◌, refl, sym, ap, ◌∙◌}
+use mathlib.Core.Path.{sym, ap, ◌∙◌}
 use Rattle.image.specs.Form.{head_lines}
 use Rattle.image.specs.Recovered.{largest}
 use Prim.Native.Nat.{ℕ}

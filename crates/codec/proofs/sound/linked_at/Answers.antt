@@ -1,4 +1,4 @@
-use mathlib.Core.Path.{◌≡◌, refl, sym, ap, ◌∙◌}
+use mathlib.Core.Path.{sym, ap, ◌∙◌}
 use Rattle.image.proofs.FormLaws as forms
 use Rattle.image.specs.Bytes.{at1}
 use Rattle.image.specs.declared.Content.{Content}

@@ -1,6 +1,5 @@
 use Rattle.image.specs.Recovered.{recovered}
 use borrow.Author.Tests.{eq-eqb, ne_eqb}
-use borrow.Author.Rules.{rules}
 use Rattle.codec.proofs.sound.recovered_at.Goals as goal
 
 pub returns-then-linked_at-eq1 : goal.returns-then-linked_at-eq1

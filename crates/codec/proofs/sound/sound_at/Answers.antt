@@ -1,10 +1,9 @@
-use mathlib.Core.Path.{refl, sym, ◌∙◌}
+use mathlib.Core.Path.{refl, sym}
 use borrow.Author.Tests.{lt-ltb, le-ltb, eq-eqb, ne_eqb}
 use Rattle.image.specs.Layout.{image_in}
 use Rattle.image.specs.Recovered.{first_twin, dummy_of}
 use Rattle.image.proofs.RecoveredLaws.{sound_by}
 use Rattle.codec.proofs.Lying.{nodes_in_lem}
-use borrow.Author.Rules.{rules}
 use native.Mathlib.Omega.{arith}
 use Rattle.codec.proofs.sound.sound_at.Goals as goal
 

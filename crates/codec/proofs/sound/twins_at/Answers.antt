@@ -1,5 +1,4 @@
 use Rattle.image.specs.Recovered.{twins}
-use borrow.Author.Rules.{rules}
 use Rattle.codec.proofs.sound.twins_at.Goals as goal
 
 pub returns-then-recovered_at-2 : goal.returns-then-recovered_at-2

@@ -1,5 +1,5 @@
 use mathlib.Core.Bool.{true, false}
-use mathlib.Core.Path.{◌≡◌, refl, sym, ap, ◌∙◌}
+use mathlib.Core.Path.{◌≡◌, sym, ap, ◌∙◌}
 use lib.ListN.{length}
 use borrow.Author.Tests.{not-true, not-false}
 use Rattle.answer.specs.Answers.{accepted}
@@ -9,7 +9,6 @@ use Rattle.image.specs.Refusals.{sound, fitting, whole}
 use Rattle.image.proofs.ShapeLaws.{Shaped, shape_is, shaped_lines}
 use Rattle.image.proofs.SoundLaws.{whole_unsound, whole_sound}
 use Rattle.codec.proofs.Accepted as laws
-use borrow.Author.Rules.{rules}
 use Rattle.codec.proofs.writing.write_image.Goals as goal
 use Rattle.codec.proofs.writing.write_image.Goals.{Else-not-is_taken, Else-not-is_taken-2, Else-not-is_taken-3}
 

@@ -1,4 +1,3 @@
-use borrow.Author.Rules.{rules}
 use Rattle.image.proofs.blank.blank_image.Goals as goal
 
 pub returns : goal.returns

@@ -1,4 +1,3 @@
-use borrow.Author.Rules.{rules}
 use Rattle.image.proofs.HeadLaws as laws
 use Rattle.image.proofs.form.head_lines.Goals as goal
 

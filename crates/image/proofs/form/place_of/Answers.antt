@@ -1,5 +1,4 @@
 use mathlib.Core.Path.{sym}
-use borrow.Author.Rules.{rules}
 use Rattle.image.proofs.FormLaws as laws
 use Rattle.image.proofs.form.place_of.Goals as goal
 

@@ -1,5 +1,3 @@
-use borrow.Author.Rules.{rules}
-use native.Mathlib.Omega.{arith}
 use Rattle.image.specs.Form.{image_size}
 use Rattle.image.proofs.form.size_of.Goals as goal
 

@@ -1,5 +1,4 @@
-use mathlib.Core.Path.{◌≡◌, ap, ◌∙◌}
-use borrow.Author.Rules.{rules}
+use mathlib.Core.Path.{ap, ◌∙◌}
 use native.Mathlib.Omega.{arith}
 use Rattle.image.specs.Recovered.{largest}
 use Rattle.image.proofs.heads.head_of.Goals as goal

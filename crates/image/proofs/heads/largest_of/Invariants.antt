@@ -1,8 +1,6 @@
 use Prim.Native.Nat.{◌≤◌, ◌-◌}
-use mathlib.Core.Path.{◌≡◌, refl, ap, ◌∙◌}
-use native.Mathlib.Omega.{arith}
+use mathlib.Core.Path.{◌≡◌}
 use Rattle.image.specs.Recovered.{largest}
-use Rattle.image.proofs.HeadLaws as laws
 use Rattle.image.proofs.heads.largest_of.Given as goal
 
 abbrev pub invariant-loop-k : goal.invariant-loop-k

@@ -1,4 +1,3 @@
-use borrow.Author.Rules.{rules}
 use Rattle.image.proofs.recovered.are_twins.Goals as goal
 
 pub returns-then-is_recovered-2 : goal.returns-then-is_recovered-2

@@ -1,14 +1,8 @@
 use Prim.Native.Nat.{◌≤◌, ◌-◌}
-use mathlib.Core.Path.{◌≡◌, sym, ◌∙◌}
-use native.Mathlib.Nat.{sub-zero}
-use native.Mathlib.Omega.{arith}
-use borrow.Author.Tests.{not-true, not-false}
-use borrow.Author.Rules.{rules}
+use mathlib.Core.Path.{◌≡◌}
 use Rattle.lists.specs.Find.{least}
-use Rattle.lists.proofs.FindLaws as find
 use Rattle.image.specs.Recovered.{dummy_of}
-use Rattle.image.proofs.HeadLaws.{head_is}
-use Rattle.image.proofs.RecoveredLaws.{unrecovered, unrecovered_is}
+use Rattle.image.proofs.RecoveredLaws.{unrecovered}
 use Rattle.image.proofs.recovered.dummy_of.Given as goal
 
 abbrev pub invariant-loop-i : goal.invariant-loop-i

@@ -1,4 +1,3 @@
-use borrow.Author.Rules.{rules}
 use Rattle.image.proofs.recovered.recovered_in.Goals as goal
 
 pub returns : goal.returns

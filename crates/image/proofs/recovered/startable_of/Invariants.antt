@@ -1,16 +1,9 @@
 use Prim.Native.Nat.{◌≤◌, ◌-◌}
-use mathlib.Core.Path.{◌≡◌, refl, sym, ◌∙◌}
-use mathlib.Core.Bool.{true, false}
-use mathlib.Core.Logic.{⊎_elim}
-use native.Mathlib.Nat.{sub-zero}
-use native.Mathlib.Omega.{arith}
-use borrow.Author.Tests.{lt-ltb, le-ltb, eq-eqb, ne_eqb, not-true, not-false}
-use borrow.Author.Rules.{rules}
+use mathlib.Core.Path.{◌≡◌}
+use mathlib.Core.Bool.{false}
 use Rattle.lists.specs.Find.{least, any}
-use Rattle.lists.proofs.FindLaws as find
 use Rattle.image.specs.Recovered.{twins, has_twin, first_twin, dummy_of}
-use Rattle.image.proofs.HeadLaws.{head_is}
-use Rattle.image.proofs.RecoveredLaws.{unrecovered, unrecovered_is, startable_by}
+use Rattle.image.proofs.RecoveredLaws.{unrecovered}
 use Rattle.image.proofs.recovered.startable_of.Given as goal
 
 -- no node below j is a twin of node i

@@ -1,12 +1,9 @@
-use Prim.Native.Nat.{◌≤◌, ◌-◌}
 use mathlib.Core.Path.{◌≡◌, refl, sym, ◌∙◌}
 use mathlib.Core.Bool.{true, false}
-use mathlib.Core.Logic.{⊎_elim}
 use native.Mathlib.Nat.{sub-zero}
 use native.Mathlib.Omega.{arith}
 use borrow.Author.Tests.{lt-ltb, le-ltb, eq-eqb, ne_eqb, not-true, not-false}
-use borrow.Author.Rules.{rules}
-use Rattle.lists.specs.Find.{least, any}
+use Rattle.lists.specs.Find.{any}
 use Rattle.lists.proofs.FindLaws as find
 use Rattle.image.specs.Recovered.{twins, has_twin, first_twin, first_unclear, dummy_of}
 use Rattle.image.proofs.HeadLaws.{head_is}
@@ -22,10 +19,10 @@ found c =
     let h = c.head_of-h.ensures ∙ head_is g in
     let i = c.pairs.i in
     sym (c.pairs.invariant.1 ∙ elim c.pairs-test.branch [
-      else-pairs-test w ↦ find.least_end (has_twin g) g.n i w.pairs-test.false
+      | else-pairs-test w ↦ find.least_end (has_twin g) g.n i w.pairs-test.false
       | then-pairs-test+then-loop-j-test+then-are_twins w ↦
-        let hit : twins g i w.loop-j.j ≡ true = rw (← h) (sym w.are_twins.ensures ∙ w.if-are_twins.true) in
-        find.least_hit (has_twin g) g.n i w.pairs-test.true (find.any_hit (twins g i) i w.loop-j.j w.loop-j-test.true hit)
+          let hit : twins g i w.loop-j.j ≡ true = rw (← h) (sym w.are_twins.ensures ∙ w.if-are_twins.true) in
+          find.least_hit (has_twin g) g.n i w.pairs-test.true (find.any_hit (twins g i) i w.loop-j.j w.loop-j-test.true hit)
     ])
 
 cleared : (c : At-pairs) → c.loop-u.u ≡ first_unclear c.args.g

@@ -1,16 +1,9 @@
 use Prim.Native.Nat.{◌≤◌, ◌-◌}
-use mathlib.Core.Path.{◌≡◌, refl, sym, ◌∙◌}
-use mathlib.Core.Bool.{true, false}
-use mathlib.Core.Logic.{⊎_elim}
-use native.Mathlib.Nat.{sub-zero}
-use native.Mathlib.Omega.{arith}
-use borrow.Author.Tests.{lt-ltb, le-ltb, eq-eqb, ne_eqb, not-true, not-false}
-use borrow.Author.Rules.{rules}
+use mathlib.Core.Path.{◌≡◌}
+use mathlib.Core.Bool.{false}
 use Rattle.lists.specs.Find.{least, any}
-use Rattle.lists.proofs.FindLaws as find
 use Rattle.image.specs.Recovered.{twins, has_twin, first_twin, first_unclear, dummy_of}
-use Rattle.image.proofs.HeadLaws.{head_is}
-use Rattle.image.proofs.RecoveredLaws.{unclear, unclear_is, unrecovered, unrecovered_is, sound_by}
+use Rattle.image.proofs.RecoveredLaws.{unclear, unrecovered}
 use Rattle.image.proofs.sound.sound_of.Given as goal
 
 -- no linked byte below node u is above 1

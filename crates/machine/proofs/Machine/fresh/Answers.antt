@@ -1,5 +1,4 @@
 use Rattle.machine.specs.Start.{fresh_from}
-use borrow.Author.Rules.{rules}
 use Rattle.machine.proofs.Machine.fresh.Goals as goal
 
 pub returns : goal.returns

@@ -2,7 +2,6 @@ use native.Mathlib.Omega.{arith}
 use mathlib.Core.Path.{sym, ap, ◌∙◌}
 use Rattle.machine.specs.Line.{of_node}
 use Rattle.machine.proofs.LineLaws.{line_head, line_behind}
-use borrow.Author.Rules.{rules}
 use Rattle.machine.proofs.lines.line_at.Goals as goal
 
 pub overflow_cast-lines : goal.overflow_cast-lines

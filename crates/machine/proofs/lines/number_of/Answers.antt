@@ -1,5 +1,4 @@
 use Rattle.machine.proofs.LineLaws.{number_node}
-use borrow.Author.Rules.{rules}
 use Rattle.machine.proofs.lines.number_of.Goals as goal
 
 pub returns-in-OfNode : goal.returns-in-OfNode

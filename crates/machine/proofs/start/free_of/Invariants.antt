@@ -1,10 +1,6 @@
-use Prim.Native.Nat.{ℕ, ◌≤◌, ◌-◌}
-use mathlib.Core.Path.{◌≡◌, ap, ◌∙◌}
-use native.Mathlib.Numerals.{add-one}
+use Prim.Native.Nat.{◌≤◌, ◌-◌}
+use mathlib.Core.Path.{◌≡◌}
 use Rattle.machine.specs.Laid.{start_free}
-use Rattle.machine.proofs.TableLaws as tables
-use borrow.Author.Rules.{rules}
-use native.Mathlib.Omega.{arith}
 use Rattle.machine.proofs.start.free_of.Given as goal
 
 abbrev pub invariant-loop-i : goal.invariant-loop-i

@@ -1,12 +1,9 @@
-use Prim.Native.Nat.{◌≤◌, ◌-◌}
-use mathlib.Core.Path.{◌≡◌, sym, ap, ◌∙◌}
-use native.Mathlib.Numerals.{add-one}
+use mathlib.Core.Path.{ap, ◌∙◌}
 use native.Mathlib.Omega.{arith}
 use Rattle.lists.specs.Tab.{front}
 use Rattle.lists.proofs.TabLaws as tabs
 use Rattle.image.specs.Layout.{no_heads, head_in, heads_of}
 use Rattle.image.proofs.HeadLaws.{length_no_heads}
-use borrow.Author.Rules.{rules}
 use Rattle.machine.proofs.start.heads_of.Goals as goal
 
 pub loop-k-init : goal.loop-k-init

@@ -1,12 +1,7 @@
 use Prim.Native.Nat.{◌≤◌, ◌-◌}
-use mathlib.Core.Path.{◌≡◌, sym, ap, ◌∙◌}
-use native.Mathlib.Numerals.{add-one}
-use native.Mathlib.Omega.{arith}
+use mathlib.Core.Path.{◌≡◌}
 use Rattle.lists.specs.Tab.{front}
-use Rattle.lists.proofs.TabLaws as tabs
-use Rattle.image.specs.Layout.{no_heads, head_in, heads_of}
-use Rattle.image.proofs.HeadLaws.{length_no_heads}
-use borrow.Author.Rules.{rules}
+use Rattle.image.specs.Layout.{no_heads, head_in}
 use Rattle.machine.proofs.start.heads_of.Given as goal
 
 abbrev pub invariant-loop-k : goal.invariant-loop-k

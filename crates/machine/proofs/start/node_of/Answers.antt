@@ -3,7 +3,6 @@ use borrow.Author.Tests.{eq-eqb, ne_eqb}
 use Rattle.image.proofs.HeadLaws.{head_is}
 use Rattle.machine.proofs.QueueLaws as queues
 use native.Mathlib.Omega.{arith}
-use borrow.Author.Rules.{rules}
 use Rattle.machine.proofs.start.node_of.Goals as goal
 
 pub link_of-next-requires : goal.link_of-next-requires

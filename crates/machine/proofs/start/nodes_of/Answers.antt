@@ -1,9 +1,8 @@
-use Prim.Native.Nat.{ℕ, ◌≤◌, ◌-◌}
+use Prim.Native.Nat.{ℕ}
 use mathlib.Core.Path.{◌≡◌, ap, ◌∙◌}
 use Rattle.machine.specs.Start.{queue_of}
 use Rattle.machine.specs.Laid.{start_nodes}
 use Rattle.machine.proofs.TableLaws as tables
-use borrow.Author.Rules.{rules}
 use native.Mathlib.Omega.{arith}
 use Rattle.machine.proofs.start.nodes_of.Goals as goal
 

@@ -1,10 +1,7 @@
-use Prim.Native.Nat.{ℕ, ◌≤◌, ◌-◌}
-use mathlib.Core.Path.{◌≡◌, ap, ◌∙◌}
+use Prim.Native.Nat.{◌≤◌, ◌-◌}
+use mathlib.Core.Path.{◌≡◌}
 use Rattle.machine.specs.Start.{queue_of}
 use Rattle.machine.specs.Laid.{start_nodes}
-use Rattle.machine.proofs.TableLaws as tables
-use borrow.Author.Rules.{rules}
-use native.Mathlib.Omega.{arith}
 use Rattle.machine.proofs.start.nodes_of.Given as goal
 
 abbrev pub invariant-loop-i : goal.invariant-loop-i

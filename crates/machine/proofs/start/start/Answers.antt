@@ -3,7 +3,6 @@ use Rattle.machine.specs.Laid.{start_nodes, start_kept, start_free}
 use Rattle.machine.proofs.QueueLaws as queues
 use Rattle.machine.proofs.TableLaws as tables
 use native.Mathlib.Omega.{arith}
-use borrow.Author.Rules.{rules}
 use Rattle.machine.proofs.start.start.Goals as goal
 
 pub overflow_cast-d : goal.overflow_cast-d

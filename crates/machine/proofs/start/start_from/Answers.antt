@@ -5,12 +5,11 @@ use borrow.Author.Tests.{not-true, not-false}
 use Rattle.answer.specs.Answers.{told, accepted}
 use Rattle.answer.specs.declared.Answer.TheVariants.{Taken, Threads}
 use Rattle.image.specs.Layout.{image_shape}
-use Rattle.image.specs.Refusals.{threads_fit, shape_answer, sound, fitting, whole}
+use Rattle.image.specs.Refusals.{threads_fit, shape_answer, sound, fitting}
 use Rattle.image.proofs.ShapeLaws.{Shaped, shape_is, shaped_lines}
 use Rattle.machine.specs.declared.Out.{Out}
 use Rattle.machine.proofs.AnswerLaws as answers
 use Rattle.image.proofs.SoundLaws.{whole_unsound, whole_sound, fitting_then}
-use borrow.Author.Rules.{rules}
 use Rattle.machine.proofs.start.start_from.Goals as goal
 use Rattle.machine.proofs.start.start_from.Goals.{Else-not-is_taken}
 

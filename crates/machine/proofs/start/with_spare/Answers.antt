@@ -2,7 +2,6 @@ use mathlib.Core.Path.{sym, ◌∙◌}
 use Rattle.machine.proofs.TableLaws as tables
 use Rattle.image.proofs.HeadLaws.{recovered_by}
 use Rattle.lists.proofs.WordLaws.{one_shifted}
-use borrow.Author.Rules.{rules}
 use Rattle.machine.proofs.start.with_spare.Goals as goal
 
 pub returns-then-i-d : goal.returns-then-i-d
