@@ -2,6 +2,7 @@
 use Prim.Native.Nat.{ℕ}
 use mathlib.Core.Path.{◌≡◌, sym, ap₂, ◌∙◌}
 use mathlib.Core.List.{List}
+use denote.MutBor.{MutBor}
 use denote.Ref.{Bor}
 use contract.Lifetimes.{Lfts}
 use Rattle.answer.specs.declared.Answer.{Answer}
@@ -18,6 +19,6 @@ read_record_one κs s z z' r r' p q =
     ap₂ (λ (a : Answer) (x : Machine). out a x) (told_injective r.answer r'.answer (p.0 ∙ sym q.0)) (p.1 ∙ sym q.1)
 
 pub write_record_one :
-    (κs : Lfts 1) (m : Machine) (b z z' : Bor (List ℕ)) (r r' : Answer) →
+    (κs : Lfts 1) (m : Machine) (b z z' : MutBor (List ℕ)) (r r' : Answer) →
     writing.Post κs (m, (b, tt)) r (m, (z, tt)) → writing.Post κs (m, (b, tt)) r' (m, (z', tt)) → (r ≡ r') × (z.now ≡ z'.now)
 write_record_one κs m b z z' r r' p q = (told_injective r r' (p.0 ∙ sym q.0), p.1 ∙ sym q.1)

@@ -1,0 +1,15 @@
+use Prim.Native.Nat.{◌≤◌, ◌-◌}
+use mathlib.Core.Path.{◌≡◌, ◌∙◌}
+use native.Mathlib.Omega.{arith}
+use borrow.Author.Rules.{rules}
+use Rattle.lists.specs.Tab.{front}
+use Rattle.lists.proofs.TabLaws as tabs
+use Rattle.machine.specs.Record.{blank_nodes}
+use Rattle.record.specs.Layout.{node_in}
+use Rattle.record.proofs.reading.nodes_in.Given as goal
+
+abbrev pub invariant-loop-i : goal.invariant-loop-i
+invariant-loop-i l = (l.i ≤ 64) × (l.l ≡ front (node_in l.s) l.i blank_nodes)
+
+abbrev pub decreases-loop-i : goal.decreases-loop-i
+decreases-loop-i l = 64 - l.i

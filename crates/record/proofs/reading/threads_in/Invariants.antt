@@ -1,0 +1,15 @@
+use Prim.Native.Nat.{◌≤◌, ◌-◌}
+use mathlib.Core.Path.{◌≡◌, ◌∙◌}
+use native.Mathlib.Omega.{arith}
+use borrow.Author.Rules.{rules}
+use Rattle.lists.specs.Tab.{front}
+use Rattle.lists.proofs.TabLaws as tabs
+use Rattle.machine.specs.Record.{idle_threads}
+use Rattle.record.specs.Layout.{thread_in}
+use Rattle.record.proofs.reading.threads_in.Given as goal
+
+abbrev pub invariant-loop-i : goal.invariant-loop-i
+invariant-loop-i l = (l.i ≤ 8) × (l.l ≡ front (thread_in l.s) l.i idle_threads)
+
+abbrev pub decreases-loop-i : goal.decreases-loop-i
+decreases-loop-i l = 8 - l.i
