@@ -1,0 +1,7 @@
+use mathlib.Core.Path.{refl}
+use Rattle.sheet.specs.Marks.{blank_slots}
+use Rattle.sheet.proofs.marks.no_ranks.Goals as goal
+
+pub returns : goal.returns
+unfolding blank_slots
+returns c = refl
