@@ -7,13 +7,7 @@ use converting::{narrow, widen};
 use stream::half;
 
 // Number, place and the whole of what was lent.
-pub(crate) fn put_lent(
-    out: &mut Output,
-    at: usize,
-    a: Answer,
-    lent: &[u8],
-    room: usize,
-) -> usize {
+pub(crate) fn put_lent(out: &mut Output, at: usize, a: Answer, lent: &[u8], room: usize) -> usize {
     let t = told_of(a);
     let first = put_pair(out, at, t.number as u64, t.place as u64);
     let second = put(out, first, b' ');

@@ -31,14 +31,7 @@ fn threads_at(s: &[u8]) -> usize
     n - 3
 }
 
-fn put_exported(
-    out: &mut Output,
-    at: usize,
-    s: &[u8],
-    t: u8,
-    lent: &mut [u8],
-    room: usize,
-) -> usize
+fn put_exported(out: &mut Output, at: usize, s: &[u8], t: u8, lent: &mut [u8], room: usize) -> usize
     requires { room ≤ length lent.old }
 {
     let a = export_desks(s, t, &mut lent[..room]);

@@ -16,14 +16,7 @@ fn lend(s: &[u8], k: u64, lent: &mut [u8], room: usize) -> Told
 }
 
 // The line of ending k: `whole` bytes, which are left in the buffer, or its refusal.
-fn put_ending(
-    out: &mut Output,
-    at: usize,
-    s: &[u8],
-    k: u64,
-    lent: &mut [u8],
-    whole: usize,
-) -> usize
+fn put_ending(out: &mut Output, at: usize, s: &[u8], k: u64, lent: &mut [u8], whole: usize) -> usize
     requires { whole ≤ length lent.old }
 {
     let t = lend(s, k, lent, whole);
@@ -59,14 +52,7 @@ fn put_endings(
 }
 
 // What is given back for ending k in a buffer of `room` bytes; it is to be refused.
-fn put_refused(
-    out: &mut Output,
-    at: usize,
-    s: &[u8],
-    k: u64,
-    lent: &mut [u8],
-    room: usize,
-) -> usize
+fn put_refused(out: &mut Output, at: usize, s: &[u8], k: u64, lent: &mut [u8], room: usize) -> usize
     requires { room ≤ length lent.old }
 {
     let t = lend(s, k, lent, room);

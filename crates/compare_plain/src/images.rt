@@ -58,12 +58,7 @@ fn put_short(out: &mut Output, at: usize, s: &[u8], lent: &mut [u8], all: usize)
     put_refusal(out, at, t)
 }
 
-pub(crate) fn answer_schedule(
-    s: &[u8],
-    lent: &mut [u8],
-    out: &mut Output,
-    at: usize,
-) -> usize {
+pub(crate) fn answer_schedule(s: &[u8], lent: &mut [u8], out: &mut Output, at: usize) -> usize {
     let r = plainway::plain_page(s, lent);
     let a = r.answer;
     let t = told_of(a);

@@ -1,4 +1,3 @@
 // No code: every ending of an accepted schedule recovers, and to a lawful queue. The proofs are in proofs/.
 
 #![tactic(auto)]
-

@@ -1,4 +1,3 @@
 // Request 103: how many persisting steps an answered operation has performed: specs/Once.antt. No code.
 
 #![tactic(auto)]
-

@@ -1,4 +1,3 @@
 // The page of endings. Its calls come with their proofs; the definitions are in specs/.
 
 #![tactic(auto)]
-

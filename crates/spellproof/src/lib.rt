@@ -1,4 +1,3 @@
 // No code: the words of a schedule, read, are the schedule; distinct words have distinct keys. The statements and their proofs are in proofs/.
 
 #![tactic(auto)]
-

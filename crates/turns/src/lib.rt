@@ -1,4 +1,3 @@
 // Request 106: what the rotation is for: specs/Turns.antt. No code.
 
 #![tactic(auto)]
-
