@@ -10,7 +10,7 @@ use prog.Routine.{Routine}
 use types.Logic.{Logic}
 use contract.Monad.{Fun, fact}
 use contract.Lifetimes.{Lfts}
-use denote.Ref.{Bor}
+use denote.MutBor.{MutBor}
 use Rattle.answer.specs.Answers.{told, accepted}
 use Rattle.answer.specs.declared.Answer.{Answer}
 use Rattle.answer.specs.declared.Told.{Told}
@@ -24,7 +24,7 @@ use Rattle.events.proofs.on_event.Reads as on_event_lem
 use Rattle.events.specs.contracts.apply as apply
 
 -- all that the contract promises is `Applied` of the record before and the record after; it asks for nothing
-module _ {M : Type 1} {𝓤 : Ura M} (𝓛 : Logic 𝓤) (mem : Memory → SProp 𝓤) (run : Routine → Fun 𝓤) (κs : Lfts 1) (m z : Bor Machine) (e : Event) (r : Answer) where
+module _ {M : Type 1} {𝓤 : Ura M} (𝓛 : Logic 𝓤) (mem : Memory → SProp 𝓤) (run : Routine → Fun 𝓤) (κs : Lfts 1) (m z : MutBor Machine) (e : Event) (r : Answer) where
   pub apply_says : (apply.clauses 𝓛 mem run κs (m, (e, tt))).ensures tt r (z, (e, tt)) ≡ fact 𝓤 (Applied m.now e r z.now)
   apply_says = refl
 

@@ -2,7 +2,7 @@
 use Prim.Native.Nat.{ℕ}
 use mathlib.Core.Path.{◌≡◌, sym, ap₂, ◌∙◌}
 use mathlib.Core.List.{List}
-use denote.Ref.{Bor}
+use denote.MutBor.{MutBor}
 use contract.Lifetimes.{Lfts}
 use Rattle.answer.specs.declared.Answer.{Answer}
 use Rattle.answer.proofs.Injective.{told_injective}
@@ -23,7 +23,7 @@ on_event_one m e r s p q =
     ap₂ (λ (a : Answer) (x : Machine). out a x) (told_injective r.answer s.answer (p.0 ∙ sym q.0)) (p.1 ∙ sym q.1)
 
 pub save_one :
-    (κs : Lfts 1) (m : Machine) (b z z' : Bor (List ℕ)) (r s : Answer) →
+    (κs : Lfts 1) (m : Machine) (b z z' : MutBor (List ℕ)) (r s : Answer) →
     saving.Post κs (m, (b, tt)) r (m, (z, tt)) → saving.Post κs (m, (b, tt)) s (m, (z', tt)) → (r ≡ s) × (z.now ≡ z'.now)
 save_one κs m b z z' r s p q = (told_injective r s (p.0 ∙ sym q.0), p.1 ∙ sym q.1)
 
