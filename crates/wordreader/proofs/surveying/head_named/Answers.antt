@@ -1,0 +1,12 @@
+use borrow.Author.Tests.{eq-eqb, ne_eqb}
+use Rattle.image.specs.Form.{per_desk}
+use Rattle.spelling.specs.Reading.{head_named}
+use Rattle.wordreader.proofs.surveying.head_named.Goals as goal
+
+pub returns-then-form-eq4 : goal.returns-then-form-eq4
+unfolding head_named per_desk
+returns-then-form-eq4 c = rw (eq-eqb _ _ c.if-form-eq4.true)
+
+pub returns : goal.returns
+unfolding head_named per_desk
+returns c = rw (ne_eqb _ _ c.if-form-eq4.false)
