@@ -20,7 +20,7 @@ use Rattle.image.specs.declared.Image.{Image}
 use Rattle.machine.specs.Line.{shape_of, line_count, line_at, cached_at, persisted_at}
 use Rattle.machine.specs.declared.Line.{Line}
 use Rattle.machine.specs.declared.Line.TheVariants.{OfHead as of_head, OfNode as of_node}
-use Rattle.machine.specs.Event.{Deed, unknown, enqueues, dequeues, steps, writes_back, crashes, deed_of}
+use Rattle.machine.specs.Event.{Deed, unknown, enqueues, dequeues, steps, writes_back, crashes, deed_of, done}
 use Rattle.machine.specs.declared.Machine.{Machine}
 use Rattle.image.proofs.ByteLaws.{at_small}
 use Rattle.image.proofs.HeadLaws.{heads_at_lem, head_within, lines_same}
@@ -85,7 +85,7 @@ small_run [] p b i g h = rw (runs.run_nothing p b) g
 small_run (e ∷ l) p b i g h =
     let t = runs.run_first p b e l h in
     rw (runs.run_bench p b e l t)
-    (small_run l (suc p) (onto b e) i.1 (small_turned b _ (deed_of e.kind) g (small_done b.machine e (deed_of e.kind) i.0 g.machine)) (runs.run_rest p b e l h))
+    (small_run l (suc p) (onto b e) i.1 (small_turned b (done b.machine e (deed_of e.kind)) (deed_of e.kind) g (small_done b.machine e (deed_of e.kind) i.0 g.machine)) (runs.run_rest p b e l h))
 
 -- ---- what the bytes hold
 
