@@ -225,7 +225,7 @@ module _ (s : List ℕ) (bytes : Bytes s) (k : ℕ) (g : Given s k) where
       (ap read_image (ap (take (end_size s)) ze ∙ ap (λ n. take n (ending_written s k no_bytes)) (sym (ran_size s k g.page))
       ∙ bytes_front s bytes g.page k g.there no_bytes (omega (arith, size_room s k g.page, no_bytes_long)))
       ∙ bytes_read s bytes g.page k g.there)
-      ∙ rw end_starts refl
+      ∙ rw (start_from, end_starts) refl
 
   -- nothing stands beyond its nodes
   end_blank : (i : ℕ) → (ending_in s k).n ≤ i → i < 64 → content_at (ending_in s k).nodes i ≡ no_content

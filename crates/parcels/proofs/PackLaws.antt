@@ -178,7 +178,7 @@ module _ (s : List ℕ) (bytes : Bytes s) (a : accepted (page_answer s) ≡ true
   unfolding bench_at parcels_to start_from no_parcels
   under_start d de o q l le = record {
     within = omega arith;
-    machine = q ∙ ap (λ (d : Schedule). (start_from d.image d.t).machine) de ∙ rw (schedules.schedule_starts s bytes taken_schedule) refl;
+    machine = q ∙ ap (λ (d : Schedule). (start_from d.image d.t).machine) de ∙ rw (start_from, schedules.schedule_starts s bytes taken_schedule) refl;
     few = omega arith;
     long = ap length le ∙ length-replicate 4096 no_parcel;
     are = refl;
