@@ -79,6 +79,7 @@ among_add (z ∷ l) x y (inr h) = by (among_add l x y h)
     by (inr k) = inr k
 
 among_old : (l : List ℕ) (x y : ℕ) → among x l → among x (l ++ (y ∷ []))
+among_old [] x y h = absurd h
 among_old (z ∷ l) x y (inl h) = inl h
 among_old (z ∷ l) x y (inr h) = inr (among_old l x y h)
 
