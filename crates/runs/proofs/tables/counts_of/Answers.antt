@@ -1,0 +1,23 @@
+use borrow.Author.Rules.{rules}
+use native.Mathlib.Omega.{arith}
+use mathlib.Core.Path.{◌≡◌, refl, sym, ap, ◌∙◌}
+use Prim.Native.Nat.{◌+◌, ◌-◌, ◌≤◌}
+use lib.ListN.{length}
+use Rattle.runs.proofs.RowLaws as laws
+use Rattle.runs.specs.Rows.{counts_to}
+use Rattle.runs.proofs.tables.counts_of.Reads as reads
+use Rattle.runs.proofs.tables.counts_of.Lts as lts
+use Rattle.endtable.proofs.opened.blank_counts.Reads as blank-counts-reads
+use Rattle.runs.proofs.tables.counts_of.Goals as goal
+
+pub loop-i-init : goal.loop-i-init
+loop-i-init c = (omega arith, c.blank_counts-counts.ensures ∙ laws.counts_none c.args.rows)
+
+pub loop-i-preserved : goal.loop-i-preserved
+loop-i-preserved c = (omega arith, rw c.loop-i.invariant.1 (laws.counts_next c.args.rows c.loop-i.i (omega arith)))
+
+pub returns : goal.returns
+returns c =
+    let e : c.loop-i.i ≡ 72 = omega arith in
+    let n : length c.args.rows ≡ 72 = search rules in
+    c.loop-i.invariant.1 ∙ rw e (laws.counts_all c.args.rows n)
