@@ -1,6 +1,5 @@
-use Prim.Native.Nat.{ℕ}
 use mathlib.Core.Bool.{true, false}
-use mathlib.Core.Path.{◌≡◌, refl, sym, ap, ◌∙◌}
+use mathlib.Core.Path.{◌≡◌, sym, ap, ◌∙◌}
 use lib.ListN.{length}
 use borrow.Author.Tests.{not-true, not-false}
 use Rattle.answer.specs.Answers.{accepted}
@@ -11,9 +10,7 @@ use Rattle.image.specs.Layout.{in_form, image_shape, form_in, image_in, image_by
 use Rattle.image.specs.declared.Image.{Image}
 use Rattle.image.specs.Refusals.{alone_answer, fitting}
 use Rattle.codec.proofs.Accepted as acc
-use Rattle.converting.specs.Converted.{converted}
 use Rattle.converting.proofs.Laws as laws
-use borrow.Author.Rules.{rules}
 use Rattle.converting.proofs.convert.Goals as goal
 use Rattle.converting.proofs.convert.Goals.{Else-not-is_taken}
 

@@ -1,7 +1,6 @@
 use mathlib.Core.Path.{refl, ap}
 use Rattle.answer.specs.Answers.{told}
 use Rattle.image.specs.Form.{known, per_desk}
-use borrow.Author.Rules.{rules}
 use Rattle.converting.proofs.widen.Goals as goal
 
 pub convert-requires : goal.convert-requires

@@ -1,4 +1,3 @@
-use borrow.Author.Rules.{rules}
 use Rattle.dequeue.proofs.d1.Goals as goal
 
 pub returns : goal.returns

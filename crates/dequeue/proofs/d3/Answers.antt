@@ -1,6 +1,4 @@
-use native.Mathlib.Omega.{arith}
 use Rattle.dequeue.proofs.FormLaws.{own_place}
-use borrow.Author.Rules.{rules}
 use Rattle.dequeue.proofs.d3.Goals as goal
 
 pub flush_line-r-requires : goal.flush_line-r-requires

@@ -1,6 +1,5 @@
 use borrow.Author.Tests.{eq-eqb, ne_eqb, not-true, not-false}
 use Rattle.image.specs.Form.{per_desk}
-use borrow.Author.Rules.{rules}
 use Rattle.dequeue.proofs.d4.Goals as goal
 
 pub returns-then-not-is_still : goal.returns-then-not-is_still

@@ -1,6 +1,5 @@
 use borrow.Author.Tests.{eq-eqb, ne_eqb}
 use Rattle.machine.specs.Retire.{retired}
-use borrow.Author.Rules.{rules}
 use Rattle.dequeue.proofs.d7.Goals as goal
 
 pub returns-then-th : goal.returns-then-th

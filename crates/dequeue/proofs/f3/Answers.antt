@@ -1,7 +1,5 @@
-use native.Mathlib.Omega.{arith}
 use Rattle.hands.proofs.FlushLaws.{fence_n}
 use Rattle.dequeue.proofs.FormLaws.{own_place}
-use borrow.Author.Rules.{rules}
 use Rattle.dequeue.proofs.f3.Goals as goal
 
 pub fence_line-r-requires : goal.fence_line-r-requires

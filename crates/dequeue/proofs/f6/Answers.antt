@@ -1,6 +1,4 @@
-use native.Mathlib.Omega.{arith}
 use Rattle.dequeue.proofs.FormLaws.{own_place}
-use borrow.Author.Rules.{rules}
 use Rattle.dequeue.proofs.f6.Goals as goal
 
 pub fence_line-r-requires : goal.fence_line-r-requires

@@ -1,6 +1,5 @@
 use borrow.Author.Tests.{eq-eqb, ne_eqb}
 use Rattle.image.specs.Form.{per_desk}
-use borrow.Author.Rules.{rules}
 use Rattle.dequeue.proofs.index_read.Goals as goal
 
 pub returns-then-form-eq4 : goal.returns-then-form-eq4

@@ -1,6 +1,5 @@
 use borrow.Author.Tests.{eq-eqb, ne_eqb}
 use Rattle.image.specs.Form.{per_desk}
-use borrow.Author.Rules.{rules}
 use Rattle.dequeue.proofs.is_still.Goals as goal
 
 pub returns-then-h-th : goal.returns-then-h-th

@@ -2,7 +2,6 @@ use borrow.Author.Tests.{eq-eqb, ne_eqb}
 use Rattle.enqueue.proofs.FreeLaws as laws
 use native.Mathlib.Omega.{arith}
 use mathlib.Core.Path.{◌∙◌}
-use borrow.Author.Rules.{rules}
 use Rattle.enqueue.proofs.a1.Goals as goal
 
 pub returns-then-f-eq0 : goal.returns-then-f-eq0

@@ -1,7 +1,6 @@
 use native.Mathlib.Omega.{arith}
 use borrow.Author.Tests.{le-leb, lt-leb}
 use Rattle.image.proofs.FormLaws.{top_small}
-use borrow.Author.Rules.{rules}
 use Rattle.enqueue.proofs.a7.Goals as goal
 
 pub returns-then-top-v : goal.returns-then-top-v

@@ -1,5 +1,4 @@
 use borrow.Author.Tests.{eq-eqb, ne_eqb}
-use borrow.Author.Rules.{rules}
 use Rattle.enqueue.proofs.a8.Goals as goal
 
 pub returns-then-x : goal.returns-then-x

@@ -1,4 +1,3 @@
-use borrow.Author.Rules.{rules}
 use Rattle.enqueue.proofs.f10.Goals as goal
 
 pub returns : goal.returns

@@ -1,6 +1,5 @@
 use mathlib.Core.Path.{refl, sym, ◌∙◌}
 use borrow.Author.Tests.{not-true, not-false}
-use borrow.Author.Rules.{rules}
 use Rattle.events.proofs.ByAnswer as by
 use Rattle.events.proofs.on_event.Goals as goal
 

@@ -5,7 +5,7 @@ use lib.ListN.{length}
 use Rattle.lists.specs.Tab.{over}
 use Rattle.answer.specs.Answers.{accepted}
 use Rattle.answer.specs.declared.Answer.TheVariants.{Taken, Room}
-use Rattle.image.specs.Layout.{shape_in, image_in, image_bytes}
+use Rattle.image.specs.Layout.{image_in, image_bytes}
 use Rattle.image.specs.declared.Image.{Image}
 use Rattle.image.specs.declared.Shape.{Shape}
 use Rattle.codec.specs.Parts.{Lies}
@@ -14,7 +14,6 @@ use Rattle.mending.specs.Mended.{changed, changes}
 use Rattle.mending.specs.Bytes.{mend_bytes, mend_list, mend_changed, mend_shape}
 use Rattle.mending.proofs.Answers as laws
 use Rattle.mending.proofs.Turns as turns
-use borrow.Author.Rules.{rules}
 use native.Mathlib.Omega.{arith}
 use Rattle.mending.proofs.mend_image.Goals as goal
 use Rattle.mending.proofs.mend_image.Goals.{After-shape_in-z, Else-not-is_taken}

@@ -1,7 +1,6 @@
 use borrow.Author.Tests.{eq-eqb, ne_eqb, lt-ltb, le-ltb}
 use Rattle.image.specs.Form.{per_desk}
 use Rattle.mending.specs.Bytes.{mend_shape}
-use borrow.Author.Rules.{rules}
 use Rattle.mending.proofs.shape_at.Goals as goal
 
 pub returns-then-s-lt10 : goal.returns-then-s-lt10

@@ -1,10 +1,7 @@
-use Prim.Native.Nat.{◌<◌}
 use native.Mathlib.Omega.{arith}
 use lib.ListN.{get_or}
-use Rattle.schedule.specs.Layout.{count_in}
 use Rattle.codec.proofs.Accepted as codec
 use Rattle.onward.proofs.Reached as laws
-use borrow.Author.Rules.{rules}
 use Rattle.onward.proofs.forward.Goals as goal
 
 pub bounds-s-5 : goal.bounds-s-5

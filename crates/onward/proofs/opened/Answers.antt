@@ -1,5 +1,4 @@
 use native.Mathlib.Omega.{arith}
-use borrow.Author.Rules.{rules}
 use Rattle.codec.proofs.Accepted as codec
 use Rattle.onward.proofs.Reached as laws
 use Rattle.onward.proofs.opened.Goals as goal

@@ -1,7 +1,6 @@
 use mathlib.Core.Path.{refl}
 use borrow.Author.Tests.{eq-eqb, ne_eqb, not-true, not-false}
 use Rattle.record.specs.Layout.{read_answer, read_record}
-use borrow.Author.Rules.{rules}
 use Rattle.record.proofs.read_record.Goals as goal
 
 pub returns-then-s-ne-SIZE : goal.returns-then-s-ne-SIZE

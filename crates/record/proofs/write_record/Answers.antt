@@ -1,6 +1,5 @@
 use mathlib.Core.Path.{refl}
 use borrow.Author.Tests.{lt-ltb, le-ltb}
-use borrow.Author.Rules.{rules}
 use Rattle.record.specs.Layout.{record_answer, record_written}
 use Rattle.record.proofs.write_record.Goals as goal
 

@@ -1,5 +1,4 @@
 use mathlib.Core.Path.{ap, ◌∙◌}
-use borrow.Author.Rules.{rules}
 use Rattle.answer.specs.Answers.{told}
 use Rattle.replaying.specs.declared.Replayed.{Replayed}
 use Rattle.replaying.proofs.First.{answer_is}

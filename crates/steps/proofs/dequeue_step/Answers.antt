@@ -2,8 +2,6 @@ use Prim.Native.Nat.{◌<◌}
 use Rattle.steps.proofs.StepLaws as laws
 use Rattle.machine.proofs.StageLaws.{no_step_lem}
 use Rattle.machine.specs.Record.{thread}
-use native.Mathlib.Omega.{arith}
-use borrow.Author.Rules.{rules}
 use Rattle.steps.proofs.dequeue_step.Goals as goal
 
 pub d2-requires : goal.d2-requires

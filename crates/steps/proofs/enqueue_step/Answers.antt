@@ -2,7 +2,6 @@ use Rattle.steps.proofs.StepLaws.{past, enqueue_low}
 use Rattle.machine.specs.Record.{thread}
 use Prim.Native.Nat.{◌≤◌}
 use native.Mathlib.Omega.{arith}
-use borrow.Author.Rules.{rules}
 use Rattle.steps.proofs.enqueue_step.Goals as goal
 
 pub a2-requires : goal.a2-requires

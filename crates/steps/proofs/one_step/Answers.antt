@@ -1,5 +1,4 @@
 use mathlib.Core.Path.{sym, ◌∙◌}
-use borrow.Author.Rules.{rules}
 use Rattle.steps.proofs.one_step.Goals as goal
 
 pub enqueue_step-requires : goal.enqueue_step-requires

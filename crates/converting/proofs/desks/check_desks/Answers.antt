@@ -1,5 +1,5 @@
 use mathlib.Core.Bool.{true, false, not}
-use mathlib.Core.Path.{◌≡◌, refl, sym, ap, ◌∙◌}
+use mathlib.Core.Path.{sym, ap, ◌∙◌}
 use lib.Dec.{eqb}
 use lib.ListN.{length}
 use borrow.Author.Tests.{eq-eqb, ne_eqb, lt-ltb, le-ltb, not-true, not-false}
@@ -10,7 +10,6 @@ use Rattle.image.specs.Layout.{image_in}
 use Rattle.image.specs.Refusals.{sound}
 use Rattle.image.proofs.ShapeLaws.{Shaped, shape_is, shape_then, shape_else, nodes_range}
 use Rattle.converting.specs.Desks.{desks_answer}
-use borrow.Author.Rules.{rules}
 use native.Mathlib.Omega.{arith}
 use Rattle.converting.proofs.desks.check_desks.Goals as goal
 use Rattle.converting.proofs.desks.check_desks.Goals.{Else-not-is_taken}

@@ -3,14 +3,13 @@ use mathlib.Core.Path.{◌≡◌, refl, sym, ap, ◌∙◌}
 use lib.ListN.{length}
 use borrow.Author.Tests.{not-true, not-false}
 use Rattle.answer.specs.Answers.{told, accepted}
-use Rattle.answer.specs.declared.Answer.TheVariants.{Taken, Length, Mark, Threads}
+use Rattle.answer.specs.declared.Answer.TheVariants.{Length, Mark, Threads}
 use Rattle.image.specs.Form.{known}
 use Rattle.image.specs.Refusals.{threads_fit, alone_answer}
 use Rattle.image.proofs.ShapeLaws.{threads_range}
 use Rattle.codec.proofs.Accepted as acc
-use Rattle.converting.specs.Desks.{plain_answer, threads_answer}
+use Rattle.converting.specs.Desks.{plain_answer}
 use Rattle.converting.proofs.DeskLaws as laws
-use borrow.Author.Rules.{rules}
 use Rattle.converting.proofs.desks.export_desks.Goals as goal
 use Rattle.converting.proofs.desks.export_desks.Goals.{Else-not-is_taken}
 

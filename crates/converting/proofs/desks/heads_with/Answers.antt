@@ -1,7 +1,5 @@
-use mathlib.Core.Path.{◌≡◌, refl, sym, ap, ◌∙◌}
-use Prim.Native.Nat.{ℕ, ◌+◌, ◌-◌, ◌≤◌, ◌<◌}
+use mathlib.Core.Path.{◌≡◌, ap, ◌∙◌}
 use Rattle.converting.proofs.DeskLaws as laws
-use borrow.Author.Rules.{rules}
 use native.Mathlib.Omega.{arith}
 use Rattle.converting.proofs.desks.heads_with.Goals as goal
 

@@ -6,7 +6,6 @@ use Rattle.answer.specs.Answers.{told, accepted}
 use Rattle.image.specs.Form.{known}
 use Rattle.converting.specs.Desks.{desks_answer}
 use Rattle.converting.proofs.DeskLaws as laws
-use borrow.Author.Rules.{rules}
 use native.Mathlib.Omega.{arith}
 use Rattle.converting.proofs.desks.import_desks.Goals as goal
 

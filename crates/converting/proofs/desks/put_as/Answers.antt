@@ -1,11 +1,11 @@
-use Prim.Native.Nat.{ℕ, ◌≤◌}
+use Prim.Native.Nat.{◌≤◌}
 use mathlib.Core.Bool.{true, false}
-use mathlib.Core.Path.{◌≡◌, refl, sym, ap, subst, ◌∙◌}
+use mathlib.Core.Path.{◌≡◌, sym, ap, subst, ◌∙◌}
 use lib.ListN.{length}
 use Rattle.lists.specs.Tab.{over}
 use Rattle.answer.specs.Answers.{accepted}
 use Rattle.image.specs.Form.{known, head_lines, image_size}
-use Rattle.image.specs.Layout.{image_shape, image_in, image_bytes}
+use Rattle.image.specs.Layout.{image_shape, image_bytes}
 use Rattle.image.specs.declared.Image.{Image}
 use Rattle.image.proofs.HeadLaws.{lines_few}
 use Rattle.converting.specs.Desks.{reheaded, other_of}

@@ -1,7 +1,6 @@
 use Prim.Native.Nat.{◌≤◌}
 use mathlib.Core.Path.{◌≡◌}
 use native.Mathlib.Omega.{arith}
-use borrow.Author.Rules.{rules}
 use lib.ListN.{get_or-eq_default}
 use Rattle.machine.specs.Event.{event_at, deeds, deed_of, unknown}
 use Rattle.events.specs.Arms.{event_by}

@@ -1,4 +1,3 @@
-use borrow.Author.Rules.{rules}
 use Rattle.events.proofs.arms.kept_image.Goals as goal
 
 pub returns : goal.returns

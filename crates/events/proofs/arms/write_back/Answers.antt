@@ -3,7 +3,6 @@ use mathlib.Core.Path.{◌≡◌, refl, sym, ap, subst, ◌∙◌}
 use mathlib.Core.Bool.{Bool, true, false}
 use native.Mathlib.Omega.{arith}
 use borrow.Author.Tests.{eq-eqb, ne_eqb, le-leb, lt-leb}
-use borrow.Author.Rules.{rules}
 use Rattle.answer.specs.declared.Answer.TheVariants.{Taken, Number, NotZero, Clean}
 use Rattle.image.specs.Form.{head_lines}
 use Rattle.image.proofs.HeadLaws.{lines_few}

@@ -5,7 +5,6 @@ use lib.Dec.{eqb}
 use Rattle.lists.specs.Find.{both}
 use Rattle.image.specs.Layout.{same_content}
 use Rattle.machine.specs.Line.{head_content}
-use borrow.Author.Rules.{rules}
 use Rattle.machine.specs.Event.{clean}
 use Rattle.hands.proofs.HandLaws as laws
 use Rattle.events.proofs.clean.is_clean.Goals as goal

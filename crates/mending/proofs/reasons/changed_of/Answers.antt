@@ -1,12 +1,8 @@
-use borrow.Author.Rules.{rules}
-use Prim.Native.Nat.{◌≤◌, ◌-◌, ◌+◌}
-use mathlib.Core.Path.{◌≡◌, refl, sym, ap, ◌∙◌}
+use mathlib.Core.Path.{◌≡◌}
 use native.Mathlib.Omega.{arith}
 use Rattle.image.specs.Layout.{image_in}
-use Rattle.lists.specs.Find.{pick}
 use mathlib.Core.Bool.{not}
 use lib.Dec.{eqb}
-use Rattle.mending.specs.Mended.{changed}
 use Rattle.mending.proofs.Turns as turns
 use Rattle.mending.proofs.reasons.changed_of.Goals as goal
 

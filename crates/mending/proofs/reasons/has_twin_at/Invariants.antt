@@ -1,12 +1,9 @@
-use borrow.Author.Rules.{rules}
 use Prim.Native.Nat.{◌≤◌, ◌-◌}
-use mathlib.Core.Path.{◌≡◌, refl, sym, ap, ◌∙◌}
-use mathlib.Core.Bool.{true, false}
-use native.Mathlib.Omega.{arith}
+use mathlib.Core.Path.{◌≡◌}
+use mathlib.Core.Bool.{false}
 use Rattle.lists.specs.Find.{any}
-use Rattle.lists.proofs.FindLaws as find
 use Rattle.image.specs.Layout.{image_in}
-use Rattle.image.specs.Recovered.{twins, has_twin}
+use Rattle.image.specs.Recovered.{twins}
 use Rattle.mending.proofs.reasons.has_twin_at.Given as goal
 
 abbrev pub invariant-loop-j : goal.invariant-loop-j

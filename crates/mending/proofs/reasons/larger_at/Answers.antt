@@ -1,6 +1,5 @@
 use borrow.Author.Tests.{lt-ltb, le-ltb}
 use Rattle.mending.specs.Mended.{larger_at}
-use borrow.Author.Rules.{rules}
 use Rattle.mending.proofs.reasons.larger_at.Goals as goal
 
 pub returns-then-x-y : goal.returns-then-x-y

@@ -1,8 +1,7 @@
-use Prim.Native.Nat.{◌≤◌, ◌-◌}
-use mathlib.Core.Path.{◌≡◌, refl, sym, ap, ◌∙◌}
+use mathlib.Core.Path.{◌≡◌, ap, ◌∙◌}
 use native.Mathlib.Omega.{arith}
 use Rattle.image.specs.Layout.{image_in}
-use Rattle.mending.specs.Mended.{larger_at, largest_at}
+use Rattle.mending.specs.Mended.{larger_at}
 use Rattle.mending.proofs.Plain.{largest_le}
 use Rattle.mending.proofs.Turns as turns
 use Rattle.mending.proofs.reasons.largest_at.Goals as goal

@@ -1,10 +1,7 @@
 use Prim.Native.Nat.{◌≤◌, ◌-◌}
-use mathlib.Core.Path.{◌≡◌, refl, sym, ap, ◌∙◌}
-use native.Mathlib.Omega.{arith}
+use mathlib.Core.Path.{◌≡◌}
 use Rattle.image.specs.Layout.{image_in}
-use Rattle.mending.specs.Mended.{larger_at, largest_at}
-use Rattle.mending.proofs.Plain.{largest_le}
-use Rattle.mending.proofs.Turns as turns
+use Rattle.mending.specs.Mended.{largest_at}
 use Rattle.mending.proofs.reasons.largest_at.Given as goal
 
 abbrev pub invariant-loop-k : goal.invariant-loop-k

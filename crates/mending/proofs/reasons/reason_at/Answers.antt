@@ -1,10 +1,9 @@
-use mathlib.Core.Path.{◌≡◌, refl, sym, ◌∙◌}
+use mathlib.Core.Path.{refl}
 use borrow.Author.Tests.{lt-ltb, le-ltb, eq-eqb, ne_eqb}
 use Rattle.image.specs.Layout.{image_in}
 use Rattle.image.specs.Recovered.{has_twin}
 use Rattle.codec.proofs.Lying.{nodes_in_lem}
 use Rattle.mending.proofs.Turns as turns
-use borrow.Author.Rules.{rules}
 use Rattle.mending.proofs.reasons.reason_at.Goals as goal
 
 pub returns-then-linked_at-gt1 : goal.returns-then-linked_at-gt1

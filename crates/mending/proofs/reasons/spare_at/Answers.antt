@@ -1,10 +1,9 @@
-use mathlib.Core.Path.{◌≡◌, refl, sym, ◌∙◌}
+use mathlib.Core.Path.{refl, sym, ◌∙◌}
 use borrow.Author.Tests.{eq-eqb, ne_eqb}
 use Rattle.image.specs.Layout.{image_in}
 use Rattle.image.specs.Recovered.{dummy_of}
 use Rattle.codec.proofs.Lying.{nodes_in_lem}
 use Rattle.mending.proofs.Turns as turns
-use borrow.Author.Rules.{rules}
 use Rattle.mending.proofs.reasons.spare_at.Goals as goal
 
 pub returns-then-first_twin_at-n : goal.returns-then-first_twin_at-n

@@ -1,12 +1,10 @@
-use borrow.Author.Rules.{rules}
-use Prim.Native.Nat.{◌≤◌, ◌-◌, ◌+◌}
-use mathlib.Core.Path.{◌≡◌, refl, sym, ap, ◌∙◌}
+use Prim.Native.Nat.{◌≤◌}
+use mathlib.Core.Path.{◌≡◌, sym, ap, ◌∙◌}
 use native.Mathlib.Omega.{arith}
 use lib.ListN.{length}
-use Rattle.image.specs.Layout.{image_in, content_at}
+use Rattle.image.specs.Layout.{image_in}
 use Rattle.image.specs.declared.Image.{Image}
 use Rattle.codec.proofs.Lying.{nodes_in_lem}
-use Rattle.mending.specs.Mended.{mended}
 use Rattle.mending.proofs.Turns as turns
 use Rattle.mending.proofs.writing.mended_of.Goals as goal
 

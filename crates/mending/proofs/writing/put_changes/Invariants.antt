@@ -1,13 +1,9 @@
-use Prim.Native.Nat.{◌≤◌, ◌-◌, ◌+◌}
-use mathlib.Core.Path.{◌≡◌, refl, sym, ap, ◌∙◌}
-use native.Mathlib.Omega.{arith}
+use Prim.Native.Nat.{◌≤◌, ◌-◌}
+use mathlib.Core.Path.{◌≡◌}
 use lib.ListN.{length}
 use Rattle.lists.specs.Tab.{over}
-use Rattle.lists.proofs.TabLaws.{length_over}
 use Rattle.image.specs.Layout.{image_in}
-use Rattle.mending.specs.Mended.{reason_at, entry_of, changes}
-use Rattle.mending.proofs.Turns as turns
-use lib.ListN.{length-append}
+use Rattle.mending.specs.Mended.{changes}
 use Rattle.mending.proofs.writing.put_changes.Given as goal
 
 abbrev pub invariant-loop-i : goal.invariant-loop-i

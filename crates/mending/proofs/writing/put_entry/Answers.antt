@@ -1,11 +1,9 @@
-use mathlib.Core.Path.{refl, ap}
+use mathlib.Core.Path.{refl}
 use native.Mathlib.Omega.{arith}
-use native.Mathlib.Nat.{add-zero}
 use native.Mathlib.Numerals.{add-one}
 use borrow.Author.Tests.{eq-eqb, ne_eqb}
-use lib.ListN.{length-set, set}
+use lib.ListN.{length-set}
 use Rattle.lists.specs.Tab.{over}
-use borrow.Author.Rules.{rules}
 use Rattle.mending.proofs.writing.put_entry.Goals as goal
 
 pub returns-then-why-eq0 : goal.returns-then-why-eq0

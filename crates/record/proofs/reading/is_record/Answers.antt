@@ -1,6 +1,5 @@
 use Rattle.image.specs.Layout.{marked}
 use borrow.Author.Tests.{eq-eqb, ne_eqb}
-use borrow.Author.Rules.{rules}
 use Rattle.record.proofs.reading.is_record.Goals as goal
 
 pub returns-then-s-ne85 : goal.returns-then-s-ne85

@@ -1,9 +1,6 @@
 use Prim.Native.Nat.{◌≤◌, ◌-◌}
-use mathlib.Core.Path.{◌≡◌, ◌∙◌}
-use native.Mathlib.Omega.{arith}
-use borrow.Author.Rules.{rules}
+use mathlib.Core.Path.{◌≡◌}
 use Rattle.lists.specs.Tab.{front}
-use Rattle.lists.proofs.TabLaws as tabs
 use Rattle.image.specs.Layout.{no_contents}
 use Rattle.record.specs.Layout.{kept_in}
 use Rattle.record.proofs.reading.kept_in.Given as goal

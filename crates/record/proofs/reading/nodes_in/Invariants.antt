@@ -1,9 +1,6 @@
 use Prim.Native.Nat.{◌≤◌, ◌-◌}
-use mathlib.Core.Path.{◌≡◌, ◌∙◌}
-use native.Mathlib.Omega.{arith}
-use borrow.Author.Rules.{rules}
+use mathlib.Core.Path.{◌≡◌}
 use Rattle.lists.specs.Tab.{front}
-use Rattle.lists.proofs.TabLaws as tabs
 use Rattle.machine.specs.Record.{blank_nodes}
 use Rattle.record.specs.Layout.{node_in}
 use Rattle.record.proofs.reading.nodes_in.Given as goal

@@ -1,5 +1,4 @@
 use Rattle.record.specs.Layout.{record_in}
-use borrow.Author.Rules.{rules}
 use Rattle.record.proofs.reading.record_in.Goals as goal
 
 pub returns : goal.returns

@@ -1,9 +1,6 @@
-use Prim.Native.Nat.{ℕ, ◌≤◌, ◌-◌}
-use mathlib.Core.Path.{◌≡◌, ap, ◌∙◌}
-use native.Mathlib.Omega.{arith}
-use borrow.Author.Rules.{rules}
+use Prim.Native.Nat.{◌≤◌, ◌-◌}
+use mathlib.Core.Path.{◌≡◌}
 use Rattle.lists.specs.Tab.{front}
-use Rattle.lists.proofs.TabLaws as tabs
 use Rattle.machine.specs.Record.{no_sets}
 use Rattle.record.specs.Layout.{set_in}
 use Rattle.record.proofs.reading.sets_in.Given as goal

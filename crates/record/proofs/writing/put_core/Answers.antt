@@ -1,6 +1,3 @@
-use mathlib.Core.Path.{◌∙◌}
-use lib.ListN.{length-set}
-use borrow.Author.Rules.{rules}
 use Rattle.record.proofs.Laws as laws
 use Rattle.record.proofs.writing.put_core.Goals as goal
 

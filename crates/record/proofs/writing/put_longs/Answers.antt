@@ -1,9 +1,7 @@
-use Prim.Native.Nat.{◌≤◌, ◌-◌}
-use mathlib.Core.Path.{◌≡◌, ap, ◌∙◌}
+use mathlib.Core.Path.{◌≡◌, ap}
 use native.Mathlib.Omega.{arith}
-use borrow.Author.Rules.{rules}
 use lib.ListN.{length}
-use Rattle.lists.specs.Tab.{over, joined}
+use Rattle.lists.specs.Tab.{joined}
 use Rattle.lists.proofs.TabLaws as tabs
 use Rattle.record.specs.Layout.{long_part}
 use Rattle.record.proofs.Laws as laws

@@ -1,12 +1,7 @@
 use Prim.Native.Nat.{◌≤◌, ◌-◌}
-use mathlib.Core.Path.{◌≡◌, ap, ◌∙◌}
-use native.Mathlib.Omega.{arith}
-use borrow.Author.Rules.{rules}
-use lib.ListN.{length}
+use mathlib.Core.Path.{◌≡◌}
 use Rattle.lists.specs.Tab.{over, joined}
-use Rattle.lists.proofs.TabLaws as tabs
 use Rattle.record.specs.Layout.{node_part}
-use Rattle.record.proofs.Laws as laws
 use Rattle.record.proofs.writing.put_nodes.Given as goal
 
 abbrev pub invariant-loop-i : goal.invariant-loop-i

@@ -1,5 +1,4 @@
 use Rattle.record.proofs.Laws as laws
-use borrow.Author.Rules.{rules}
 use Rattle.record.proofs.writing.put_record.Goals as goal
 
 pub returns : goal.returns

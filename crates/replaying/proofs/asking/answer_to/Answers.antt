@@ -1,6 +1,5 @@
 use borrow.Author.Tests.{lt-ltb, le-ltb, eq-eqb, ne_eqb, not-true, not-false}
 use Rattle.replaying.specs.Probe.{asked}
-use borrow.Author.Rules.{rules}
 use Rattle.replaying.proofs.asking.answer_to.Goals as goal
 
 pub returns-then-x-gt5 : goal.returns-then-x-gt5

@@ -1,6 +1,5 @@
 use borrow.Author.Tests.{eq-eqb, ne_eqb}
 use Rattle.replaying.specs.Probe.{odd}
-use borrow.Author.Rules.{rules}
 use Rattle.replaying.proofs.asking.is_odd.Goals as goal
 
 pub returns-then-t-x : goal.returns-then-t-x

@@ -1,6 +1,5 @@
 use borrow.Author.Tests.{not-true, not-false}
 use Rattle.replaying.specs.Replay.{noted}
-use borrow.Author.Rules.{rules}
 use Rattle.replaying.proofs.asking.note.Goals as goal
 
 pub returns-then-r : goal.returns-then-r

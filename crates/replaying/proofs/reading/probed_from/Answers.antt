@@ -1,4 +1,3 @@
-use borrow.Author.Rules.{rules}
 use Rattle.replaying.proofs.reading.probed_from.Goals as goal
 
 pub returns : goal.returns

@@ -1,8 +1,6 @@
-use Prim.Native.Nat.{◌-◌, ◌<◌}
-use mathlib.Core.Path.{◌≡◌}
+use Prim.Native.Nat.{◌<◌}
 use native.Mathlib.Omega.{arith}
-use borrow.Author.Rules.{rules}
-use Rattle.schedule.specs.Layout.{schedule_shape, count_in}
+use Rattle.schedule.specs.Layout.{count_in}
 use Rattle.replaying.proofs.ReplayLaws as laws
 use Rattle.replaying.proofs.running.replay_events.Goals as goal
 

@@ -1,7 +1,5 @@
-use Prim.Native.Nat.{◌-◌, ◌<◌}
+use Prim.Native.Nat.{◌-◌}
 use mathlib.Core.Path.{◌≡◌}
-use native.Mathlib.Omega.{arith}
-use borrow.Author.Rules.{rules}
 use Rattle.schedule.specs.Layout.{schedule_shape, count_in}
 use Rattle.replaying.proofs.ReplayLaws as laws
 use Rattle.replaying.proofs.running.replay_events.Given as goal

@@ -1,5 +1,4 @@
 use mathlib.Core.Path.{sym, ap, ◌∙◌}
-use borrow.Author.Rules.{rules}
 use borrow.Author.Tests.{not-true, not-false}
 use Rattle.answer.specs.Answers.{accepted}
 use Rattle.replaying.specs.Replay.{nothing_odd}
