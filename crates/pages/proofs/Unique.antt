@@ -4,6 +4,7 @@ use mathlib.Core.Path.{◌≡◌, sym, ◌∙◌}
 use mathlib.Core.List.{List}
 use contract.Lifetimes.{Lfts}
 use denote.Ref.{Bor}
+use denote.MutBor.{MutBor}
 use Rattle.answer.proofs.Injective.{told_injective}
 use Rattle.answer.specs.declared.Answer.{Answer}
 use Rattle.pages.specs.declared.calls.Count.{Count}
@@ -21,7 +22,7 @@ count_one κs s r r' p q =
     λ k. record { answer = a k; count = c k }
 
 pub ending_one :
-    (κs : Lfts 2) (s : Bor (List ℕ)) (k : ℕ) (b z z' : Bor (List ℕ)) (r r' : Answer) →
+    (κs : Lfts 2) (s : Bor (List ℕ)) (k : ℕ) (b z z' : MutBor (List ℕ)) (r r' : Answer) →
     writing.Post κs (s, (k, (b, tt))) r (s, (k, (z, tt))) → writing.Post κs (s, (k, (b, tt))) r' (s, (k, (z', tt))) → (r ≡ r') × (z.now ≡ z'.now)
 ending_one κs s k b z z' r r' p q = (told_injective r r' (p.0 ∙ sym q.0), p.1 ∙ sym q.1)
 
