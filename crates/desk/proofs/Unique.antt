@@ -7,12 +7,12 @@ use native.Mathlib.Omega.{arith}
 use mathlib.Core.List.{List}
 use contract.Lifetimes.{Lfts}
 use denote.Ref.{Bor}
+use denote.MutBor.{MutBor}
 use lib.ListN.{length}
-use Rattle.answer.specs.Answers.{told, accepted}
-use Rattle.answer.specs.declared.Told.{Told}
+use Rattle.answer.specs.Answers.{accepted}
 use Rattle.answer.proofs.Injective.{told_injective}
 use Rattle.spelling.specs.declared.Spelled.{Spelled}
-use Rattle.spelling.specs.Writing.{spell_answer, spell_written}
+use Rattle.spelling.specs.Writing.{spell_answer}
 use Rattle.desk.proofs.spell_lines.Reads as spell
 use Rattle.desk.proofs.SpellLaws as spells
 use Rattle.spelling.specs.declared.Said.{Said}
@@ -22,7 +22,7 @@ use Rattle.spelling.specs.Reading.{Tells, tells, is_taken, read_answer}
 use Rattle.desk.proofs.read_words.Reads as read
 use Rattle.desk.proofs.ReadLaws as reads
 
-pub spell_one : (κs : Lfts 2) (s : Bor (List ℕ)) (k : ℕ) (b z z' : Bor (List ℕ)) (r r' : Spelled)
+pub spell_one : (κs : Lfts 2) (s : Bor (List ℕ)) (k : ℕ) (b z z' : MutBor (List ℕ)) (r r' : Spelled)
     → spell.Post κs (s, (k, (b, tt))) r (s, (k, (z, tt))) → spell.Post κs (s, (k, (b, tt))) r' (s, (k, (z', tt))) → (r ≡ r') × (z.now ≡ z'.now)
 spell_one κs s k b z z' r r' p q =
     let a = told_injective r.answer r'.answer (p.0 ∙ sym q.0) in
@@ -30,7 +30,7 @@ spell_one κs s k b z z' r r' p q =
     let n = p.1.1.0 ∙ sym q.1.1.0 in
     ((λ i. record { answer = a i; entries = e i; bytes = n i }), p.1.1.1 ∙ sym q.1.1.1)
 
-pub spell_refused : (κs : Lfts 2) (s : Bor (List ℕ)) (k : ℕ) (b z : Bor (List ℕ)) (r : Spelled)
+pub spell_refused : (κs : Lfts 2) (s : Bor (List ℕ)) (k : ℕ) (b z : MutBor (List ℕ)) (r : Spelled)
     → spell.Post κs (s, (k, (b, tt))) r (s, (k, (z, tt))) → accepted r.answer ≡ false → z.now ≡ b.now
 spell_refused κs s k b z r p h =
     let e = told_injective r.answer (spell_answer s.now k (length b.now)) p.0 in
@@ -64,14 +64,14 @@ says_injective Room (Large j) e = let n = ap (λ (z : Tells). z.number) e in abs
 says_injective Room (Many j) e = let n = ap (λ (z : Tells). z.number) e in absurd (omega (arith, n))
 says_injective Room Room e = refl
 
-pub read_one : (κs : Lfts 2) (t b z z' : Bor (List ℕ)) (r r' : Spelt)
+pub read_one : (κs : Lfts 2) (t : Bor (List ℕ)) (b z z' : MutBor (List ℕ)) (r r' : Spelt)
     → read.Post κs (t, (b, tt)) r (t, (z, tt)) → read.Post κs (t, (b, tt)) r' (t, (z', tt)) → (r ≡ r') × (z.now ≡ z'.now)
 read_one κs t b z z' r r' p q =
     let a = says_injective r.answer r'.answer (p.0 ∙ sym q.0) in
     let n = p.1.0 ∙ sym q.1.0 in
     ((λ i. record { answer = a i; bytes = n i }), p.1.1 ∙ sym q.1.1)
 
-pub read_refused : (κs : Lfts 2) (t b z : Bor (List ℕ)) (r : Spelt)
+pub read_refused : (κs : Lfts 2) (t : Bor (List ℕ)) (b z : MutBor (List ℕ)) (r : Spelt)
     → read.Post κs (t, (b, tt)) r (t, (z, tt)) → is_taken r.answer ≡ false → z.now ≡ b.now
 read_refused κs t b z r p h =
     let e = says_injective r.answer (read_answer t.now (length b.now)) p.0 in
