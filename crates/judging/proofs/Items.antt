@@ -1,17 +1,16 @@
 -- The items that a place shows, and when they are the recovered ones. Assumes nothing.
-use Prim.Native.Nat.{ℕ, zero, suc, ◌+◌, ◌-◌, ◌*◌, ◌≤◌, ◌<◌}
+use Prim.Native.Nat.{ℕ, suc, ◌+◌, ◌-◌, ◌*◌, ◌≤◌, ◌<◌}
 use mathlib.Core.Path.{◌≡◌, refl, sym, ap, ap₂, ◌∙◌}
 use mathlib.Core.Bool.{Bool, true, false, not}
 use mathlib.Core.List.{List, [], ◌∷◌, ◌++◌, append_assoc}
 use native.Mathlib.Omega.{arith}
-use native.Mathlib.Numerals.{add-one}
 use native.Mathlib.Decide.{dec_lt}
 use lib.ListN.{length, get_or, set, take, drop, length-append, length-drop, drop_of_length-le, get_or-append}
 use lib.Seq.{length-take-le, drop-cons, drop-append-le, take-suc-set, get_or-take, get_or-drop, get_or-append-add, ext_get_or}
-use lib.Dec.{eqb, ltb}
-use borrow.Author.Tests.{lt-ltb, le-ltb, ltb-true, ltb-false, eqb-true, eqb-false, eq-eqb, ne_eqb, not-true, not-false}
+use lib.Dec.{eqb}
+use borrow.Author.Tests.{lt-ltb, le-ltb, ltb-true, ltb-false, eqb-true, eq-eqb, not-true, not-false}
 use Rattle.lists.specs.Find.{pick, any}
-use Rattle.lists.proofs.BoolLaws.{no_way, false_true}
+use Rattle.lists.proofs.BoolLaws.{false_true}
 use Rattle.lists.proofs.FindLaws as find
 use Rattle.lists.proofs.TabLaws.{length_tab, get_or_tab}
 use Rattle.image.specs.Bytes.{at4}

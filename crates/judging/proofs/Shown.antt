@@ -1,27 +1,26 @@
 -- A place of the code shows the place of the search: what is eligible, what a taking leaves, when the search is finished. Assumes nothing.
 use Prim.Native.Nat.{ℕ, zero, suc, ◌+◌, ◌-◌, ◌≤◌, ◌<◌}
-use mathlib.Core.Path.{◌≡◌, refl, sym, ap, ap₂, subst, ◌∙◌}
+use mathlib.Core.Path.{◌≡◌, refl, sym, ap, ap₂, ◌∙◌}
 use mathlib.Core.Bool.{Bool, true, false, not}
 use mathlib.Core.List.{List, [], ◌∷◌, ◌++◌, append_assoc, append-nil}
 use mathlib.Core.Option.{Option, none, some}
 use mathlib.Core.Logic.{◌≢◌}
 use native.Mathlib.Omega.{arith}
-use native.Mathlib.Numerals.{add-one}
 use native.Mathlib.Decide.{ℕ_discrete}
-use lib.ListN.{length, get_or, set, take, drop, replicate, length-append, length-set, length-replicate, get_or-replicate}
+use lib.ListN.{length, get_or, set, replicate, length-append, length-set, get_or-replicate}
 use lib.Seq.{length-take-le, take-suc-set, set_at, get_or-set_same, get_or-set_other}
 use lib.Dec.{eqb, ltb}
-use borrow.Author.Tests.{lt-ltb, le-ltb, ltb-true, ltb-false, eqb-true, eqb-false, eq-eqb, ne_eqb}
+use borrow.Author.Tests.{ltb-true, eqb-true, eq-eqb, ne_eqb}
 use Rattle.lists.specs.Find.{pick, both, any}
-use Rattle.lists.proofs.BoolLaws.{no_way, false_true, both_true}
+use Rattle.lists.proofs.BoolLaws.{false_true, both_true}
 use Rattle.lists.proofs.FindLaws as find
-use Rattle.lawful.specs.Operation.{Operation, Reply, says}
+use Rattle.lawful.specs.Operation.{Operation, says}
 use Rattle.lawful.specs.Plain.{serve, take_by}
 use Rattle.lawful.specs.Lawful.{at}
 use Rattle.lawful.specs.Demand3.{Bytes}
-use Rattle.judging.specs.History.{count_in, first_count, first_in, last_in, kind_at, began_at, ended_at, answer_at, item_at, call_of, reply_by, operation_at, operations_in, kind_fits, time_fits, fits}
-use Rattle.judging.specs.Search.{is_in, same_items, owed, taking, finished}
-use Rattle.judging.specs.Place.{no_bytes, no_items, padded, order_in, items_in, queue_in, due, bar_below, any_due, item_of, is_there, same_queue, is_finished, gives, is_eligible, appended, removed, served, noted, took, fresh, Whole, Clear, flag, Ready}
+use Rattle.judging.specs.History.{count_in, first_count, first_in, last_in, kind_at, began_at, ended_at, answer_at, item_at, call_of, reply_by, operations_in, kind_fits, time_fits, fits}
+use Rattle.judging.specs.Search.{is_in, owed, taking, finished}
+use Rattle.judging.specs.Place.{no_bytes, no_items, padded, order_in, items_in, queue_in, due, any_due, item_of, is_there, same_queue, is_finished, gives, is_eligible, appended, removed, served, took, fresh, Whole, Clear, flag, Ready}
 use Rattle.judging.specs.declared.Place.{Place}
 use Rattle.judging.proofs.Taken.{operation_count, operation_is, answer_le, says_reply, at8_le}
 use Rattle.judging.proofs.Items as items

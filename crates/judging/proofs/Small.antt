@@ -1,6 +1,6 @@
 -- A verdict comes after at most a million tries, and its order has at most as many numbers as there are operations. Assumes nothing.
-use Prim.Native.Nat.{ℕ, zero, suc, ◌+◌, ◌≤◌, ◌<◌}
-use mathlib.Core.Path.{◌≡◌, refl, sym, ap, subst, ◌∙◌}
+use Prim.Native.Nat.{ℕ, zero, suc, ◌+◌, ◌≤◌}
+use mathlib.Core.Path.{◌≡◌, refl, sym, subst}
 use mathlib.Core.Bool.{Bool, true, false}
 use mathlib.Core.List.{List, [], ◌∷◌, ◌++◌}
 use mathlib.Core.Option.{Option, none, some}
@@ -11,7 +11,7 @@ use borrow.Author.Tests.{ltb-true}
 use Rattle.answer.specs.Answers.{accepted}
 use Rattle.lawful.specs.Operation.{Operation}
 use Rattle.judging.specs.History.{count_in, first_in, last_in, operations_in, history_answer}
-use Rattle.judging.specs.Search.{Verdict, lawful, unlawful, undecided, Judged, judged, taking, finished, or_else, consider, scan, searched, enough, judged_of}
+use Rattle.judging.specs.Search.{Verdict, lawful, unlawful, undecided, Judged, judged, taking, finished, or_else, consider, scan, searched, enough}
 use Rattle.judging.specs.Judged.{judged_in}
 use Rattle.judging.proofs.Taken.{operation_count}
 use Rattle.judging.proofs.Turns.{judged_refused, judged_taken}

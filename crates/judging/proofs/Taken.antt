@@ -1,24 +1,23 @@
 -- What a history that is taken has: its size, and operations that fit. Assumes nothing.
-use Prim.Native.Nat.{ℕ, zero, suc, ◌+◌, ◌*◌, ◌≤◌, ◌<◌}
-use mathlib.Core.Path.{◌≡◌, refl, sym, ap, ◌∙◌}
+use Prim.Native.Nat.{ℕ, zero, suc, ◌≤◌, ◌<◌}
+use mathlib.Core.Path.{◌≡◌, refl, sym, ◌∙◌}
 use mathlib.Core.Bool.{Bool, true, false, not}
 use mathlib.Core.List.{List}
 use native.Mathlib.Omega.{arith}
-use lib.ListN.{length, get_or}
+use lib.ListN.{length}
 use lib.Dec.{eqb, ltb, leb}
 use borrow.Author.Tests.{leb-true, eqb-true, ltb-true, ltb-false, not-false}
-use Rattle.lists.specs.Find.{pick, both, least}
+use Rattle.lists.specs.Find.{pick, both}
 use Rattle.lists.proofs.BoolLaws.{both_true, false_true, no_way}
 use Rattle.lists.proofs.FindLaws as find
 use Rattle.lists.proofs.TabLaws.{length_tab, get_or_tab}
 use Rattle.answer.specs.Answers.{accepted, check}
 use Rattle.answer.specs.declared.Answer.TheVariants.{Taken, Length, Kind, NotZero}
-use Rattle.image.specs.Bytes.{at1, at4}
 use Rattle.image.proofs.ByteLaws.{at_small}
-use Rattle.lawful.specs.Operation.{Operation, says}
+use Rattle.lawful.specs.Operation.{says}
 use Rattle.lawful.specs.Lawful.{at, no_operation}
 use Rattle.lawful.specs.Demand3.{Bytes}
-use Rattle.judging.specs.History.{at8, count_in, first_count, last_count, operation_place, kind_at, began_at, ended_at, answer_at, item_at, reply_by, operation_at, operations_in, kind_fits, time_fits, fits, odd, first_odd, fault_at, sized, history_answer}
+use Rattle.judging.specs.History.{at8, count_in, first_count, last_count, operation_place, kind_at, answer_at, reply_by, operation_at, operations_in, kind_fits, fits, odd, first_odd, fault_at, sized, history_answer}
 use Rattle.judging.specs.Place.{Whole, Clear, top}
 
 pub whole_of : (s : List ℕ) → sized s ≡ true → Whole s

@@ -1,21 +1,19 @@
 -- The search one candidate at a time, at the code's numbers. Assumes nothing.
 use Prim.Native.Nat.{ℕ, zero, suc, ◌+◌, ◌-◌, ◌≤◌, ◌<◌}
-use mathlib.Core.Path.{◌≡◌, refl, sym, ap, ap₂, subst, ◌∙◌}
+use mathlib.Core.Path.{◌≡◌, refl, sym, ap, ap₂, ◌∙◌}
 use mathlib.Core.Bool.{Bool, true, false}
 use mathlib.Core.List.{List, [], ◌∷◌, ◌++◌}
 use mathlib.Core.Option.{Option, none, some}
 use native.Mathlib.Omega.{arith}
 use lib.ListN.{length}
-use lib.Dec.{ltb}
 use borrow.Author.Tests.{lt-ltb, le-ltb}
 use Rattle.lists.specs.Find.{pick, least}
-use Rattle.lists.proofs.BoolLaws.{no_way, false_true}
 use Rattle.lists.proofs.FindLaws as find
 use Rattle.answer.specs.Answers.{accepted}
 use Rattle.lawful.specs.Operation.{Operation}
 use Rattle.judging.specs.History.{count_in, first_in, last_in, operations_in, history_answer}
 use Rattle.judging.specs.Search.{Verdict, lawful, unlawful, undecided, Judged, judged, taking, finished, or_else, consider, scan, searched, asked, enough, judged_of}
-use Rattle.judging.specs.Place.{no_bytes, padded, order_in, queue_in, is_finished, is_eligible, next_from, served, took, fresh, Whole, Clear, Ready}
+use Rattle.judging.specs.Place.{no_bytes, padded, order_in, queue_in, is_finished, is_eligible, next_from, took, fresh, Ready}
 use Rattle.judging.specs.Judged.{number_of, said_of, said_none, said_at, searched_at, asked_at, judged_in}
 use Rattle.judging.specs.declared.Place.{Place}
 use Rattle.judging.proofs.Taken.{operation_count}

@@ -1,6 +1,6 @@
 -- A history as bytes: how many operations, items at the start and items recovered there are (a byte each), the items (4 bytes each), then 22 bytes
 -- an operation: kind, begin time (8), answer time (8), answer, item (4). Numbers are little-endian.
-use Rattle.std.specs.Prelude.{ℕ, ◌+◌, ◌*◌, Bool, true, false, not, List, [], ◌∷◌, length, get_or, eqb, ltb, leb}
+use Rattle.std.specs.Prelude.{ℕ, ◌+◌, ◌*◌, Bool, true, not, List, [], ◌∷◌, length, get_or, eqb, ltb, leb}
 use Rattle.lists.specs.Find.{pick, both, least}
 use Rattle.lists.specs.Tab.{tab}
 use Rattle.answer.specs.Answers.{check}

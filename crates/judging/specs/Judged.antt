@@ -1,5 +1,5 @@
 -- What the judge gives back for the bytes of a history.
-use Rattle.std.specs.Prelude.{ℕ, Bool, true, false, List, [], length}
+use Rattle.std.specs.Prelude.{ℕ, List, [], length}
 use Rattle.lists.specs.Find.{pick}
 use Rattle.answer.specs.Answers.{accepted}
 use Rattle.judging.specs.History.{first_in, last_in, operations_in, history_answer}

@@ -1,6 +1,6 @@
 -- Where the search stands, as the code keeps it: the order so far, which operations are taken, the items appended and how many have been taken out again,
 -- and the least answer time of those that are answered and not taken. The order and the queue that a place shows are those of the search.
-use Rattle.std.specs.Prelude.{ℕ, zero, suc, ◌+◌, ◌-◌, ◌*◌, ◌≤◌, ◌<◌, ◌≡◌, Bool, true, false, not, List, [], ◌∷◌, ◌++◌, length, get_or, set, take, drop, replicate, eqb, ltb}
+use Rattle.std.specs.Prelude.{ℕ, zero, suc, ◌+◌, ◌-◌, ◌*◌, ◌≤◌, ◌<◌, ◌≡◌, Bool, true, false, not, List, ◌++◌, length, get_or, set, take, drop, replicate, eqb, ltb}
 use Rattle.lists.specs.Find.{pick, both, least, any}
 use Rattle.image.specs.Bytes.{at4}
 use Rattle.lawful.specs.Demand3.{Bytes}

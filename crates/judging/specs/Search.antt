@@ -1,7 +1,7 @@
 -- The ordered search for an order that shows a history lawful, with its tries counted.
 use Rattle.std.specs.Prelude.{ℕ, zero, suc, Bool, true, false, not, List, [], ◌∷◌, ◌++◌, length, eqb, ltb}
 use Rattle.std.proofs.Math.Option.{Option, none, some}
-use Rattle.lists.specs.Find.{pick, both, any}
+use Rattle.lists.specs.Find.{both, any}
 use Rattle.lawful.specs.Operation.{Operation, says}
 use Rattle.lawful.specs.Plain.{serve}
 use Rattle.lawful.specs.Lawful.{at}
