@@ -1,0 +1,15 @@
+use Prim.Native.Nat.{◌+◌, ◌-◌, ◌/◌, ◌%◌, ◌^◌, ◌<◌, ◌≤◌}
+use mathlib.Core.Path.{◌≡◌, sym, ap, subst, ◌∙◌}
+use native.Mathlib.Omega.{arith}
+use borrow.Author.Rules.{rules}
+use lib.ListN.{length, set, length-set}
+use Rattle.lists.specs.Tab.{over}
+use Rattle.plainruns.specs.Turns.{turn_of, no_picks, turn_in}
+use Rattle.plainruns.proofs.TurnLaws as laws
+use Rattle.plainruns.proofs.turns.turn_of.Given as goal
+
+abbrev pub invariant-loop-j : goal.invariant-loop-j
+invariant-loop-j l = (l.j ≤ l.n) × (length l.picks ≡ 6) × (l.w ≡ l.base ^ (l.n - l.j)) × (l.x < l.base ^ (l.n - l.j)) × (turn_in l.base l.n l.k ≡ over l.picks l.j (turn_of l.base (l.n - l.j) l.x))
+
+abbrev pub decreases-loop-j : goal.decreases-loop-j
+decreases-loop-j l = l.n - l.j
