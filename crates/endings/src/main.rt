@@ -2,26 +2,18 @@
 
 #![tactic(auto)]
 
-use libc::STDERR_FILENO;
-
-fn main() {
+fn main(rt: HostRuntime) {
     // The longest schedule has 25,430 bytes: what is longer than this is refused as its first part is.
     let mut s = [0u8; 32768];
-    let got = stream::fill(&mut s);
+    let got = stream::fill(&mut rt.stdin(), &mut s);
     if got.failed {
-        io::write_all(
-            STDERR_FILENO,
-            b"endings: standard input could not be read to its end, no page is printed\n",
-        );
+        let _ = eprintln!(rt; "endings: standard input could not be read to its end, no page is printed");
         return;
     }
-    let mut b = io::large_buffer();
+    let mut b = [0u8; 65536];
     let bytes = got.bytes;
-    let printed = printer::print_page(&s[..bytes], &mut b);
+    let printed = printer::print_page(&mut rt.stdout(), &s[..bytes], &mut b);
     if !printed.whole {
-        io::write_all(
-            STDERR_FILENO,
-            b"endings: standard output took no more, the page is not whole\n",
-        );
+        let _ = eprintln!(rt; "endings: standard output took no more, the page is not whole");
     }
 }

@@ -3,76 +3,68 @@
 #![tactic(auto)]
 
 use judging::{Judgement, Verdict};
-use libc::{STDERR_FILENO, STDIN_FILENO, STDOUT_FILENO};
+use std::io;
 
-// The line's end; that standard output did not take it is told.
-fn end_line() {
-    if !io::write_all(STDOUT_FILENO, b"\n") {
-        io::write_all(
-            STDERR_FILENO,
-            b"judge: standard output took no more, the line is not whole\n",
-        );
+// The line's end; that standard output did not take the line is told.
+fn end_line(rt: &(impl Print + Eprint), line: io::Result<()>) {
+    if line.is_err() || println!(rt; "").is_err() {
+        let _ = eprintln!(rt; "judge: standard output took no more, the line is not whole");
     }
 }
 
-fn print_tries(tries: u32) {
-    io::print_decimal(STDOUT_FILENO, tries as u64);
-    io::write_all(STDOUT_FILENO, b" tries");
+fn print_tries(rt: &impl Print, tries: u32) -> io::Result<()> {
+    print!(rt; "{tries} tries")
 }
 
-fn print_order(order: [u8; 16], count: u8) {
-    io::write_all(STDOUT_FILENO, b" order");
+fn print_order(rt: &impl Print, order: [u8; 16], count: u8) -> io::Result<()> {
+    print!(rt; " order")?;
     for i in 0..16 {
         if i < (count as usize) {
-            io::write_all(STDOUT_FILENO, b" ");
             let k = order[i];
-            io::print_decimal(STDOUT_FILENO, k as u64);
+            print!(rt; " {k}")?;
         }
     }
+    Ok(())
 }
 
-fn print_judged(r: Judgement) {
+fn print_judged(rt: &impl Print, r: Judgement) -> io::Result<()> {
     let verdict = r.verdict;
     match verdict {
         Verdict::Lawful => {
-            io::write_all(STDOUT_FILENO, b"lawful ");
-            print_tries(r.tries);
+            print!(rt; "lawful ")?;
+            print_tries(rt, r.tries)?;
             let order = r.order;
-            print_order(order, r.count);
+            print_order(rt, order, r.count)
         }
         Verdict::Unlawful => {
-            io::write_all(STDOUT_FILENO, b"unlawful ");
-            print_tries(r.tries);
+            print!(rt; "unlawful ")?;
+            print_tries(rt, r.tries)
         }
         Verdict::Undecided => {
-            io::write_all(STDOUT_FILENO, b"undecided ");
-            print_tries(r.tries);
+            print!(rt; "undecided ")?;
+            print_tries(rt, r.tries)
         }
     }
-    end_line();
 }
 
-fn main() {
+fn main(rt: HostRuntime) {
     // The longest history has 859 bytes: what is longer than this is refused as its first part is.
     let mut h = [0u8; 1024];
-    let got = io::read_full(STDIN_FILENO, &mut h);
-    if got < 1024 && !stream::at_end() {
-        io::write_all(
-            STDERR_FILENO,
-            b"judge: standard input could not be read to its end, no verdict is printed\n",
-        );
+    let mut input = rt.stdin();
+    let got = stream::fill(&mut input, &mut h).bytes;
+    if got < 1024 && !stream::at_end(&mut input) {
+        let _ = eprintln!(rt; "judge: standard input could not be read to its end, no verdict is printed");
         return;
     }
     let r = judging::judge_history(&h[..got]);
     let a = r.answer;
     if !answer::is_taken(a) {
         let t = answer::told_of(a);
-        io::write_all(STDOUT_FILENO, b"refused ");
-        io::print_decimal(STDOUT_FILENO, t.number as u64);
-        io::write_all(STDOUT_FILENO, b" at ");
-        io::print_decimal(STDOUT_FILENO, t.place as u64);
-        end_line();
+        end_line(
+            &rt,
+            print!(rt; "refused {} at {}", t.number, t.place),
+        );
         return;
     }
-    print_judged(r);
+    end_line(&rt, print_judged(&rt, r));
 }

@@ -9,6 +9,7 @@ ghost use Rattle.std.specs.Prelude.{◌≤◌, length};
 
 use printer::print_page;
 use progress::{say, tell_done, tell_end};
+use std::io::{Read, Write};
 use stream::next_item;
 
 // Whether a page was printed whole, and how many refusals there are with it.
@@ -29,13 +30,20 @@ fn one_more(refused: u64, more: bool) -> u64 {
 }
 
 // The page of the next schedule.
-fn print_next(s: &mut [u8], b: &mut [u8], refused: u64) -> Turn
+fn print_next(
+    rt: &impl Eprint,
+    input: &mut impl Read,
+    out: &mut impl Write,
+    s: &mut [u8],
+    b: &mut [u8],
+    refused: u64,
+) -> Turn
     requires { (731 ≤ length b.old) × (length b.old ≤ 65536) }
 {
-    let next = next_item(s);
+    let next = next_item(input, s);
     if !next.there {
         if next.cut {
-            say(b"many: the input ends within a schedule, or a read failed\n");
+            say(rt, "many: the input ends within a schedule, or a read failed\n");
         }
         return Turn {
             more: false,
@@ -43,9 +51,9 @@ fn print_next(s: &mut [u8], b: &mut [u8], refused: u64) -> Turn
         };
     }
     let kept = next.kept;
-    let printed = print_page(&s[..kept], b);
+    let printed = print_page(out, &s[..kept], b);
     if !printed.whole {
-        say(b"many: standard output took no more\n");
+        say(rt, "many: standard output took no more\n");
     }
     Turn {
         more: printed.whole,
@@ -61,27 +69,39 @@ struct Totals {
 }
 
 // Nothing says that the input ends, so the pages are counted up to a number that no run reaches.
-fn print_all(s: &mut [u8], b: &mut [u8]) -> Totals
+fn print_all(
+    rt: &impl Eprint,
+    input: &mut impl Read,
+    out: &mut impl Write,
+    s: &mut [u8],
+    b: &mut [u8],
+) -> Totals
     requires { (731 ≤ length b.old) × (length b.old ≤ 65536) }
 {
     let mut done: u64 = 0;
     let mut refused: u64 = 0;
     while done < u64::MAX {
-        let turn = print_next(s, b, refused);
+        let turn = print_next(rt, input, out, s, b, refused);
         if !turn.more {
             return Totals { done, refused };
         }
         refused = turn.refused;
         done += 1;
-        tell_done(done);
+        tell_done(rt, done);
     }
     Totals { done, refused }
 }
 
-fn main() {
+fn main(rt: HostRuntime) {
     // The longest schedule has 25,430 bytes: what is longer than this is refused as its first part is.
     let mut s = [0u8; 32768];
-    let mut b = io::large_buffer();
-    let totals = print_all(&mut s, &mut b);
-    tell_end(totals.done, totals.refused);
+    let mut b = [0u8; 65536];
+    let totals = print_all(
+        &rt,
+        &mut rt.stdin(),
+        &mut rt.stdout(),
+        &mut s,
+        &mut b,
+    );
+    tell_end(&rt, totals.done, totals.refused);
 }

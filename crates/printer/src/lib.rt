@@ -1,5 +1,5 @@
 // A schedule's page on standard output, a lent buffer at a time. The schedule is run once. One function writes, and takes only what is
-// the next part of the page: each is written once, in order, and nothing else. That the system takes it on is io's and its own part.
+// the next part of the page: each is written once, in order, and nothing else. That the system takes it on is std's and its own part.
 
 #![tactic(auto)]
 
@@ -17,9 +17,9 @@ ghost use Rattle.printer.specs.Parts.{NextPart};
 
 use answer::Answer;
 use image::{Content, Shape};
-use libc::STDOUT_FILENO;
 use runs::running::Run;
 use sheet::sheet::sheet_of;
+use std::io::Write;
 
 // Whether the schedule was refused, whether standard output took the whole text, and then its length.
 #[derive(Clone, Copy)]
@@ -30,29 +30,30 @@ pub struct Printed {
 }
 
 // The first n bytes of b, which are the next part of the page of s; `done` counts the bytes that are written.
-fn write_front(s: &[u8], b: &[u8], n: usize, done: &mut usize) -> bool
+fn write_front(out: &mut impl Write, s: &[u8], b: &[u8], n: usize, done: &mut usize) -> bool
     requires { NextPart (printed s.now) done.old b.now n }
     ensures { result ≡ true → done.new ≡ done.old + n }
 {
-    if !io::write_all(STDOUT_FILENO, &b[..n]) {
+    if out.write_all(&b[..n]).is_err() {
         return false;
     }
     *done += n;
     true
 }
 
-fn print_refused(s: &[u8], a: Answer, done: &mut usize) -> bool
+fn print_refused(out: &mut impl Write, s: &[u8], a: Answer, done: &mut usize) -> bool
     requires { (refused_line a ≡ printed s.now) × (done.old ≡ 0) }
     ensures { result ≡ true → done.new ≡ length (printed s.now) }
 {
     let mut b = [0u8; 64];
     let place = printing::whole::write_refused(&mut b, 0, a);
-    write_front(s, &b, place, done)
+    write_front(out, s, &b, place, done)
 }
 
 // A buffer of lines at a time, told from the table and its sheet, which is made once: it has room for the longest, so each turn prints one
 // at least.
 fn print_lines(
+    out: &mut impl Write,
     s: &[u8],
     t: [[Content; 16]; 72],
     counts: [u8; 72],
@@ -78,7 +79,7 @@ fn print_lines(
         let filled = filling::fill_told(
             t, counts, z, &slots, told, &ranks, &items, &starts, threads, events, count, next, b,
         );
-        if !write_front(s, b, filled.place, done) {
+        if !write_front(out, s, b, filled.place, done) {
             return false;
         }
         next = filled.next;
@@ -87,7 +88,7 @@ fn print_lines(
 }
 
 // The page of a run that is not refused.
-fn print_run(s: &[u8], r: Run, b: &mut [u8], done: &mut usize) -> bool
+fn print_run(out: &mut impl Write, s: &[u8], r: Run, b: &mut [u8], done: &mut usize) -> bool
     requires { PageIs s.now r × (accepted r.answer ≡ true) × (731 ≤ length b.old) × (length b.old ≤ 65536) × (done.old ≡ 0) }
     ensures { result ≡ true → done.new ≡ length (printed s.now) }
 {
@@ -103,11 +104,11 @@ fn print_run(s: &[u8], r: Run, b: &mut [u8], done: &mut usize) -> bool
     let o = codec::open_schedule(s);
     let d = o.schedule;
     let t = runs::tables::table_of(rows);
-    print_lines(s, t, counts, z, d.t, d.count, count, b, done)
+    print_lines(out, s, t, counts, z, d.t, d.count, count, b, done)
 }
 
 // The page, or the line of its refusal. The buffer has room for the longest line.
-pub fn print_page(s: &[u8], b: &mut [u8]) -> Printed
+pub fn print_page(out: &mut impl Write, s: &[u8], b: &mut [u8]) -> Printed
     requires { (731 ≤ length b.old) × (length b.old ≤ 65536) }
     ensures refuses { result.refused ≡ not (accepted (page_answer s.now)) }
     ensures prints { result.whole ≡ true → result.bytes ≡ length (printed s.now) }
@@ -116,14 +117,14 @@ pub fn print_page(s: &[u8], b: &mut [u8]) -> Printed
     let r = runs::paging::page_of(s);
     let a = r.answer;
     if !answer::is_taken(a) {
-        let whole = print_refused(s, a, &mut done);
+        let whole = print_refused(out, s, a, &mut done);
         return Printed {
             refused: true,
             whole,
             bytes: done,
         };
     }
-    let whole = print_run(s, r, b, &mut done);
+    let whole = print_run(out, s, r, b, &mut done);
     Printed {
         refused: false,
         whole,

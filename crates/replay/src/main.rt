@@ -2,19 +2,14 @@
 
 #![tactic(auto)]
 
-use libc::STDERR_FILENO;
-
-fn main() {
+fn main(rt: HostRuntime) {
     // The longest probe file has 50,006 bytes: what is longer than this is refused as its first part is.
-    let mut s = io::large_buffer();
-    let got = stream::fill(&mut s);
+    let mut s = [0u8; 65536];
+    let got = stream::fill(&mut rt.stdin(), &mut s);
     if got.failed {
-        io::write_all(
-            STDERR_FILENO,
-            b"replay: standard input could not be read to its end, nothing is replayed\n",
-        );
+        let _ = eprintln!(rt; "replay: standard input could not be read to its end, nothing is replayed");
         return;
     }
     let n = got.bytes;
-    replayed::print_file(&s[..n]);
+    replayed::print_file(&rt, &s[..n]);
 }

@@ -3,75 +3,53 @@
 
 #![tactic(auto)]
 
-use libc::{STDERR_FILENO, STDOUT_FILENO};
 use replaying::Replayed;
+use std::io;
 
-// The line's end; that standard output did not take it is told.
-fn end_line() {
-    if !io::write_all(STDOUT_FILENO, b"\n") {
-        io::write_all(
-            STDERR_FILENO,
-            b"replay: standard output took no more, the line is not whole\n",
-        );
+// The line's end; that standard output did not take the line is told.
+fn end_line(rt: &(impl Print + Eprint), line: io::Result<()>) {
+    if line.is_err() || println!(rt; "").is_err() {
+        let _ = eprintln!(rt; "replay: standard output took no more, the line is not whole");
     }
 }
 
-fn print_item(item: u32) {
-    io::write_all(STDOUT_FILENO, b"item ");
-    io::print_decimal(STDOUT_FILENO, item as u64);
+fn print_item(rt: &impl Print, item: u32) -> io::Result<()> {
+    print!(rt; "item {item}")
 }
 
 // An answer in words.
-fn print_answer(k: u8, item: u32) {
+fn print_answer(rt: &impl Print, k: u8, item: u32) -> io::Result<()> {
     match k {
-        0 => {
-            io::write_all(STDOUT_FILENO, b"no answer");
-        }
-        1 => {
-            io::write_all(STDOUT_FILENO, b"Done");
-        }
-        2 => {
-            io::write_all(STDOUT_FILENO, b"Full");
-        }
-        3 => {
-            io::write_all(STDOUT_FILENO, b"Worn out");
-        }
-        4 => {
-            print_item(item);
-        }
-        5..=255 => {
-            io::write_all(STDOUT_FILENO, b"Empty");
-        }
+        0 => print!(rt; "no answer"),
+        1 => print!(rt; "Done"),
+        2 => print!(rt; "Full"),
+        3 => print!(rt; "Worn out"),
+        4 => print_item(rt, item),
+        5..=255 => print!(rt; "Empty"),
     }
 }
 
-fn print_replayed(r: Replayed) {
+fn print_replayed(rt: &impl Print, r: Replayed) -> io::Result<()> {
     if !r.differs {
-        io::write_all(STDOUT_FILENO, b"all agree");
-        end_line();
-        return;
+        return print!(rt; "all agree");
     }
-    io::write_all(STDOUT_FILENO, b"event ");
-    io::print_decimal(STDOUT_FILENO, r.event as u64);
-    io::write_all(STDOUT_FILENO, b": recorded ");
-    print_answer(r.seen, r.seen_item);
-    io::write_all(STDOUT_FILENO, b", the machine gives ");
-    print_answer(r.given, r.given_item);
-    end_line();
+    print!(rt; "event {}: recorded ", r.event)?;
+    print_answer(rt, r.seen, r.seen_item)?;
+    print!(rt; ", the machine gives ")?;
+    print_answer(rt, r.given, r.given_item)
 }
 
 // The line of the file that the bytes are.
-pub fn print_file(s: &[u8]) {
+pub fn print_file(rt: &(impl Print + Eprint), s: &[u8]) {
     let r = replaying::replay(s);
     let a = r.answer;
     if !answer::is_taken(a) {
         let t = answer::told_of(a);
-        io::write_all(STDOUT_FILENO, b"refused ");
-        io::print_decimal(STDOUT_FILENO, t.number as u64);
-        io::write_all(STDOUT_FILENO, b" at ");
-        io::print_decimal(STDOUT_FILENO, t.place as u64);
-        end_line();
+        end_line(
+            rt,
+            print!(rt; "refused {} at {}", t.number, t.place),
+        );
         return;
     }
-    print_replayed(r);
+    end_line(rt, print_replayed(rt, r));
 }
