@@ -24,9 +24,9 @@ use contents::{answer_contents, answer_wide_contents};
 use conversions::answer_converted;
 use desks::{answer_exported, answer_imported};
 use images::answer_image;
-use libc::STDIN_FILENO;
 use mended::answer_mended;
 use schedules::answer_schedule;
+use std::io::Read;
 use stream::next_item;
 
 fn answer_one(mode: u8, s: &[u8], out: &mut Output, at: usize) -> usize {
@@ -45,11 +45,11 @@ fn answer_one(mode: u8, s: &[u8], out: &mut Output, at: usize) -> usize {
 }
 
 // Nothing says that the input ends, so the turns are counted down from a number that no run uses up.
-fn answer_all(mode: u8, item: &mut [u8], out: &mut Output) -> usize {
+fn answer_all(input: &mut impl Read, mode: u8, item: &mut [u8], out: &mut Output) -> usize {
     let mut at = 0;
     let mut turns = u64::MAX;
     while turns > 0 {
-        let next = next_item(item);
+        let next = next_item(input, item);
         if !next.there {
             break;
         }
@@ -61,12 +61,13 @@ fn answer_all(mode: u8, item: &mut [u8], out: &mut Output) -> usize {
     at
 }
 
-fn main() {
+fn main(rt: HostRuntime) {
+    let mut input = rt.stdin();
     let mut mode = [0u8; 1];
-    io::read_full(STDIN_FILENO, &mut mode);
+    stream::fill(&mut input, &mut mode);
     // Longer than any image or schedule; what is longer still is refused as its first part is.
     let mut item = [0u8; 40000];
-    let mut out = [0u8; 65536];
-    let at = answer_all(mode[0], &mut item, &mut out);
+    let mut out = Output::new(rt.stdout());
+    let at = answer_all(&mut input, mode[0], &mut item, &mut out);
     finish(&out, at);
 }

@@ -6,6 +6,7 @@
 use answer::told_of;
 use compare::text::{Output, finish, put, put_all, put_decimal, put_refusal};
 use judging::Verdict;
+use std::io::Read;
 use stream::next_item;
 
 fn put_order(out: &mut Output, at: usize, order: [u8; 16], count: usize) -> usize {
@@ -52,11 +53,11 @@ fn answer_history(s: &[u8], out: &mut Output, at: usize) -> usize {
 }
 
 // Nothing says that the input ends, so the turns are counted down from a number that no run uses up.
-fn answer_all(item: &mut [u8], out: &mut Output) -> usize {
+fn answer_all(input: &mut impl Read, item: &mut [u8], out: &mut Output) -> usize {
     let mut at = 0;
     let mut turns = u64::MAX;
     while turns > 0 {
-        let next = next_item(item);
+        let next = next_item(input, item);
         if !next.there {
             break;
         }
@@ -68,10 +69,11 @@ fn answer_all(item: &mut [u8], out: &mut Output) -> usize {
     at
 }
 
-fn main() {
+fn main(rt: HostRuntime) {
+    let mut input = rt.stdin();
     // Longer than any history; what is longer still is refused as its first part is.
     let mut item = [0u8; 1024];
-    let mut out = [0u8; 65536];
-    let at = answer_all(&mut item, &mut out);
+    let mut out = Output::new(rt.stdout());
+    let at = answer_all(&mut input, &mut item, &mut out);
     finish(&out, at);
 }

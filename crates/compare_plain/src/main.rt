@@ -10,14 +10,15 @@ mod images;
 
 use compare::text::{Output, finish};
 use images::answer_schedule;
+use std::io::Read;
 use stream::next_item;
 
 // Nothing says that the input ends, so the turns are counted down from a number that no run uses up.
-fn answer_all(item: &mut [u8], lent: &mut [u8], out: &mut Output) -> usize {
+fn answer_all(input: &mut impl Read, item: &mut [u8], lent: &mut [u8], out: &mut Output) -> usize {
     let mut at = 0;
     let mut turns = u64::MAX;
     while turns > 0 {
-        let next = next_item(item);
+        let next = next_item(input, item);
         if !next.there {
             break;
         }
@@ -29,11 +30,12 @@ fn answer_all(item: &mut [u8], lent: &mut [u8], out: &mut Output) -> usize {
     at
 }
 
-fn main() {
+fn main(rt: HostRuntime) {
+    let mut input = rt.stdin();
     // Longer than any schedule; what is longer still is refused as its first part is.
     let mut item = [0u8; 40000];
     let mut lent = [0xaau8; 65536];
-    let mut out = [0u8; 65536];
-    let at = answer_all(&mut item, &mut lent, &mut out);
+    let mut out = Output::new(rt.stdout());
+    let at = answer_all(&mut input, &mut item, &mut lent, &mut out);
     finish(&out, at);
 }

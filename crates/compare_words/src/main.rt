@@ -10,8 +10,8 @@ ghost use Rattle.std.specs.Prelude.{◌≤◌, length};
 
 use answer::told_of;
 use compare::text::{Output, finish, put, put_all, put_front, put_pair, put_refusal};
-use libc::STDIN_FILENO;
 use spelling::{Said, Spelled};
+use std::io::Read;
 use stream::{half, next_item};
 
 // The first n bytes, or all where there are fewer.
@@ -93,11 +93,11 @@ fn answer_one(mode: u8, s: &[u8], out: &mut Output, at: usize) -> usize {
 }
 
 // Nothing says that the input ends, so the turns are counted down from a number that no run uses up.
-fn answer_all(mode: u8, item: &mut [u8], out: &mut Output) -> usize {
+fn answer_all(input: &mut impl Read, mode: u8, item: &mut [u8], out: &mut Output) -> usize {
     let mut at = 0;
     let mut turns = u64::MAX;
     while turns > 0 {
-        let next = next_item(item);
+        let next = next_item(input, item);
         if !next.there {
             break;
         }
@@ -109,12 +109,13 @@ fn answer_all(mode: u8, item: &mut [u8], out: &mut Output) -> usize {
     at
 }
 
-fn main() {
+fn main(rt: HostRuntime) {
+    let mut input = rt.stdin();
     let mut mode = [0u8; 1];
-    io::read_full(STDIN_FILENO, &mut mode);
+    stream::fill(&mut input, &mut mode);
     // Longer than any schedule and than the texts that are compared.
     let mut item = [0u8; 131072];
-    let mut out = [0u8; 65536];
-    let at = answer_all(mode[0], &mut item, &mut out);
+    let mut out = Output::new(rt.stdout());
+    let at = answer_all(&mut input, mode[0], &mut item, &mut out);
     finish(&out, at);
 }

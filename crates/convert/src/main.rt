@@ -3,23 +3,20 @@
 
 #![tactic(auto)]
 
+ghost use Rattle.std.specs.Prelude.{◌≤◌, length};
+
 use answer::{Answer, Told};
-use libc::{STDERR_FILENO, STDIN_FILENO, STDOUT_FILENO};
+use std::io::Read;
+use std::rt::Env;
 
 // What was not done, and why.
-fn complain(why: &[u8]) {
-    io::write_all(STDERR_FILENO, b"convert: ");
-    io::write_all(STDERR_FILENO, why);
-    io::write_all(STDERR_FILENO, b"\n");
+fn complain(rt: &impl Eprint, why: &str) {
+    let _ = eprintln!(rt; "convert: {why}");
 }
 
-fn refused(t: Told) {
-    io::write_all(STDOUT_FILENO, b"refused ");
-    io::print_decimal(STDOUT_FILENO, t.number as u64);
-    io::write_all(STDOUT_FILENO, b" at ");
-    io::print_decimal(STDOUT_FILENO, t.place as u64);
-    if !io::write_all(STDOUT_FILENO, b"\n") {
-        complain(b"standard output took no more, the line is not whole");
+fn refused(rt: &(impl Print + Eprint), t: Told) {
+    if println!(rt; "refused {} at {}", t.number, t.place).is_err() {
+        complain(rt, "standard output took no more, the line is not whole");
     }
 }
 
@@ -62,10 +59,20 @@ fn size_of(n: u8, to: u8, t: u8) -> usize {
     10 + (n as usize) * 9
 }
 
+// The argument of a number in the buffer's front, and how many bytes it has; 0 where there is none, or it is longer than the buffer.
+fn argument(rt: &impl Env, i: usize, word: &mut [u8]) -> usize
+    ensures { result ≤ length word.new }
+{
+    match rt.arg(i, word) {
+        Ok(n) => n,
+        Err(_) => 0,
+    }
+}
+
 // A second argument of one digit; of anything else 0, which is refused by 4.
-fn threads() -> u8 {
+fn threads(rt: &impl Env) -> u8 {
     let mut word = [0u8; 8];
-    let n = os::arg(2, &mut word);
+    let n = argument(rt, 2, &mut word);
     if n != 1 {
         return 0;
     }
@@ -80,52 +87,59 @@ fn threads() -> u8 {
 }
 
 // The first n bytes, or all where there are fewer.
-fn print(b: &[u8], n: usize) -> bool {
+fn print(rt: &impl Print, b: &[u8], n: usize) -> bool {
     if n < b.len() {
-        return io::write_all(STDOUT_FILENO, &b[..n]);
+        return rt.write_all(&b[..n]).is_ok();
     }
-    io::write_all(STDOUT_FILENO, b)
+    rt.write_all(b).is_ok()
 }
 
-fn convert(to: u8, t: u8) {
+fn convert(rt: &(impl Print + Eprint), input: &mut impl Read, to: u8, t: u8) {
     // The longest image has 846 bytes: what is longer than this is refused as its first part is.
     let mut s = [0u8; 1024];
-    let got = io::read_full(STDIN_FILENO, &mut s);
-    if got < 1024 && !stream::at_end() {
-        complain(b"standard input could not be read to its end, no image is written");
+    let got = stream::fill(input, &mut s).bytes;
+    if got < 1024 && !stream::at_end(input) {
+        complain(
+            rt,
+            "standard input could not be read to its end, no image is written",
+        );
         return;
     }
     let mut b = [0u8; 846];
     let a = converted(&s[..got], &mut b, to, t);
     if !answer::is_taken(a) {
-        refused(answer::told_of(a));
+        refused(rt, answer::told_of(a));
         return;
     }
     let size = size_of(s[5], to, t);
-    if !print(&b, size) {
-        complain(b"standard output took no more, the image is not whole");
+    if !print(rt, &b, size) {
+        complain(rt, "standard output took no more, the image is not whole");
     }
 }
 
-fn main() {
+fn main(rt: HostRuntime) {
+    let mut input = rt.stdin();
     let mut word = [0u8; 8];
-    let n = os::arg(1, &mut word);
+    let n = argument(&rt, 1, &mut word);
     if is_word(&word[..n], b"wide") {
-        convert(2, 0);
+        convert(&rt, &mut input, 2, 0);
         return;
     }
     if is_word(&word[..n], b"narrow") {
-        convert(1, 0);
+        convert(&rt, &mut input, 1, 0);
         return;
     }
     if is_word(&word[..n], b"import") {
-        convert(3, 0);
+        convert(&rt, &mut input, 3, 0);
         return;
     }
     if is_word(&word[..n], b"export") {
-        let t = threads();
-        convert(4, t);
+        let t = threads(&rt);
+        convert(&rt, &mut input, 4, t);
         return;
     }
-    complain(b"the argument is `wide`, `narrow`, `import`, or `export` and T");
+    complain(
+        &rt,
+        "the argument is `wide`, `narrow`, `import`, or `export` and T",
+    );
 }

@@ -3,36 +3,28 @@
 
 #![tactic(auto)]
 
-use libc::{STDERR_FILENO, STDOUT_FILENO};
+ghost use Rattle.std.specs.Prelude.{◌≤◌, length};
 
-fn complain(why: &[u8]) {
-    io::write_all(STDERR_FILENO, b"despatch: ");
-    io::write_all(STDERR_FILENO, why);
-    io::write_all(STDERR_FILENO, b"\n");
+use std::io;
+use std::io::Read;
+use std::rt::Env;
+
+fn complain(rt: &impl Eprint, why: &str) {
+    let _ = eprintln!(rt; "despatch: {why}");
 }
 
-fn end_line() -> bool {
-    io::write_all(STDOUT_FILENO, b"\n")
+fn end_line(rt: &impl Print) -> io::Result<()> {
+    println!(rt; "")
 }
 
 // The group in the request's words.
-fn print_group(group: u8) {
+fn print_group(rt: &impl Print, group: u8) -> io::Result<()> {
     match group {
-        1 => {
-            io::write_all(STDOUT_FILENO, b"handed out");
-        }
-        2 => {
-            io::write_all(STDOUT_FILENO, b"still queued");
-        }
-        3 => {
-            io::write_all(STDOUT_FILENO, b"turned away");
-        }
-        4 => {
-            io::write_all(STDOUT_FILENO, b"taken without an answer");
-        }
-        0 | 5..=255 => {
-            io::write_all(STDOUT_FILENO, b"never in");
-        }
+        1 => print!(rt; "handed out"),
+        2 => print!(rt; "still queued"),
+        3 => print!(rt; "turned away"),
+        4 => print!(rt; "taken without an answer"),
+        0 | 5..=255 => print!(rt; "never in"),
     }
 }
 
@@ -44,45 +36,37 @@ fn byte(s: &[u8], i: usize) -> u8 {
 }
 
 // Whether standard output took it.
-fn print_entry(b: &[u8], at: usize) -> bool {
+fn print_entry(rt: &impl Print, b: &[u8], at: usize) -> io::Result<()> {
     if 524288 < at {
-        return true;
+        return Ok(());
     }
-    io::write_all(STDOUT_FILENO, b"event ");
-    io::print_decimal(STDOUT_FILENO, stream::half(b, at) as u64);
-    io::write_all(STDOUT_FILENO, b" thread ");
-    io::print_decimal(STDOUT_FILENO, byte(b, at + 2) as u64);
-    io::write_all(STDOUT_FILENO, b" item ");
-    io::print_decimal(STDOUT_FILENO, stream::word(b, at + 4) as u64);
-    io::write_all(STDOUT_FILENO, b": ");
-    print_group(byte(b, at + 3));
-    end_line()
+    let event = stream::half(b, at);
+    let thread = byte(b, at + 2);
+    let item = stream::word(b, at + 4);
+    print!(rt; "event {event} thread {thread} item {item}: ")?;
+    print_group(rt, byte(b, at + 3))?;
+    end_line(rt)
 }
 
-fn print_list(b: &[u8], count: u16) {
+fn print_list(rt: &(impl Print + Eprint), b: &[u8], count: u16) {
     if count == 0 {
-        io::write_all(STDOUT_FILENO, b"nothing was enqueued since the last start");
-        end_line();
+        let _ = println!(rt; "nothing was enqueued since the last start");
         return;
     }
     let last = (count as usize) * 8;
     let mut at = 0;
     while at < last {
-        if !print_entry(b, at) {
-            complain(b"standard output took no more, the list is not whole");
+        if print_entry(rt, b, at).is_err() {
+            complain(rt, "standard output took no more, the list is not whole");
             return;
         }
         at += 8;
     }
 }
 
-fn print_refusal(number: u8, place: u32) {
-    io::write_all(STDOUT_FILENO, b"refused ");
-    io::print_decimal(STDOUT_FILENO, number as u64);
-    io::write_all(STDOUT_FILENO, b" at ");
-    io::print_decimal(STDOUT_FILENO, place as u64);
-    if !end_line() {
-        complain(b"standard output took no more, the line is not whole");
+fn print_refusal(rt: &(impl Print + Eprint), number: u8, place: u32) {
+    if println!(rt; "refused {number} at {place}").is_err() {
+        complain(rt, "standard output took no more, the line is not whole");
     }
 }
 
@@ -116,37 +100,50 @@ fn are_digits(s: &[u8]) -> bool {
 }
 
 // The list of the schedule that the bytes are, at ending k.
-fn listed(s: &[u8], k: u64) {
+fn listed(rt: &(impl Print + Eprint), s: &[u8], k: u64) {
     let mut b = [0u8; 32768];
     let r = parcels::despatch(s, k, &mut b);
     let a = r.answer;
     if !answer::is_taken(a) {
         let t = answer::told_of(a);
-        print_refusal(t.number, t.place);
+        print_refusal(rt, t.number, t.place);
         return;
     }
-    print_list(&b, r.count);
+    print_list(rt, &b, r.count);
 }
 
-fn asked(word: &[u8]) {
+fn asked(rt: &(impl Print + Eprint), input: &mut impl Read, word: &[u8]) {
     if !are_digits(word) {
-        complain(b"the argument is the ending's number");
+        complain(rt, "the argument is the ending's number");
         return;
     }
     let k = number_of(word);
     // The longest schedule has 25,430 bytes: what is longer than this is refused as its first part is.
-    let mut s = io::large_buffer();
-    let got = stream::fill(&mut s);
+    let mut s = [0u8; 65536];
+    let got = stream::fill(input, &mut s);
     if got.failed {
-        complain(b"standard input could not be read to its end, no list is printed");
+        complain(
+            rt,
+            "standard input could not be read to its end, no list is printed",
+        );
         return;
     }
     let n = got.bytes;
-    listed(&s[..n], k);
+    listed(rt, &s[..n], k);
 }
 
-fn main() {
+// The argument of a number in the buffer's front, and how many bytes it has; 0 where there is none, or it is longer than the buffer.
+fn argument(rt: &impl Env, i: usize, word: &mut [u8]) -> usize
+    ensures { result ≤ length word.new }
+{
+    match rt.arg(i, word) {
+        Ok(n) => n,
+        Err(_) => 0,
+    }
+}
+
+fn main(rt: HostRuntime) {
     let mut word = [0u8; 8];
-    let n = os::arg(1, &mut word);
-    asked(&word[..n]);
+    let n = argument(&rt, 1, &mut word);
+    asked(&rt, &mut rt.stdin(), &word[..n]);
 }

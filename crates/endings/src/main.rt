@@ -7,7 +7,9 @@ fn main(rt: HostRuntime) {
     let mut s = [0u8; 32768];
     let got = stream::fill(&mut rt.stdin(), &mut s);
     if got.failed {
-        let _ = eprintln!(rt; "endings: standard input could not be read to its end, no page is printed");
+        let _ = eprintln!(rt;
+            "endings: standard input could not be read to its end, no page is printed"
+        );
         return;
     }
     let mut b = [0u8; 65536];

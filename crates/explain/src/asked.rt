@@ -1,4 +1,7 @@
 // What the program was asked for: its first argument.
+use std::env::FillError;
+use std::rt::Env;
+
 #[derive(Clone, Copy)]
 pub(crate) struct Asked {
     pub(crate) columns: bool,
@@ -70,16 +73,16 @@ fn read(s: &[u8]) -> Asked {
     }
 }
 
-pub(crate) fn way_asked() -> Asked {
-    if os::arg_count() < 2 {
-        return Asked {
+pub(crate) fn way_asked(rt: &impl Env) -> Asked {
+    let mut word = [0u8; 64];
+    match rt.arg(1, &mut word) {
+        Ok(n) => read(&word[..n]),
+        Err(FillError::TooLong) => read(&[]),
+        Err(FillError::NotPresent) => Asked {
             columns: false,
             picked: false,
             ending: 0,
             wrong: false,
-        };
+        },
     }
-    let mut word = [0u8; 64];
-    let n = os::arg(1, &mut word);
-    read(&word[..n])
 }

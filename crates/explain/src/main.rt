@@ -10,7 +10,6 @@ use answer::{Told, told_of};
 use asked::Asked;
 use compare::text::{Output, finish, put, put_all};
 use image::Shape;
-use libc::STDERR_FILENO;
 use machine::{Event, Machine};
 use schedule::Schedule;
 use telling::shapes::{line_total, shape_of};
@@ -239,26 +238,22 @@ fn explained(out: &mut Output, how: Asked, book: &mut [u64; 10328], s: &[u8]) ->
     run_told(out, place, how, book, s, d)
 }
 
-fn main() {
-    let how = asked::way_asked();
+fn main(rt: HostRuntime) {
+    let how = asked::way_asked(&rt);
     if how.wrong {
-        io::write_all(
-            STDERR_FILENO,
-            b"use: explain [columns | NUMBER OF AN ENDING] <SCHEDULE\n",
-        );
+        let _ = eprintln!(rt; "use: explain [columns | NUMBER OF AN ENDING] <SCHEDULE");
         return;
     }
     // The longest schedule has 25,430 bytes: what is longer than this is refused as its first part is.
     let mut s = [0u8; 32768];
-    let got = stream::fill(&mut s);
+    let got = stream::fill(&mut rt.stdin(), &mut s);
     if got.failed {
-        io::write_all(
-            STDERR_FILENO,
-            b"explain: standard input could not be read to its end, nothing is printed\n",
+        let _ = eprintln!(rt;
+            "explain: standard input could not be read to its end, nothing is printed"
         );
         return;
     }
-    let mut out = [0u8; 65536];
+    let mut out = Output::new(rt.stdout());
     let mut book = [0u64; 10328];
     let bytes = got.bytes;
     let at = explained(&mut out, how, &mut book, &s[..bytes]);

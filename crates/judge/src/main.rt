@@ -53,17 +53,16 @@ fn main(rt: HostRuntime) {
     let mut input = rt.stdin();
     let got = stream::fill(&mut input, &mut h).bytes;
     if got < 1024 && !stream::at_end(&mut input) {
-        let _ = eprintln!(rt; "judge: standard input could not be read to its end, no verdict is printed");
+        let _ = eprintln!(rt;
+            "judge: standard input could not be read to its end, no verdict is printed"
+        );
         return;
     }
     let r = judging::judge_history(&h[..got]);
     let a = r.answer;
     if !answer::is_taken(a) {
         let t = answer::told_of(a);
-        end_line(
-            &rt,
-            print!(rt; "refused {} at {}", t.number, t.place),
-        );
+        end_line(&rt, print!(rt; "refused {} at {}", t.number, t.place));
         return;
     }
     end_line(&rt, print_judged(&rt, r));

@@ -43,7 +43,10 @@ fn print_next(
     let next = next_item(input, s);
     if !next.there {
         if next.cut {
-            say(rt, "many: the input ends within a schedule, or a read failed\n");
+            say(
+                rt,
+                "many: the input ends within a schedule, or a read failed\n",
+            );
         }
         return Turn {
             more: false,
@@ -96,12 +99,6 @@ fn main(rt: HostRuntime) {
     // The longest schedule has 25,430 bytes: what is longer than this is refused as its first part is.
     let mut s = [0u8; 32768];
     let mut b = [0u8; 65536];
-    let totals = print_all(
-        &rt,
-        &mut rt.stdin(),
-        &mut rt.stdout(),
-        &mut s,
-        &mut b,
-    );
+    let totals = print_all(&rt, &mut rt.stdin(), &mut rt.stdout(), &mut s, &mut b);
     tell_end(&rt, totals.done, totals.refused);
 }

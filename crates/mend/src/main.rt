@@ -21,10 +21,14 @@ fn tell(rt: &impl Eprint, node: u8, why: u8) {
     let _ = match why {
         6 => eprintln!(rt; "node {node}: linked cleared for 6, the byte was above 1"),
         7 => {
-            eprintln!(rt; "node {node}: linked cleared for 7, a lower-numbered recovered node has its index")
+            eprintln!(rt;
+                "node {node}: linked cleared for 7, a lower-numbered recovered node has its index"
+            )
         }
         _ => {
-            eprintln!(rt; "node {node}: linked cleared for 8, every node was recovered and its index is the largest")
+            eprintln!(rt;
+                "node {node}: linked cleared for 8, every node was recovered and its index is the largest"
+            )
         }
     };
 }
@@ -76,9 +80,6 @@ fn main(rt: HostRuntime) {
     tell_all(&rt, &list, r.count);
     // The mended image has as many bytes as the one that came.
     if !print(&rt, &b, got) {
-        complain(
-            &rt,
-            "standard output took no more, the image is not whole",
-        );
+        complain(&rt, "standard output took no more, the image is not whole");
     }
 }

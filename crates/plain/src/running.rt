@@ -2,7 +2,6 @@
 ghost use Rattle.std.specs.Prelude.{◌<◌, ◌≤◌};
 ghost use Rattle.plainway.specs.Noting.{Laid, NotedTo};
 
-use libc::STDERR_FILENO;
 use plainway::noting::note_some;
 use plainway::way::Way;
 
@@ -17,16 +16,12 @@ fn stop_after(k: u32, runs: u32) -> u32
     k + 262144
 }
 
-fn tell(done: u32, runs: u32) {
-    io::write_all(STDERR_FILENO, b"plain: ");
-    io::print_decimal(STDERR_FILENO, done as u64);
-    io::write_all(STDERR_FILENO, b" of ");
-    io::print_decimal(STDERR_FILENO, runs as u64);
-    io::write_all(STDERR_FILENO, b" runs\n");
+fn tell(rt: &impl Eprint, done: u32, runs: u32) {
+    let _ = eprintln!(rt; "plain: {done} of {runs} runs");
 }
 
 // How many images there are; they stand in the buffer's front.
-pub(crate) fn run_all(s: &[u8], w: Way, b: &mut [u8]) -> u32
+pub(crate) fn run_all(rt: &impl Eprint, s: &[u8], w: Way, b: &mut [u8]) -> u32
     requires { Laid s.now w × NotedTo s.now 0 b.old 0 }
 {
     let runs = w.runs;
@@ -37,7 +32,7 @@ pub(crate) fn run_all(s: &[u8], w: Way, b: &mut [u8]) -> u32
         let x = note_some(s, w, k, to, b, c);
         c = x;
         k = to;
-        tell(k, runs);
+        tell(rt, k, runs);
     }
     c
 }

@@ -2,24 +2,18 @@
 ghost use Rattle.std.specs.Prelude.{◌≤◌, length};
 
 use image::{Image, Shape, head_lines};
-use libc::STDOUT_FILENO;
 use stream::{byte, half};
 
 // The first line; a schedule that is taken has T at byte 5, its events' number at byte 6 and N at byte 13.
-pub(crate) fn show_first(s: &[u8], count: u32) {
-    io::write_all(STDOUT_FILENO, b"UQS 1 threads ");
-    io::print_decimal(STDOUT_FILENO, byte(s, 5) as u64);
-    io::write_all(STDOUT_FILENO, b" nodes ");
-    io::print_decimal(STDOUT_FILENO, byte(s, 13) as u64);
-    io::write_all(STDOUT_FILENO, b" events ");
-    io::print_decimal(STDOUT_FILENO, half(s, 6) as u64);
-    io::write_all(STDOUT_FILENO, b" endings ");
-    io::print_decimal(STDOUT_FILENO, count as u64);
-    io::write_all(STDOUT_FILENO, b"\n");
+pub(crate) fn show_first(rt: &impl Print, s: &[u8], count: u32) {
+    let threads = byte(s, 5);
+    let nodes = byte(s, 13);
+    let events = half(s, 6);
+    let _ = println!(rt; "UQS 1 threads {threads} nodes {nodes} events {events} endings {count}");
 }
 
 // The line of image k. An image that was noted passes all three tests.
-fn show_image(k: u32, g: Image) -> bool {
+fn show_image(rt: &impl Print, k: u32, g: Image) -> bool {
     if 64 < g.n {
         return false;
     }
@@ -35,24 +29,24 @@ fn show_image(k: u32, g: Image) -> bool {
     }
     let mut line = [0u8; 731];
     let n = printing::whole::write_ending(&mut line, 0, k, g);
-    io::write_all(STDOUT_FILENO, &line[..n])
+    rt.write_all(&line[..n]).is_ok()
 }
 
 // The image in the first `size` bytes, if there are so many.
-fn show_front(b: &[u8], size: usize, k: u32) -> bool {
+fn show_front(rt: &impl Print, b: &[u8], size: usize, k: u32) -> bool {
     if b.len() < size {
         return false;
     }
     let r = codec::read_image(&b[..size]);
     let g = r.image;
-    show_image(k, g)
+    show_image(rt, k, g)
 }
 
-pub(crate) fn show_images(b: &[u8], size: usize, count: u32) -> bool {
+pub(crate) fn show_images(rt: &impl Print, b: &[u8], size: usize, count: u32) -> bool {
     let mut k = 0;
     let mut at = 0;
     while k < count {
-        if !show_front(&b[at..], size, k) {
+        if !show_front(rt, &b[at..], size, k) {
             return false;
         }
         if b.len() - at < size {

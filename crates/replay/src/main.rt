@@ -7,7 +7,9 @@ fn main(rt: HostRuntime) {
     let mut s = [0u8; 65536];
     let got = stream::fill(&mut rt.stdin(), &mut s);
     if got.failed {
-        let _ = eprintln!(rt; "replay: standard input could not be read to its end, nothing is replayed");
+        let _ = eprintln!(rt;
+            "replay: standard input could not be read to its end, nothing is replayed"
+        );
         return;
     }
     let n = got.bytes;

@@ -45,10 +45,7 @@ pub fn print_file(rt: &(impl Print + Eprint), s: &[u8]) {
     let a = r.answer;
     if !answer::is_taken(a) {
         let t = answer::told_of(a);
-        end_line(
-            rt,
-            print!(rt; "refused {} at {}", t.number, t.place),
-        );
+        end_line(rt, print!(rt; "refused {} at {}", t.number, t.place));
         return;
     }
     end_line(rt, print_replayed(rt, r));

@@ -3,87 +3,78 @@
 
 #![tactic(auto)]
 
-use libc::{STDERR_FILENO, STDOUT_FILENO};
 use spelling::Said;
+use std::io::Read;
 
-fn at_line(i: u64, what: &[u8]) {
-    io::write_all(STDERR_FILENO, b"unwords: line ");
+fn at_line(rt: &impl Eprint, i: u64, what: &str) {
     if i < 1000000 {
-        io::print_decimal(STDERR_FILENO, i + 1);
+        let _ = eprintln!(rt; "unwords: line {}{what}", i + 1);
+    } else {
+        let _ = eprintln!(rt; "unwords: line {what}");
     }
-    io::write_all(STDERR_FILENO, what);
 }
 
 // The first n bytes, or all where there are fewer.
-fn write_front(s: &[u8], n: usize) -> bool {
+fn write_front(rt: &impl Print, s: &[u8], n: usize) -> bool {
     if n < s.len() {
-        return io::write_all(STDOUT_FILENO, &s[..n]);
+        return rt.write_all(&s[..n]).is_ok();
     }
-    io::write_all(STDOUT_FILENO, s)
+    rt.write_all(s).is_ok()
 }
 
-fn print(b: &[u8], n: usize) {
-    if !write_front(b, n) {
-        io::write_all(
-            STDERR_FILENO,
-            b"unwords: standard output took no more, the schedule is not whole\n",
-        );
+fn print(rt: &(impl Print + Eprint), b: &[u8], n: usize) {
+    if !write_front(rt, b, n) {
+        let _ = eprintln!(rt; "unwords: standard output took no more, the schedule is not whole");
     }
 }
 
-fn tell(a: Said) {
+fn tell(rt: &impl Eprint, a: Said) {
     match a {
         Said::Taken => {}
-        Said::Strange(i) => at_line(i, b": not understood\n"),
-        Said::Large(i) => at_line(i, b": a number too large for its field\n"),
-        Said::Many(i) => at_line(i, b": more than 65,535 events\n"),
-        Said::Room => at_line(0, b": no room\n"),
+        Said::Strange(i) => at_line(rt, i, ": not understood"),
+        Said::Large(i) => at_line(rt, i, ": a number too large for its field"),
+        Said::Many(i) => at_line(rt, i, ": more than 65,535 events"),
+        Said::Room => at_line(rt, 0, ": no room"),
     }
 }
 
-fn answer_into(t: &[u8], b: &mut [u8]) {
+fn answer_into(rt: &(impl Print + Eprint), t: &[u8], b: &mut [u8]) {
     let r = desk::read_words(t, b);
     let n = r.bytes;
     let a = r.answer;
     if n == 0 {
-        tell(a);
+        tell(rt, a);
         return;
     }
-    print(b, n);
+    print(rt, b, n);
 }
 
-fn answer(t: &[u8]) {
+fn answer(rt: &(impl Print + Eprint), t: &[u8]) {
     // 255 nodes of version 2 and 65,535 events have no more.
     let mut b = [0u8; 396547];
-    answer_into(t, &mut b);
+    answer_into(rt, t, &mut b);
 }
 
 // The first n bytes are the text; a buffer that is full may not have all of it.
-fn answer_front(t: &[u8], n: usize) {
+fn answer_front(rt: &(impl Print + Eprint), t: &[u8], n: usize) {
     if n < t.len() {
-        answer(&t[..n]);
+        answer(rt, &t[..n]);
         return;
     }
-    io::write_all(
-        STDERR_FILENO,
-        b"unwords: a text has at most 131,071 bytes\n",
-    );
+    let _ = eprintln!(rt; "unwords: a text has at most 131,071 bytes");
 }
 
-fn read_and_answer(t: &mut [u8]) {
-    let got = stream::fill(t);
+fn read_and_answer(rt: &(impl Print + Eprint), input: &mut impl Read, t: &mut [u8]) {
+    let got = stream::fill(input, t);
     if got.failed {
-        io::write_all(
-            STDERR_FILENO,
-            b"unwords: standard input could not be read to its end\n",
-        );
+        let _ = eprintln!(rt; "unwords: standard input could not be read to its end");
         return;
     }
-    answer_front(t, got.bytes);
+    answer_front(rt, t, got.bytes);
 }
 
-fn main() {
+fn main(rt: HostRuntime) {
     // The longest text that `words` writes has 105,133 bytes.
     let mut t = [0u8; 131072];
-    read_and_answer(&mut t);
+    read_and_answer(&rt, &mut rt.stdin(), &mut t);
 }

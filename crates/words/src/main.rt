@@ -3,41 +3,33 @@
 #![tactic(auto)]
 
 use answer::Told;
-use libc::{STDERR_FILENO, STDIN_FILENO, STDOUT_FILENO};
 
-fn refused(t: Told) {
-    io::write_all(STDERR_FILENO, b"words: refused ");
-    io::print_decimal(STDERR_FILENO, t.number as u64);
-    io::write_all(STDERR_FILENO, b" at ");
-    io::print_decimal(STDERR_FILENO, t.place as u64);
-    io::write_all(STDERR_FILENO, b"\n");
+fn refused(rt: &impl Eprint, t: Told) {
+    let _ = eprintln!(rt; "words: refused {} at {}", t.number, t.place);
 }
 
 // The first n bytes, or all where there are fewer.
-fn write_front(s: &[u8], n: usize) -> bool {
+fn write_front(rt: &impl Print, s: &[u8], n: usize) -> bool {
     if n < s.len() {
-        return io::write_all(STDOUT_FILENO, &s[..n]);
+        return rt.write_all(&s[..n]).is_ok();
     }
-    io::write_all(STDOUT_FILENO, s)
+    rt.write_all(s).is_ok()
 }
 
-fn print(b: &[u8], n: usize) {
-    if !write_front(b, n) {
-        io::write_all(
-            STDERR_FILENO,
-            b"words: standard output took no more, the text is not whole\n",
-        );
+fn print(rt: &(impl Print + Eprint), b: &[u8], n: usize) {
+    if !write_front(rt, b, n) {
+        let _ = eprintln!(rt; "words: standard output took no more, the text is not whole");
     }
 }
 
-fn main() {
+fn main(rt: HostRuntime) {
     // The longest schedule has 25,430 bytes: what is longer than this is refused as its first part is.
     let mut s = [0u8; 32768];
-    let got = io::read_full(STDIN_FILENO, &mut s);
-    if got < 32768 && !stream::at_end() {
-        io::write_all(
-            STDERR_FILENO,
-            b"words: standard input could not be read to its end, no words are printed\n",
+    let mut input = rt.stdin();
+    let got = stream::fill(&mut input, &mut s).bytes;
+    if got < 32768 && !stream::at_end(&mut input) {
+        let _ = eprintln!(rt;
+            "words: standard input could not be read to its end, no words are printed"
         );
         return;
     }
@@ -47,8 +39,8 @@ fn main() {
     let a = w.answer;
     let n = w.bytes;
     if !answer::is_taken(a) {
-        refused(answer::told_of(a));
+        refused(&rt, answer::told_of(a));
         return;
     }
-    print(&b, n);
+    print(&rt, &b, n);
 }
