@@ -6,6 +6,7 @@ use mathlib.Core.Bool.{true}
 use mathlib.Core.List.{List}
 use native.Mathlib.Omega.{arith}
 use contract.Lifetimes.{Lfts}
+use denote.MutBor.{MutBor}
 use denote.Ref.{Bor}
 use lib.ListN.{length}
 use Rattle.lists.specs.Tab.{over}
@@ -44,7 +45,7 @@ module _ (s b : List ℕ) (bs : num.Bytes s) (h : accepted (schedule_answer s) �
   unfolding spell_written
   all_written = ap (over b 0) all_bytes
 
-pub spell_whole : (κs : Lfts 2) (s b z : Bor (List ℕ)) (r : Spelled)
+pub spell_whole : (κs : Lfts 2) (s : Bor (List ℕ)) (b z : MutBor (List ℕ)) (r : Spelled)
     → num.Bytes s.now → accepted (schedule_answer s.now) ≡ true → entries_in s.now * 64 ≤ length b.now
     → spell.Post κs (s, (0, (b, tt))) r (s, (0, (z, tt)))
     → (accepted r.answer ≡ true) × ((r.bytes ≡ length (words_of s.now)) × (z.now ≡ over b.now 0 (words_of s.now)))
@@ -55,7 +56,7 @@ spell_whole κs s b z r bs h l p =
     )
 
 -- the words of a schedule that is taken up to its events, read into a buffer with room for it, are taken, and the schedule stands in its front
-pub read_back : (κs : Lfts 2) (s : List ℕ) (t b z : Bor (List ℕ)) (r : Spelt)
+pub read_back : (κs : Lfts 2) (s : List ℕ) (t : Bor (List ℕ)) (b z : MutBor (List ℕ)) (r : Spelt)
     → num.Bytes s → accepted (schedule_answer s) ≡ true → t.now ≡ words_of s → length s ≤ length b.now
     → read.Post κs (t, (b, tt)) r (t, (z, tt)) → (is_taken r.answer ≡ true) × (z.now ≡ over b.now 0 s)
 read_back κs s t b z r bs h e l p =

@@ -1,18 +1,17 @@
 -- Words and numbers read byte by byte: what the line is then.
 use Prim.Native.Nat.{ℕ, zero, suc, ◌+◌, ◌-◌, ◌*◌, ◌/◌, ◌%◌, ◌≤◌, ◌<◌}
 use mathlib.Core.Path.{◌≡◌, refl, sym, ap, subst₂, ◌∙◌}
-use mathlib.Core.Bool.{Bool, true, false}
+use mathlib.Core.Bool.{false}
 use mathlib.Core.List.{List, [], ◌∷◌, ◌++◌, append_assoc}
 use native.Mathlib.Omega.{arith}
 use native.Mathlib.Decide.{dec_lt}
 use borrow.Author.Tests.{lt-ltb, le-leb, ne_eqb}
-use Rattle.lists.specs.Text.{text, decimal}
+use Rattle.lists.specs.Text.{decimal}
 use Rattle.printing.proofs.Decimal as decimals
 use Rattle.page.specs.Printed.{newline}
 use Rattle.spelling.specs.declared.Word.{Word}
 use Rattle.spelling.specs.declared.Line.{Line}
-use Rattle.spelling.specs.declared.Act.{Act}
-use Rattle.spelling.specs.Words.{no_word, number, letters, digit_more, letter_more, grown, no_line, ended, line_byte}
+use Rattle.spelling.specs.Words.{no_word, number, digit_more, grown, no_line, line_byte}
 use Rattle.spelling.specs.Lines.{said, acts_from}
 
 abbrev pub line : ℕ → List Word → Word → Line

@@ -1,15 +1,12 @@
 -- The lines that the writer writes, read back: each says what it was written from.
-use Prim.Native.Nat.{ℕ, suc, ◌+◌, ◌*◌, ◌≤◌, ◌<◌}
-use mathlib.Core.Path.{◌≡◌, refl, sym, ap, ◌∙◌}
-use mathlib.Core.Bool.{Bool, true, false}
+use Prim.Native.Nat.{ℕ, ◌≤◌}
+use mathlib.Core.Path.{◌≡◌, refl, ◌∙◌}
 use mathlib.Core.List.{List, [], ◌∷◌, ◌++◌}
 use native.Mathlib.Omega.{arith}
 use borrow.Author.Tests.{le-leb}
 use Rattle.lists.specs.Text.{text, decimal}
 use Rattle.page.specs.Printed.{newline}
 use Rattle.spelling.specs.declared.Word.{Word}
-use Rattle.spelling.specs.declared.Line.{Line}
-use Rattle.spelling.specs.declared.Act.{Act}
 use Rattle.spelling.specs.Words.{no_word, number, letters, digit_more, letter_more, grown, no_line, ended, line_byte, word_on, key_of}
 use Rattle.spelling.specs.Lines.{act, grade, graded, key_in, shape_of, said_by, said, acts_from}
 use Rattle.spellproof.proofs.Feeding.{line, Feeds, also, ends, numbered}

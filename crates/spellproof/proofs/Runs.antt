@@ -3,17 +3,13 @@ use Prim.Native.Nat.{ℕ, zero, suc, ◌+◌, ◌-◌, ◌≤◌, ◌<◌}
 use mathlib.Core.Path.{◌≡◌, refl, sym, ap, ◌∙◌}
 use mathlib.Core.Bool.{Bool, true, false, not}
 use mathlib.Core.List.{List}
-use mathlib.Core.Logic.{◌⊎◌, inl, inr}
 use native.Mathlib.Omega.{arith}
 use native.Mathlib.Decide.{dec_lt}
-use native.Mathlib.Nat.{eq-or-lt_of_le}
-use native.Mathlib.Numerals.{add-one}
 use borrow.Author.Tests.{eqb-true, lt-ltb, le-ltb, not-false}
 use lib.Dec.{eqb, ltb}
-use Rattle.lists.specs.Find.{pick, both, least}
-use Rattle.lists.proofs.FindLaws.{least_next, least_hit, least_end, least_le, least_ge, least_before}
-use Rattle.lists.proofs.BoolLaws.{both_true, no_way, false_true}
-use Rattle.machine.specs.declared.Event.{Event}
+use Rattle.lists.specs.Find.{pick, both}
+use Rattle.lists.proofs.FindLaws.{least_next, least_hit, least_le, least_ge, least_before}
+use Rattle.lists.proofs.BoolLaws.{both_true, false_true}
 use Rattle.schedule.specs.Layout.{count_in, event_in}
 use Rattle.spelling.specs.Writing.{is_step, follows, run_end}
 

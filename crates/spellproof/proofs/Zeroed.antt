@@ -1,10 +1,10 @@
 -- A schedule of which the first p bytes are there, and zeros behind them.
 use Prim.Native.Nat.{ℕ, ◌+◌, ◌-◌, ◌≤◌}
-use mathlib.Core.Path.{◌≡◌, refl, sym, ap, ap₂, ◌∙◌}
-use mathlib.Core.List.{List, [], ◌∷◌, ◌++◌, append_assoc}
+use mathlib.Core.Path.{◌≡◌, sym, ap, ap₂, ◌∙◌}
+use mathlib.Core.List.{List, ◌++◌, append_assoc}
 use native.Mathlib.Omega.{arith}
 use lib.ListN.{length, take, drop, replicate, length-append, length-drop, length-replicate, replicate-append-replicate}
-use lib.Seq.{length-take-le, take_at, drop_at, drop-drop, take-add, take_all}
+use lib.Seq.{length-take-le, take_at, drop_at, drop-drop, take-add}
 use Rattle.lists.specs.Tab.{over}
 use Rattle.lists.proofs.TabLaws as tabs
 
