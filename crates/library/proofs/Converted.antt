@@ -5,6 +5,7 @@ use mathlib.Core.Path.{◌≡◌, sym, ap, ◌∙◌}
 use mathlib.Core.Bool.{true}
 use mathlib.Core.List.{List, ◌++◌}
 use contract.Lifetimes.{Lfts}
+use denote.MutBor.{MutBor}
 use denote.Ref.{Bor}
 use lib.ListN.{length, take, drop}
 use Rattle.answer.specs.Answers.{told, accepted}
@@ -26,29 +27,29 @@ use Rattle.library.proofs.conversions.uq_import.Reads as importing
 use Rattle.library.proofs.conversions.uq_export.Reads as exporting
 
 pub widen_one :
-    (κs : Lfts 2) (s b z z' : Bor (List ℕ)) (r r' : ℕ) →
+    (κs : Lfts 2) (s : Bor (List ℕ)) (b z z' : MutBor (List ℕ)) (r r' : ℕ) →
     widening.Post κs (s, (b, tt)) r (s, (z, tt)) → widening.Post κs (s, (b, tt)) r' (s, (z', tt)) → (r ≡ r') × (z.now ≡ z'.now)
 widen_one κs s b z z' r r' p q = (p.0 ∙ sym q.0, p.1 ∙ sym q.1)
 
 pub narrow_one :
-    (κs : Lfts 2) (s b z z' : Bor (List ℕ)) (r r' : ℕ) →
+    (κs : Lfts 2) (s : Bor (List ℕ)) (b z z' : MutBor (List ℕ)) (r r' : ℕ) →
     narrowing.Post κs (s, (b, tt)) r (s, (z, tt)) → narrowing.Post κs (s, (b, tt)) r' (s, (z', tt)) → (r ≡ r') × (z.now ≡ z'.now)
 narrow_one κs s b z z' r r' p q = (p.0 ∙ sym q.0, p.1 ∙ sym q.1)
 
 pub widen_refused :
-    (κs : Lfts 2) (s b z : Bor (List ℕ)) (r : ℕ) →
+    (κs : Lfts 2) (s : Bor (List ℕ)) (b z : MutBor (List ℕ)) (r : ℕ) →
     widening.Post κs (s, (b, tt)) r (s, (z, tt)) → Refused r → z.now ≡ b.now
 widen_refused κs s b z r p n =
     p.1 ∙ refused_same 1 2 s.now b.now (not_taken (widen_answer s.now (length b.now)) 0 r p.0 n)
 
 pub narrow_refused :
-    (κs : Lfts 2) (s b z : Bor (List ℕ)) (r : ℕ) →
+    (κs : Lfts 2) (s : Bor (List ℕ)) (b z : MutBor (List ℕ)) (r : ℕ) →
     narrowing.Post κs (s, (b, tt)) r (s, (z, tt)) → Refused r → z.now ≡ b.now
 narrow_refused κs s b z r p n =
     p.1 ∙ refused_same 2 1 s.now b.now (not_taken (narrow_answer s.now (length b.now)) 0 r p.0 n)
 
 -- an image s, converted into a buffer that held b and now holds z; the image t that stands there, converted back into a buffer that held c and now holds w
-module _ (κs : Lfts 2) (s b z : Bor (List ℕ)) (r : ℕ) (λs : Lfts 2) (t c w : Bor (List ℕ)) (q : ℕ)
+module _ (κs : Lfts 2) (s : Bor (List ℕ)) (b z : MutBor (List ℕ)) (r : ℕ) (λs : Lfts 2) (t : Bor (List ℕ)) (c w : MutBor (List ℕ)) (q : ℕ)
     (bytes : Bytes s.now) (taken : r % 256 ≡ 0) (room : length s.now ≤ length c.now) where
   pub widened_narrowed : widening.Post κs (s, (b, tt)) r (s, (z, tt)) → t.now ≡ take (14 + at1 s.now 5 * 13) z.now → narrowing.Post λs (t, (c, tt)) q (t, (w, tt))
       → (q ≡ 0) × (w.now ≡ s.now ++ drop (length s.now) c.now)
@@ -75,30 +76,30 @@ module _ (κs : Lfts 2) (s b z : Bor (List ℕ)) (r : ℕ) (λs : Lfts 2) (t c w
 -- ---- from and to "UQP"
 
 pub import_one :
-    (κs : Lfts 2) (s b z z' : Bor (List ℕ)) (r r' : ℕ) →
+    (κs : Lfts 2) (s : Bor (List ℕ)) (b z z' : MutBor (List ℕ)) (r r' : ℕ) →
     importing.Post κs (s, (b, tt)) r (s, (z, tt)) → importing.Post κs (s, (b, tt)) r' (s, (z', tt)) → (r ≡ r') × (z.now ≡ z'.now)
 import_one κs s b z z' r r' p q = (p.0 ∙ sym q.0, p.1 ∙ sym q.1)
 
 pub export_one :
-    (κs : Lfts 2) (s : Bor (List ℕ)) (t : ℕ) (b z z' : Bor (List ℕ)) (r r' : ℕ) →
+    (κs : Lfts 2) (s : Bor (List ℕ)) (t : ℕ) (b z z' : MutBor (List ℕ)) (r r' : ℕ) →
     exporting.Post κs (s, (t, (b, tt))) r (s, (t, (z, tt))) → exporting.Post κs (s, (t, (b, tt))) r' (s, (t, (z', tt))) → (r ≡ r') × (z.now ≡ z'.now)
 export_one κs s t b z z' r r' p q = (p.0 ∙ sym q.0, p.1 ∙ sym q.1)
 
 pub import_refused :
-    (κs : Lfts 2) (s b z : Bor (List ℕ)) (r : ℕ) →
+    (κs : Lfts 2) (s : Bor (List ℕ)) (b z : MutBor (List ℕ)) (r : ℕ) →
     importing.Post κs (s, (b, tt)) r (s, (z, tt)) → Refused r → z.now ≡ b.now
 import_refused κs s b z r p n =
     p.1 ∙ import_stays s.now b.now (not_taken (import_answer s.now (length b.now)) 0 r p.0 n)
 
 pub export_refused :
-    (κs : Lfts 2) (s : Bor (List ℕ)) (t : ℕ) (b z : Bor (List ℕ)) (r : ℕ) →
+    (κs : Lfts 2) (s : Bor (List ℕ)) (t : ℕ) (b z : MutBor (List ℕ)) (r : ℕ) →
     exporting.Post κs (s, (t, (b, tt))) r (s, (t, (z, tt))) → Refused r → z.now ≡ b.now
 export_refused κs s t b z r p n =
     p.1 ∙ export_stays s.now t b.now (not_taken (export_answer s.now t (length b.now)) 0 r p.0 n)
 
 -- an image s, exported for t threads into a buffer that held b and now holds z; the image u that stands there, imported into a buffer that held c and now holds w
 pub exported_imported :
-    (κs : Lfts 2) (s b z : Bor (List ℕ)) (t r : ℕ) (λs : Lfts 2) (u c w : Bor (List ℕ)) (q : ℕ) →
+    (κs : Lfts 2) (s : Bor (List ℕ)) (b z : MutBor (List ℕ)) (t r : ℕ) (λs : Lfts 2) (u : Bor (List ℕ)) (c w : MutBor (List ℕ)) (q : ℕ) →
     Bytes s.now → r % 256 ≡ 0 → length s.now ≤ length c.now →
     exporting.Post κs (s, (t, (b, tt))) r (s, (t, (z, tt))) → u.now ≡ take (7 + t * 4 + at1 s.now 5 * 9) z.now →
     importing.Post λs (u, (c, tt)) q (u, (w, tt)) →

@@ -4,6 +4,7 @@ use mathlib.Core.Path.{◌≡◌, sym, ◌∙◌}
 use mathlib.Core.Bool.{true}
 use mathlib.Core.List.{List}
 use contract.Lifetimes.{Lfts}
+use denote.MutBor.{MutBor}
 use denote.Ref.{Bor}
 use lib.ListN.{length}
 use Rattle.answer.specs.Answers.{told, accepted}
@@ -21,12 +22,12 @@ despatch_value s k room h = apart.value_back (told (despatch_answer s k room)) (
 -- ---- the contract as the source has it: two results are equal, and a refused call writes nothing
 
 pub despatch_one :
-    (κs : Lfts 2) (s b z z' : Bor (List ℕ)) (k r r' : ℕ) →
+    (κs : Lfts 2) (s : Bor (List ℕ)) (b z z' : MutBor (List ℕ)) (k r r' : ℕ) →
     despatch.Post κs (s, (k, (b, tt))) r (s, (k, (z, tt))) → despatch.Post κs (s, (k, (b, tt))) r' (s, (k, (z', tt))) → (r ≡ r') × (z.now ≡ z'.now)
 despatch_one κs s b z z' k r r' p q = (p.0 ∙ sym q.0, p.1 ∙ sym q.1)
 
 pub refused_writes_nothing :
-    (κs : Lfts 2) (s b z : Bor (List ℕ)) (k r : ℕ) →
+    (κs : Lfts 2) (s : Bor (List ℕ)) (b z : MutBor (List ℕ)) (k r : ℕ) →
     despatch.Post κs (s, (k, (b, tt))) r (s, (k, (z, tt))) → Refused r → z.now ≡ b.now
 refused_writes_nothing κs s b z k r p n =
     p.1 ∙ refused_stays s.now k b.now (not_taken (despatch_answer s.now k (length b.now)) _ r p.0 n)

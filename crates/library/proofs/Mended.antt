@@ -5,6 +5,7 @@ use mathlib.Core.Path.{◌≡◌, refl, sym, ap, ◌∙◌}
 use mathlib.Core.Bool.{true, false}
 use mathlib.Core.List.{List}
 use contract.Lifetimes.{Lfts}
+use denote.MutBor.{MutBor}
 use denote.Ref.{Bor}
 use lib.ListN.{length}
 use Rattle.answer.specs.Answers.{told, accepted}
@@ -15,12 +16,12 @@ use Rattle.library.proofs.Refused.{Refused, not_taken}
 use Rattle.library.proofs.mend.uq_mend.Reads as mend
 
 pub mend_one :
-    (κs : Lfts 3) (s b z z' l y y' : Bor (List ℕ)) (r r' : ℕ) →
+    (κs : Lfts 3) (s : Bor (List ℕ)) (b z z' l y y' : MutBor (List ℕ)) (r r' : ℕ) →
     mend.Post κs (s, (b, (l, tt))) r (s, (z, (y, tt))) → mend.Post κs (s, (b, (l, tt))) r' (s, (z', (y', tt))) → (r ≡ r') × ((z.now ≡ z'.now) × (y.now ≡ y'.now))
 mend_one κs s b z z' l y y' r r' p q = (p.0 ∙ sym q.0, (p.1.0 ∙ sym q.1.0, p.1.1 ∙ sym q.1.1))
 
 pub mend_refused :
-    (κs : Lfts 3) (s b z l y : Bor (List ℕ)) (r : ℕ) →
+    (κs : Lfts 3) (s : Bor (List ℕ)) (b z l y : MutBor (List ℕ)) (r : ℕ) →
     mend.Post κs (s, (b, (l, tt))) r (s, (z, (y, tt))) → Refused r → (z.now ≡ b.now) × (y.now ≡ l.now)
 unfolding mend_written list_written
 mend_refused κs s b z l y r p n =

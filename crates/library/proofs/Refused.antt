@@ -5,6 +5,7 @@ use mathlib.Core.Path.{◌≡◌, refl, sym, ap, ◌∙◌}
 use mathlib.Core.Bool.{Bool, true, false}
 use mathlib.Core.List.{List, []}
 use contract.Lifetimes.{Lfts}
+use denote.MutBor.{MutBor}
 use denote.Ref.{Bor}
 use native.Mathlib.Omega.{arith}
 use lib.ListN.{length}
@@ -118,31 +119,31 @@ save_stays s b h = by (accepted (read_record s).answer) refl
 -- ---- the calls
 
 pub ending_refused :
-    (κs : Lfts 2) (s : Bor (List ℕ)) (k : ℕ) (b z : Bor (List ℕ)) (r : ℕ) →
+    (κs : Lfts 2) (s : Bor (List ℕ)) (k : ℕ) (b z : MutBor (List ℕ)) (r : ℕ) →
     ending.Post κs (s, (k, (b, tt))) r (s, (k, (z, tt))) → Refused r → z.now ≡ b.now
 ending_refused κs s k b z r p n =
     p.1 ∙ ending_stays s.now k b.now (not_taken (ending_answer s.now k (length b.now)) 0 r p.0 n)
 
 pub page_lines_refused :
-    (κs : Lfts 2) (s : Bor (List ℕ)) (k : ℕ) (b z : Bor (List ℕ)) (r : ℕ) →
+    (κs : Lfts 2) (s : Bor (List ℕ)) (k : ℕ) (b z : MutBor (List ℕ)) (r : ℕ) →
     page_lines.Post κs (s, (k, (b, tt))) r (s, (k, (z, tt))) → Refused r → z.now ≡ b.now
 page_lines_refused κs s k b z r p n =
     p.1 ∙ lines_stay s.now k b.now (not_taken (lines_answer s.now k (length b.now)) _ r p.0 n)
 
 pub refusal_line_refused :
-    (κs : Lfts 1) (i v : ℕ) (b z : Bor (List ℕ)) (r : ℕ) →
+    (κs : Lfts 1) (i v : ℕ) (b z : MutBor (List ℕ)) (r : ℕ) →
     refusal_line.Post κs (i, (v, (b, tt))) r (i, (v, (z, tt))) → Refused r → z.now ≡ b.now
 refusal_line_refused κs i v b z r p n =
     p.1 ∙ line_stays i v b.now (not_taken (refusal_answer i v (length b.now)) _ r p.0 n)
 
 pub start_refused :
-    (κs : Lfts 2) (s : Bor (List ℕ)) (t : ℕ) (b z : Bor (List ℕ)) (r : ℕ) →
+    (κs : Lfts 2) (s : Bor (List ℕ)) (t : ℕ) (b z : MutBor (List ℕ)) (r : ℕ) →
     start.Post κs (s, (t, (b, tt))) r (s, (t, (z, tt))) → Refused r → z.now ≡ b.now
 start_refused κs s t b z r p n =
     p.1 ∙ start_stays s.now t b.now (not_taken (start_answered s.now t (length b.now)) 0 r p.0 n)
 
 pub event_refused :
-    (κs : Lfts 1) (b : Bor (List ℕ)) (k i v : ℕ) (z : Bor (List ℕ)) (r : ℕ) →
+    (κs : Lfts 1) (b : MutBor (List ℕ)) (k i v : ℕ) (z : MutBor (List ℕ)) (r : ℕ) →
     event.Post κs (b, (k, (i, (v, tt)))) r (z, (k, (i, (v, tt)))) → Refused r → z.now ≡ b.now
 event_refused κs b k i v z r p n =
     let e = event_given k i v in
@@ -150,25 +151,25 @@ event_refused κs b k i v z r p n =
     p.1 ∙ laws.event_stays b.now e (not_taken a (reply_of (told a)) r p.0 n)
 
 pub save_refused :
-    (κs : Lfts 2) (s b z : Bor (List ℕ)) (r : ℕ) →
+    (κs : Lfts 2) (s : Bor (List ℕ)) (b z : MutBor (List ℕ)) (r : ℕ) →
     save.Post κs (s, (b, tt)) r (s, (z, tt)) → Refused r → z.now ≡ b.now
 save_refused κs s b z r p n =
     p.1 ∙ save_stays s.now b.now (not_taken (save_answered s.now (length b.now)) 0 r p.0 n)
 
 pub places_refused :
-    (κs : Lfts 2) (s b z : Bor (List ℕ)) (r : ℕ) →
+    (κs : Lfts 2) (s : Bor (List ℕ)) (b z : MutBor (List ℕ)) (r : ℕ) →
     places.Post κs (s, (b, tt)) r (s, (z, tt)) → Refused r → z.now ≡ b.now
 places_refused κs s b z r p n =
     p.1 ∙ laws.places_stay s.now b.now (not_taken (places_answered s.now (length b.now)) 0 r p.0 n)
 
 pub judge_refused :
-    (κs : Lfts 2) (s b z : Bor (List ℕ)) (r : ℕ) →
+    (κs : Lfts 2) (s : Bor (List ℕ)) (b z : MutBor (List ℕ)) (r : ℕ) →
     judge.Post κs (s, (b, tt)) r (s, (z, tt)) → Refused r → z.now ≡ b.now
 judge_refused κs s b z r p n =
     p.1 ∙ laws.judge_stays s.now b.now (not_taken (judge_answered s.now (length b.now)) _ r p.0 n)
 
 pub line_refused :
-    (κs : Lfts 2) (s : Bor (List ℕ)) (l : ℕ) (b z : Bor (List ℕ)) (r : ℕ) →
+    (κs : Lfts 2) (s : Bor (List ℕ)) (l : ℕ) (b z : MutBor (List ℕ)) (r : ℕ) →
     line.Post κs (s, (l, (b, tt))) r (s, (l, (z, tt))) → Refused r → z.now ≡ b.now
 line_refused κs s l b z r p n =
     p.1 ∙ lines.line_stays s.now l b.now (not_taken (line_answered s.now l (length b.now)) _ r p.0 n)

@@ -4,6 +4,7 @@ use mathlib.Core.Path.{◌≡◌, sym, ◌∙◌}
 use mathlib.Core.Bool.{true}
 use mathlib.Core.List.{List}
 use contract.Lifetimes.{Lfts}
+use denote.MutBor.{MutBor}
 use denote.Ref.{Bor}
 use lib.ListN.{length}
 use Rattle.answer.specs.Answers.{told, accepted}
@@ -21,12 +22,12 @@ replay_value s room h = apart.value_back (told (replay_answered s room)) (odd_va
 -- ---- the contract as the source has it: two results are equal, and a refused call writes nothing
 
 pub replay_one :
-    (κs : Lfts 2) (s b z z' : Bor (List ℕ)) (r r' : ℕ) →
+    (κs : Lfts 2) (s : Bor (List ℕ)) (b z z' : MutBor (List ℕ)) (r r' : ℕ) →
     replay.Post κs (s, (b, tt)) r (s, (z, tt)) → replay.Post κs (s, (b, tt)) r' (s, (z', tt)) → (r ≡ r') × (z.now ≡ z'.now)
 replay_one κs s b z z' r r' p q = (p.0 ∙ sym q.0, p.1 ∙ sym q.1)
 
 pub refused_writes_nothing :
-    (κs : Lfts 2) (s b z : Bor (List ℕ)) (r : ℕ) →
+    (κs : Lfts 2) (s : Bor (List ℕ)) (b z : MutBor (List ℕ)) (r : ℕ) →
     replay.Post κs (s, (b, tt)) r (s, (z, tt)) → Refused r → z.now ≡ b.now
 refused_writes_nothing κs s b z r p n =
     p.1 ∙ replay_stays s.now b.now (not_taken (replay_answered s.now (length b.now)) _ r p.0 n)

@@ -4,6 +4,7 @@ use mathlib.Core.Path.{◌≡◌, sym, ap, ◌∙◌}
 use mathlib.Core.Bool.{false}
 use mathlib.Core.List.{List}
 use contract.Lifetimes.{Lfts}
+use denote.MutBor.{MutBor}
 use denote.Ref.{Bor}
 use lib.ListN.{length}
 use Rattle.answer.specs.Answers.{told, accepted}
@@ -13,7 +14,7 @@ use Rattle.parcels.specs.declared.Despatched.{Despatched}
 use Rattle.parcels.proofs.despatch.Reads as despatch
 
 pub despatch_one :
-    (κs : Lfts 2) (s b z z' : Bor (List ℕ)) (k : ℕ) (r r' : Despatched) →
+    (κs : Lfts 2) (s : Bor (List ℕ)) (b z z' : MutBor (List ℕ)) (k : ℕ) (r r' : Despatched) →
     despatch.Post κs (s, (k, (b, tt))) r (s, (k, (z, tt))) → despatch.Post κs (s, (k, (b, tt))) r' (s, (k, (z', tt))) → (r ≡ r') × (z.now ≡ z'.now)
 despatch_one κs s b z z' k r r' p q =
     let a = told_injective r.answer r'.answer (p.0 ∙ sym q.0) in
@@ -29,7 +30,7 @@ unfolding despatch_count
 refused_none s k room h = rw h
 
 pub refused_same :
-    (κs : Lfts 2) (s b z : Bor (List ℕ)) (k : ℕ) (r : Despatched) →
+    (κs : Lfts 2) (s : Bor (List ℕ)) (b z : MutBor (List ℕ)) (k : ℕ) (r : Despatched) →
     despatch.Post κs (s, (k, (b, tt))) r (s, (k, (z, tt))) → accepted r.answer ≡ false → (r.count ≡ 0) × (z.now ≡ b.now)
 refused_same κs s b z k r p h =
     let e = sym (ap accepted (told_injective r.answer (despatch_answer s.now k (length b.now)) p.0)) ∙ h in

@@ -4,6 +4,7 @@ use mathlib.Core.Path.{◌≡◌, refl, sym, ap, ◌∙◌}
 use mathlib.Core.Bool.{Bool, true, false}
 use mathlib.Core.List.{List, []}
 use contract.Lifetimes.{Lfts}
+use denote.MutBor.{MutBor}
 use denote.Ref.{Bor}
 use lib.ListN.{length}
 use Rattle.answer.specs.Answers.{accepted}
@@ -43,33 +44,33 @@ write_stays : (g : Image) (b : List ℕ) → accepted (write_answer g (length b)
 write_stays g b h = rw h
 
 pub write_refused :
-    (κs : Lfts 1) (g : Image) (b z : Bor (List ℕ)) (r : Answer) →
+    (κs : Lfts 1) (g : Image) (b z : MutBor (List ℕ)) (r : Answer) →
     write.Post κs (g, (b, tt)) r (g, (z, tt)) → accepted r ≡ false → z.now ≡ b.now
 write_refused κs g b z r p h =
     p.1 ∙ write_stays g b.now (refusal r (write_answer g (length b.now)) (told_injective r (write_answer g (length b.now)) p.0) h)
 
 pub save_refused :
-    (κs : Lfts 1) (m : Machine) (b z : Bor (List ℕ)) (r : Answer) →
+    (κs : Lfts 1) (m : Machine) (b z : MutBor (List ℕ)) (r : Answer) →
     save.Post κs (m, (b, tt)) r (m, (z, tt)) → accepted r ≡ false → z.now ≡ b.now
 save_refused κs m b z r p h =
     p.1 ∙ saved_stays m b.now (in_range m) refl (refusal r (save_answer m (length b.now)) (told_injective r (save_answer m (length b.now)) p.0) h)
 
 pub ending_refused :
-    (κs : Lfts 2) (s : Bor (List ℕ)) (k : ℕ) (b z : Bor (List ℕ)) (r : Answer) →
+    (κs : Lfts 2) (s : Bor (List ℕ)) (k : ℕ) (b z : MutBor (List ℕ)) (r : Answer) →
     ending.Post κs (s, (k, (b, tt))) r (s, (k, (z, tt))) → accepted r ≡ false → z.now ≡ b.now
 ending_refused κs s k b z r p h =
     let a = ending_answer s.now k (length b.now) in
     p.1 ∙ ending_stays s.now k b.now (refusal r a (told_injective r a p.0) h)
 
 pub page_lines_refused :
-    (κs : Lfts 2) (s : Bor (List ℕ)) (k : ℕ) (b z : Bor (List ℕ)) (r : Lines) →
+    (κs : Lfts 2) (s : Bor (List ℕ)) (k : ℕ) (b z : MutBor (List ℕ)) (r : Lines) →
     lines.Post κs (s, (k, (b, tt))) r (s, (k, (z, tt))) → accepted r.answer ≡ false → z.now ≡ b.now
 page_lines_refused κs s k b z r p h =
     let a = lines_answer s.now k (length b.now) in
     p.1.1.1.0 ∙ lines_stay s.now k b.now (refusal r.answer a (told_injective r.answer a p.0) h)
 
 pub refusal_line_refused :
-    (κs : Lfts 1) (i v : ℕ) (b z : Bor (List ℕ)) (r : Filled) →
+    (κs : Lfts 1) (i v : ℕ) (b z : MutBor (List ℕ)) (r : Filled) →
     line.Post κs (i, (v, (b, tt))) r (i, (v, (z, tt))) → accepted r.answer ≡ false → z.now ≡ b.now
 refusal_line_refused κs i v b z r p h =
     let a = refusal_answer i v (length b.now) in

@@ -2,7 +2,7 @@
 -- has them; a result is taken apart as include/uq.h does it.
 use Rattle.std.specs.Prelude.{ℕ, ◌<◌, ◌≤◌, ◌/◌, ◌%◌, ◌≡◌, Bool, true, false, List, length, eqb}
 use contract.Lifetimes.{Lfts}
-use Rattle.std.specs.Borrow.{Bor}
+use Rattle.std.specs.Borrow.{Bor, MutBor}
 use Rattle.lists.specs.Tab.{over}
 use Rattle.answer.specs.Answers.{told}
 use Rattle.answer.specs.declared.Told.{Told}
@@ -20,7 +20,7 @@ CountsC s r = (κs : Lfts 1) × (x : Bor (List ℕ)) × (x.now ≡ s) × countin
 -- uq_ending's contract allows the number q for the bytes s, the ending k and a lent buffer that holds b before and z after it
 abbrev pub WritesC : List ℕ → ℕ → List ℕ → ℕ → List ℕ → Type 0
 WritesC s k b q z =
-    (κs : Lfts 2) × (x : Bor (List ℕ)) × (y : Bor (List ℕ)) × (y' : Bor (List ℕ))
+    (κs : Lfts 2) × (x : Bor (List ℕ)) × (y : MutBor (List ℕ)) × (y' : MutBor (List ℕ))
     × (x.now ≡ s) × (y.now ≡ b) × (y'.now ≡ z) × writing.Post κs (x, (k, (y, tt))) q (x, (k, (y', tt)))
 
 -- a number whose lowest byte is 0: taken

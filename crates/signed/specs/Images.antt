@@ -1,7 +1,7 @@
 -- Images as the calls read and write them, and the bytes of an ending. Nothing is asked of the calls but their contracts, as the source has them.
 use Rattle.std.specs.Prelude.{ℕ, ◌<◌, ◌≤◌, ◌≡◌, true, List, length, take}
 use contract.Lifetimes.{Lfts}
-use Rattle.std.specs.Borrow.{Bor}
+use Rattle.std.specs.Borrow.{Bor, MutBor}
 use Rattle.answer.specs.Answers.{accepted}
 use Rattle.answer.specs.declared.Answer.{Answer}
 use Rattle.answer.specs.declared.Answer.TheVariants.{Taken}
@@ -20,7 +20,7 @@ ReadsAs s r = (κs : Lfts 1) × (x : Bor (List ℕ)) × (x.now ≡ s) × reading
 -- write_image's contract allows the answer a for the contents g and a lent buffer that holds b before and z after it
 abbrev pub WritesAs : Image → List ℕ → Answer → List ℕ → Type 0
 WritesAs g b a z =
-    (κs : Lfts 1) × (y : Bor (List ℕ)) × (y' : Bor (List ℕ)) × (y.now ≡ b) × (y'.now ≡ z) × writing.Post κs (g, (y, tt)) a (g, (y', tt))
+    (κs : Lfts 1) × (y : MutBor (List ℕ)) × (y' : MutBor (List ℕ)) × (y.now ≡ b) × (y'.now ≡ z) × writing.Post κs (g, (y, tt)) a (g, (y', tt))
 
 -- ---- the bytes of an ending
 

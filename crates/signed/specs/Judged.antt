@@ -2,7 +2,7 @@
 -- ending recovers to, are a history, and no ending of an accepted schedule is ever judged unlawful.
 use Rattle.std.specs.Prelude.{ℕ, ◌<◌, ◌≤◌, ◌/◌, ◌%◌, ◌≡◌, true, List, [], ◌≢◌, length}
 use contract.Lifetimes.{Lfts}
-use Rattle.std.specs.Borrow.{Bor}
+use Rattle.std.specs.Borrow.{Bor, MutBor}
 use Rattle.answer.specs.Answers.{accepted}
 use Rattle.answer.specs.declared.Answer.{Answer}
 use Rattle.answer.specs.declared.Answer.TheVariants.{Taken}
@@ -43,7 +43,7 @@ Judges h r = (κs : Lfts 1) × (x : Bor (List ℕ)) × (x.now ≡ h) × judging.
 -- uq_judge's contract allows the number q for the bytes h and a lent buffer that holds b before and z after it
 abbrev pub JudgesC : List ℕ → List ℕ → ℕ → List ℕ → Type 0
 JudgesC h b q z =
-    (κs : Lfts 2) × (x : Bor (List ℕ)) × (y : Bor (List ℕ)) × (y' : Bor (List ℕ))
+    (κs : Lfts 2) × (x : Bor (List ℕ)) × (y : MutBor (List ℕ)) × (y' : MutBor (List ℕ))
     × (x.now ≡ h) × (y.now ≡ b) × (y'.now ≡ z) × judging_c.Post κs (x, (y, tt)) q (x, (y', tt))
 
 -- the history is taken, and neither call says unlawful (0, in the byte where include/uq.h finds a verdict)

@@ -1,7 +1,7 @@
 -- What a result of the count call is worth, whoever wrote the calls: nothing is asked of them but their contracts, as the source has them.
 use Rattle.std.specs.Prelude.{ℕ, ◌<◌, ◌≤◌, ◌≡◌, Bool, true, false, List, length}
 use contract.Lifetimes.{Lfts}
-use Rattle.std.specs.Borrow.{Bor}
+use Rattle.std.specs.Borrow.{Bor, MutBor}
 use Rattle.lists.specs.Tab.{over}
 use Rattle.answer.specs.Answers.{told, accepted}
 use Rattle.answer.specs.declared.Told.{Told}
@@ -24,7 +24,7 @@ Counts s r = (κs : Lfts 1) × (x : Bor (List ℕ)) × (x.now ≡ s) × counting
 -- the ending call's contract allows the answer a for the bytes s, the ending k and a lent buffer that holds b before and z after it
 abbrev pub Writes : List ℕ → ℕ → List ℕ → Answer → List ℕ → Type 0
 Writes s k b a z =
-    (κs : Lfts 2) × (x : Bor (List ℕ)) × (y : Bor (List ℕ)) × (y' : Bor (List ℕ))
+    (κs : Lfts 2) × (x : Bor (List ℕ)) × (y : MutBor (List ℕ)) × (y' : MutBor (List ℕ))
     × (x.now ≡ s) × (y.now ≡ b) × (y'.now ≡ z) × writing.Post κs (x, (k, (y, tt))) a (x, (k, (y', tt)))
 
 -- how many bytes an ending takes, by the shape of the schedule's machine
