@@ -1,0 +1,22 @@
+use Prim.Native.Nat.{◌-◌, ◌≤◌}
+use mathlib.Core.Path.{◌≡◌}
+use Rattle.lists.specs.Tab.{over}
+use Rattle.plainway.specs.Plainly.{all_bytes}
+use Rattle.plainway.specs.Noting.{images_to, NotedTo}
+use native.Mathlib.Omega.{arith}
+use lib.ListN.{length}
+use mathlib.Core.Path.{ap, subst, ◌∙◌}
+use Rattle.lists.proofs.TabLaws as tabs
+use Rattle.lawful.specs.Demand3.{Bytes}
+use Rattle.plainway.proofs.NoteLaws as notes
+use Rattle.plainway.proofs.RunLaws as laws
+use Rattle.plainway.proofs.noting.note_some.Reads as reads
+use Rattle.plainway.proofs.noting.note_some.Lts as lts
+use Rattle.plainway.proofs.noting.note.Reads as note-reads
+use Rattle.plainway.proofs.noting.note_some.Given as goal
+
+abbrev pub invariant-loop-k : goal.invariant-loop-k
+invariant-loop-k l = (l.k ≤ l.to) × NotedTo l.s l.k l.b l.n × (l.b ≡ over l.initial.b 0 (all_bytes (images_to l.s l.k)))
+
+abbrev pub decreases-loop-k : goal.decreases-loop-k
+decreases-loop-k l = l.to - l.k
