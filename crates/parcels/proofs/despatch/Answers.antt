@@ -1,6 +1,6 @@
-use Prim.Native.Nat.{ℕ, ◌≤◌}
-use mathlib.Core.Path.{◌≡◌, refl, sym, ap, ◌∙◌}
-use mathlib.Core.Bool.{Bool, true, false}
+use Prim.Native.Nat.{ℕ}
+use mathlib.Core.Path.{◌≡◌, sym, ap, ◌∙◌}
+use mathlib.Core.Bool.{true, false}
 use mathlib.Core.List.{List}
 use native.Mathlib.Omega.{arith}
 use lib.ListN.{length}
@@ -14,7 +14,6 @@ use Rattle.codec.proofs.Accepted as codec
 use Rattle.lawproof.proofs.Lawful3.{page_parts}
 use Rattle.parcels.specs.Started.{no_bytes}
 use Rattle.parcels.proofs.EndLaws as ends
-use borrow.Author.Rules.{rules}
 use Rattle.parcels.proofs.despatch.Goals as goal
 
 -- what ending_of answered, with a buffer of 1,024 bytes

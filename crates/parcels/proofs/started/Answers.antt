@@ -1,5 +1,5 @@
-use Prim.Native.Nat.{ℕ, ◌-◌, ◌*◌, ◌≤◌}
-use mathlib.Core.Path.{◌≡◌, refl, sym, ap, ap₂, ◌∙◌}
+use Prim.Native.Nat.{ℕ, ◌-◌, ◌*◌}
+use mathlib.Core.Path.{◌≡◌, sym, ap, ap₂, ◌∙◌}
 use mathlib.Core.List.{List}
 use native.Mathlib.Omega.{arith}
 use lib.ListN.{length, take}
@@ -9,9 +9,7 @@ use Rattle.image.specs.declared.Image.{Image}
 use Rattle.machine.specs.Start.{start_from}
 use Rattle.schedule.specs.Layout.{schedule_in, count_in, threads_in}
 use Rattle.schedule.specs.declared.Schedule.{Schedule}
-use Rattle.parcels.specs.Started.{end_size}
 use Rattle.parcels.proofs.EndLaws as ends
-use borrow.Author.Rules.{rules}
 use Rattle.parcels.proofs.started.Goals as goal
 
 count-in : (s : List ℕ) (d : Schedule) → d ≡ schedule_in s → d.count ≡ count_in s

@@ -12,7 +12,6 @@ use Rattle.filling.proofs.Answers as answers
 use Rattle.filling.proofs.Tables as tables
 use Rattle.filling.proofs.Lined as lined
 use native.Mathlib.Omega.{arith}
-use borrow.Author.Rules.{rules}
 use Rattle.filling.proofs.calls.page_lines.Goals as goal
 
 pub returns-then-not-is_taken : goal.returns-then-not-is_taken

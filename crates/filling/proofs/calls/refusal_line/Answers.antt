@@ -1,6 +1,5 @@
 use Rattle.printing.proofs.Short as short
 use Rattle.filling.proofs.Answers as answers
-use borrow.Author.Rules.{rules}
 use Rattle.filling.proofs.calls.refusal_line.Goals as goal
 
 pub returns-then-p-eq0 : goal.returns-then-p-eq0

@@ -1,5 +1,3 @@
-use native.Mathlib.Omega.{arith}
-use borrow.Author.Rules.{rules}
 use Rattle.filling.proofs.table.fill.Goals as goal
 
 pub fill_told-requires : goal.fill_told-requires

@@ -8,7 +8,6 @@ use Rattle.printing.proofs.Short as short
 use Rattle.filling.specs.Lines.{table_line}
 use Rattle.filling.proofs.Lined as laws
 use native.Mathlib.Omega.{arith}
-use borrow.Author.Rules.{rules}
 use Rattle.filling.proofs.table.fill_told.Goals as goal
 
 pub write_told-w-requires : goal.write_told-w-requires

@@ -3,7 +3,6 @@ use Prim.Native.Nat.{ℕ, ◌+◌, ◌-◌}
 use mathlib.Core.Path.{◌≡◌, sym, subst, fun_ext, ◌∙◌}
 use mathlib.Core.List.{List}
 use lib.ListN.{length}
-use borrow.Author.Rules.{rules}
 use Rattle.lists.specs.Tab.{over}
 use Rattle.image.specs.Form.{head_lines}
 use Rattle.page.specs.Filled.{lines_on, fitting}

@@ -1,15 +1,8 @@
 use Rattle.answer.specs.Answers.{told, accepted}
 use native.Mathlib.Omega.{arith}
-use mathlib.Core.Path.{◌≡◌, refl, sym, ap, ◌∙◌}
-use Prim.Native.Nat.{◌+◌, ◌*◌, ◌≤◌, ◌<◌}
+use mathlib.Core.Path.{sym, ap, ◌∙◌}
 use Rattle.runs.proofs.GoingLaws as going
 use Rattle.runs.proofs.PageLaws as laws
-use borrow.Author.Rules.{rules}
-use Rattle.pages.proofs.calls.count_endings.Reads as reads
-use Rattle.pages.proofs.calls.count_endings.Lts as lts
-use Rattle.endtable.proofs.ending.ending_count.Reads as ending-count-reads
-use Rattle.runs.proofs.paging.page_of.Reads as page-of-reads
-use Rattle.runs.proofs.tables.counts_of.Reads as counts-of-reads
 use Rattle.pages.proofs.calls.count_endings.Goals as goal
 
 pub returns-then-not-is_taken : goal.returns-then-not-is_taken

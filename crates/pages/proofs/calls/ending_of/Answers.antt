@@ -7,22 +7,12 @@ use Rattle.page.specs.Refusals.{ending_count, ending_in}
 use Rattle.answer.specs.Answers.{told, accepted}
 use lib.ListN.{length}
 use native.Mathlib.Omega.{arith}
-use mathlib.Core.Path.{◌≡◌, refl, sym, ap, subst, ◌∙◌}
+use mathlib.Core.Path.{◌≡◌, sym, ap, subst, ◌∙◌}
 use mathlib.Core.Bool.{true}
-use Prim.Native.Nat.{◌+◌, ◌*◌, ◌≤◌, ◌<◌}
+use Prim.Native.Nat.{◌≤◌, ◌<◌}
 use Rattle.runs.proofs.GoingLaws as going
 use Rattle.runs.proofs.PageLaws as laws
 use Rattle.pages.proofs.OwnLaws as own
-use borrow.Author.Rules.{rules}
-use Rattle.pages.proofs.calls.ending_of.Reads as reads
-use Rattle.pages.proofs.calls.ending_of.Lts as lts
-use Rattle.codec.proofs.put_image.Reads as put-image-reads
-use Rattle.endtable.proofs.ending.ending_count.Reads as ending-count-reads
-use Rattle.endtable.proofs.ending.ending_image.Reads as ending-image-reads
-use Rattle.endtable.proofs.ending.ending_picks.Reads as ending-picks-reads
-use Rattle.runs.proofs.paging.page_of.Reads as page-of-reads
-use Rattle.runs.proofs.tables.counts_of.Reads as counts-of-reads
-use Rattle.runs.proofs.tables.table_of.Reads as table-of-reads
 use Rattle.pages.proofs.calls.ending_of.Goals as goal
 
 pub returns-then-not-is_taken : goal.returns-then-not-is_taken

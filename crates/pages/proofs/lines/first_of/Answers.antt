@@ -1,8 +1,5 @@
-use Prim.Native.Nat.{◌+◌, ◌-◌, ◌≤◌}
-use mathlib.Core.Path.{◌≡◌, refl, sym, ap, ◌∙◌}
+use mathlib.Core.Path.{◌≡◌, ◌∙◌}
 use native.Mathlib.Omega.{arith}
-use borrow.Author.Rules.{rules}
-use Rattle.pages.specs.Lines.{first_of}
 use Rattle.pages.proofs.LineLaws as laws
 use Rattle.pages.proofs.lines.first_of.Goals as goal
 

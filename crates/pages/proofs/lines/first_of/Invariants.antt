@@ -1,9 +1,6 @@
-use Prim.Native.Nat.{◌+◌, ◌-◌, ◌≤◌}
-use mathlib.Core.Path.{◌≡◌, refl, sym, ap, ◌∙◌}
-use native.Mathlib.Omega.{arith}
-use borrow.Author.Rules.{rules}
+use Prim.Native.Nat.{◌-◌, ◌≤◌}
+use mathlib.Core.Path.{◌≡◌}
 use Rattle.pages.specs.Lines.{first_of}
-use Rattle.pages.proofs.LineLaws as laws
 use Rattle.pages.proofs.lines.first_of.Given as goal
 
 abbrev pub invariant-loop-i : goal.invariant-loop-i

@@ -1,12 +1,9 @@
-use Prim.Native.Nat.{◌+◌, ◌<◌, ◌≤◌}
-use mathlib.Core.Path.{◌≡◌, refl, sym, ap, ◌∙◌}
+use Prim.Native.Nat.{◌<◌}
+use mathlib.Core.Path.{sym, ap, ◌∙◌}
 use mathlib.Core.Bool.{true, false}
 use native.Mathlib.Omega.{arith}
-use borrow.Author.Rules.{rules}
 use Rattle.answer.specs.Answers.{told, accepted}
 use Rattle.machine.specs.Line.{shape_of, line_count}
-use Rattle.page.specs.Refusals.{page_answer}
-use Rattle.pages.specs.Lines.{line_answer}
 use Rattle.runs.proofs.GoingLaws as going
 use Rattle.runs.proofs.PageLaws as pages
 use Rattle.pages.proofs.LineLaws as laws

@@ -1,9 +1,8 @@
-use mathlib.Core.Path.{◌≡◌, sym, ap, ◌∙◌}
+use mathlib.Core.Path.{sym, ap, ◌∙◌}
 use borrow.Author.Tests.{eq-eqb, ne_eqb, lt-ltb, le-ltb, le-leb, lt-leb}
 use Rattle.machine.specs.declared.Node.{Node}
 use native.Mathlib.Omega.{arith}
 use Rattle.parcels.specs.Started.{head_in, group_in}
-use borrow.Author.Rules.{rules}
 use Rattle.parcels.proofs.entries.group_of.Goals as goal
 
 pub returns-then-p : goal.returns-then-p

@@ -1,5 +1,4 @@
 use borrow.Author.Tests.{eq-eqb, ne_eqb, lt-ltb, le-ltb}
-use borrow.Author.Rules.{rules}
 use Rattle.parcels.proofs.entries.is_queued.Goals as goal
 
 pub returns-then-p-ge64 : goal.returns-then-p-ge64

@@ -1,5 +1,4 @@
 use borrow.Author.Tests.{lt-ltb, le-ltb}
-use borrow.Author.Rules.{rules}
 use Rattle.parcels.proofs.entries.node_at.Goals as goal
 
 pub returns-then-i-ge64 : goal.returns-then-i-ge64

@@ -2,7 +2,6 @@ use native.Mathlib.Numerals.{add-one, add-two, add-three, add-four, add_five, ad
 use native.Mathlib.Omega.{arith}
 use Rattle.lists.specs.Tab.{over}
 use lib.ListN.{length-set}
-use borrow.Author.Rules.{rules}
 use Rattle.parcels.proofs.entries.put_entry.Goals as goal
 
 pub bounds-b-at-2 : goal.bounds-b-at-2

@@ -1,5 +1,4 @@
 use borrow.Author.Tests.{eq-eqb, ne_eqb}
-use borrow.Author.Rules.{rules}
 use Rattle.parcels.proofs.moves.is_gone.Goals as goal
 
 pub returns-then-v-x : goal.returns-then-v-x

@@ -1,7 +1,6 @@
 use mathlib.Core.Path.{sym, ◌∙◌}
 use borrow.Author.Tests.{eq-eqb, ne_eqb}
 use Rattle.parcels.specs.Parcel.{moved}
-use borrow.Author.Rules.{rules}
 use Rattle.parcels.proofs.moves.moved.Goals as goal
 
 pub returns-then-is_of : goal.returns-then-is_of

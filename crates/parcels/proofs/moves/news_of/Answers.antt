@@ -1,6 +1,5 @@
 use mathlib.Core.Path.{sym, ◌∙◌}
 use Rattle.parcels.specs.Parcel.{news_of}
-use borrow.Author.Rules.{rules}
 use Rattle.parcels.proofs.moves.news_of.Goals as goal
 
 pub returns-then-is_gone : goal.returns-then-is_gone

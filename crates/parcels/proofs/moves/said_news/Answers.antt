@@ -1,5 +1,4 @@
 use borrow.Author.Tests.{eq-eqb, ne_eqb}
-use borrow.Author.Rules.{rules}
 use Rattle.parcels.proofs.moves.said_news.Goals as goal
 
 pub returns-then-said-eq0 : goal.returns-then-said-eq0

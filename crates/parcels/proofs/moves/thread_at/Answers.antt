@@ -1,5 +1,4 @@
 use borrow.Author.Tests.{lt-ltb, le-ltb}
-use borrow.Author.Rules.{rules}
 use Rattle.parcels.proofs.moves.thread_at.Goals as goal
 
 pub returns-then-k-ge8 : goal.returns-then-k-ge8

@@ -1,9 +1,8 @@
-use Prim.Native.Nat.{ℕ, ◌+◌, ◌-◌, ◌*◌, ◌<◌, ◌≤◌}
+use Prim.Native.Nat.{ℕ, ◌+◌, ◌*◌, ◌<◌, ◌≤◌}
 use mathlib.Core.Path.{◌≡◌, refl, sym, ap, subst, ◌∙◌}
 use mathlib.Core.List.{List}
 use native.Mathlib.Omega.{arith}
 use lib.ListN.{length, get_or, set}
-use borrow.Author.Rules.{rules}
 use Rattle.lists.specs.Tab.{over}
 use Rattle.lists.proofs.TabLaws.{length_over}
 use Rattle.schedule.specs.Layout.{schedule_in, count_in}
@@ -141,8 +140,7 @@ loop-i-preserved c =
     let e = c.event_of-f.result.event in
     let ee = laws.event_is s y a c.loop-i.i h e c.event_of-f.ensures.event in
     let o = c.on_event-out.result in
-    let w = laws.acted_is s y a c.loop-i.i h c.loop-i.m u.machine e ee o c.on_event-out.ensures.answers c.on_event-out.ensures.machine in
-    (
+    let w = laws.acted_is s y a c.loop-i.i h c.loop-i.m u.machine e ee o c.on_event-out.ensures.answers c.on_event-out.ensures.machine in (
       c.loop-i.invariant.0,
       subst (λ (l : List Parcel). laws.Under s (c.loop-i.i + 1) o.machine l c.loop-i.count) (sym c.loop-j.invariant.1)
           (laws.under_told s y a c.loop-i.i c.loop-i.m c.loop-i.parcels c.loop-i.count u h e ee o.machine w.1 c.if-e-ne3.false o w.0 w.1 c.news_of-w.result c.news_of-w.ensures c.loop-j.j c.loop-j.invariant.0 c.loop-j-test.false),
@@ -306,8 +304,7 @@ loop-k-preserved c =
     let u = c.loop-i.invariant.1 in
     let h = (let q : count_in s ≤ c.loop-i.i = omega (arith, c.loop-i.invariant.0, c.loop-i-test.false) in q) in
     let n = laws.count_small s y a in
-    let k = laws.count_is s y a c.loop-i.i c.loop-i.m c.loop-i.parcels c.loop-i.count u h in
-    (
+    let k = laws.count_is s y a c.loop-i.i c.loop-i.m c.loop-i.parcels c.loop-i.count u h in (
       omega (arith, c.loop-k-test.true),
       c.put_entry.ensures ∙ ap (λ (x : List ℕ). over x (c.loop-k.k * 8) (entry_bytes (get_or c.loop-i.parcels c.loop-k.k no_parcel) c.group_of-group.result)) c.loop-k.invariant.1
           ∙ outs.packed_over c.args.end c.loop-i.parcels c.args.b.now c.loop-k.k (get_or c.loop-i.parcels c.loop-k.k no_parcel) c.group_of-group.result refl c.group_of-group.ensures,

@@ -1,20 +1,9 @@
-use Prim.Native.Nat.{ℕ, ◌+◌, ◌-◌, ◌*◌, ◌<◌, ◌≤◌}
-use mathlib.Core.Path.{◌≡◌, refl, sym, ap, subst, ◌∙◌}
-use mathlib.Core.List.{List}
-use native.Mathlib.Omega.{arith}
-use lib.ListN.{length, get_or, set}
-use borrow.Author.Rules.{rules}
+use Prim.Native.Nat.{◌-◌, ◌≤◌}
+use mathlib.Core.Path.{◌≡◌}
 use Rattle.lists.specs.Tab.{over}
-use Rattle.lists.proofs.TabLaws.{length_over}
-use Rattle.schedule.specs.Layout.{schedule_in, count_in}
-use Rattle.schedule.specs.declared.Schedule.{Schedule}
-use Rattle.lawful.specs.Demand3.{Bytes}
-use Rattle.parcels.specs.Parcel.{no_parcel, moved}
-use Rattle.parcels.specs.Despatch.{entry_bytes}
+use Rattle.schedule.specs.Layout.{count_in}
 use Rattle.parcels.specs.Started.{packed_to}
-use Rattle.parcels.specs.declared.Parcel.{Parcel}
 use Rattle.parcels.proofs.PackLaws as laws
-use Rattle.parcels.proofs.WriteLaws as outs
 use Rattle.parcels.proofs.packing.packed.Given as goal
 
 abbrev pub invariant-loop-j : goal.invariant-loop-j

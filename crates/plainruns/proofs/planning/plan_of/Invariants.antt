@@ -1,12 +1,6 @@
-use Prim.Native.Nat.{◌-◌, ◌<◌}
+use Prim.Native.Nat.{◌-◌}
 use mathlib.Core.Path.{◌≡◌}
-use native.Mathlib.Omega.{arith}
-use borrow.Author.Rules.{rules}
-use borrow.Author.Tests.{eq-eqb, ne_eqb}
 use Rattle.schedule.specs.Layout.{schedule_shape, count_in}
-use Rattle.codec.proofs.Accepted as codec
-use Rattle.onward.proofs.Reached as reached
-use Rattle.pageproof.proofs.Holds.{page_schedule}
 use Rattle.plainruns.proofs.PlanLaws as laws
 use Rattle.plainruns.proofs.planning.plan_of.Given as goal
 

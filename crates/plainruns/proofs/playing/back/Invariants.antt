@@ -1,14 +1,6 @@
-use Prim.Native.Nat.{◌-◌, ◌<◌, ◌≤◌}
-use mathlib.Core.Path.{◌≡◌, refl, sym, ap, subst, ◌∙◌}
-use mathlib.Core.Bool.{true, false}
-use native.Mathlib.Omega.{arith}
-use native.Mathlib.Numerals.{add-one}
-use borrow.Author.Tests.{eq-eqb, ne_eqb}
-use Rattle.machine.specs.Line.{shape_of, line_count}
-use Rattle.machine.specs.declared.Machine.{Machine}
+use Prim.Native.Nat.{◌-◌, ◌≤◌}
+use mathlib.Core.Path.{◌≡◌}
 use Rattle.plainproof.specs.Plain.{backed}
-use Rattle.plainruns.specs.Playable.{Small}
-use Rattle.plainruns.proofs.PlayLaws as laws
 use Rattle.plainruns.proofs.playing.back.Given as goal
 
 abbrev pub invariant-loop-j : goal.invariant-loop-j

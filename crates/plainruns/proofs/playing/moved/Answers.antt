@@ -1,5 +1,4 @@
 use mathlib.Core.Path.{ap}
-use borrow.Author.Rules.{rules}
 use Rattle.machine.specs.declared.Acted.{Acted}
 use Rattle.plainruns.proofs.playing.moved.Goals as goal
 

@@ -3,7 +3,6 @@ use mathlib.Core.Path.{◌≡◌, ap}
 use mathlib.Core.Logic.{◌≢◌}
 use native.Mathlib.Omega.{arith}
 use native.Mathlib.Decide.{ℕ_discrete}
-use borrow.Author.Rules.{rules}
 use lib.ListN.{get_or-eq_default}
 use Rattle.machine.specs.Event.{deeds, deed_of, unknown, crashes}
 use Rattle.plainruns.proofs.playing.play.Goals as goal

@@ -1,10 +1,9 @@
-use Prim.Native.Nat.{◌+◌, ◌-◌, ◌<◌, ◌≤◌}
+use Prim.Native.Nat.{◌+◌, ◌<◌}
 use mathlib.Core.Path.{◌≡◌, sym, ap, ap₂, subst, ◌∙◌}
 use native.Mathlib.Omega.{arith}
 use Rattle.machine.specs.Line.{shape_of, line_count}
 use Rattle.machine.specs.declared.Machine.{Machine}
 use Rattle.machine.specs.declared.Event.{Event}
-use Rattle.schedule.specs.Layout.{schedule_shape}
 use Rattle.lawful.specs.Demand3.{Bytes}
 use Rattle.plainproof.specs.Plain.{start_machine, since_count, event_since, lines_in, played, played_at}
 use Rattle.plainproof.proofs.Since as since

@@ -1,10 +1,9 @@
-use Prim.Native.Nat.{◌+◌, ◌-◌, ◌/◌, ◌%◌, ◌^◌, ◌<◌, ◌≤◌}
+use Prim.Native.Nat.{◌+◌, ◌-◌, ◌/◌, ◌%◌, ◌^◌, ◌<◌}
 use mathlib.Core.Path.{◌≡◌, sym, ap, subst, ◌∙◌}
 use native.Mathlib.Omega.{arith}
-use borrow.Author.Rules.{rules}
 use lib.ListN.{length, set, length-set}
 use Rattle.lists.specs.Tab.{over}
-use Rattle.plainruns.specs.Turns.{turn_of, no_picks, turn_in}
+use Rattle.plainruns.specs.Turns.{turn_of, no_picks}
 use Rattle.plainruns.proofs.TurnLaws as laws
 use Rattle.plainruns.proofs.turns.turn_of.Goals as goal
 

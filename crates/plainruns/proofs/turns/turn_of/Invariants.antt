@@ -1,11 +1,8 @@
-use Prim.Native.Nat.{◌+◌, ◌-◌, ◌/◌, ◌%◌, ◌^◌, ◌<◌, ◌≤◌}
-use mathlib.Core.Path.{◌≡◌, sym, ap, subst, ◌∙◌}
-use native.Mathlib.Omega.{arith}
-use borrow.Author.Rules.{rules}
-use lib.ListN.{length, set, length-set}
+use Prim.Native.Nat.{◌-◌, ◌^◌, ◌<◌, ◌≤◌}
+use mathlib.Core.Path.{◌≡◌}
+use lib.ListN.{length}
 use Rattle.lists.specs.Tab.{over}
-use Rattle.plainruns.specs.Turns.{turn_of, no_picks, turn_in}
-use Rattle.plainruns.proofs.TurnLaws as laws
+use Rattle.plainruns.specs.Turns.{turn_of, turn_in}
 use Rattle.plainruns.proofs.turns.turn_of.Given as goal
 
 abbrev pub invariant-loop-j : goal.invariant-loop-j

@@ -1,9 +1,7 @@
 use Prim.Native.Nat.{◌-◌, ◌≤◌}
 use mathlib.Core.Path.{◌≡◌}
 use mathlib.Core.Bool.{false}
-use native.Mathlib.Omega.{arith}
 use Rattle.plainway.specs.Noting.{differs}
-use Rattle.plainway.proofs.ByteLaws as laws
 use Rattle.plainway.proofs.noting.is_at.Given as goal
 
 abbrev pub invariant-loop-i : goal.invariant-loop-i

@@ -1,10 +1,7 @@
-use Prim.Native.Nat.{◌+◌, ◌*◌, ◌-◌, ◌≤◌}
-use mathlib.Core.Path.{◌≡◌, sym, ap, ◌∙◌}
+use Prim.Native.Nat.{◌-◌, ◌≤◌}
+use mathlib.Core.Path.{◌≡◌}
 use mathlib.Core.Bool.{false}
-use native.Mathlib.Omega.{arith}
-use native.Mathlib.Nat.{suc-mul, mul-le-mul_right}
 use Rattle.plainway.specs.Noting.{is_noted}
-use Rattle.plainway.proofs.ByteLaws as laws
 use Rattle.plainway.proofs.noting.is_noted.Given as goal
 
 abbrev pub invariant-loop-i : goal.invariant-loop-i

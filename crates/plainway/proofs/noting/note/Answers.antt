@@ -1,11 +1,9 @@
-use Prim.Native.Nat.{ℕ, ◌+◌, ◌*◌, ◌≤◌, ◌<◌, ◌^◌}
-use mathlib.Core.Path.{◌≡◌, refl, sym, ap, ap₂, subst, ◌∙◌}
+use Prim.Native.Nat.{ℕ}
+use mathlib.Core.Path.{sym, ap₂, ◌∙◌}
 use native.Mathlib.Omega.{arith}
-use borrow.Author.Rules.{rules}
-use lib.ListN.{length, length-replicate}
+use lib.ListN.{length-replicate}
 use lib.Seq.{length-take-le}
 use Rattle.lawful.specs.Demand3.{Bytes}
-use Rattle.plainway.specs.Noting.{base_in, runs_in}
 use Rattle.plainway.proofs.RunLaws as laws
 use Rattle.plainway.proofs.noting.note.Goals as goal
 

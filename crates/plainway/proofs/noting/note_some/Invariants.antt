@@ -3,16 +3,6 @@ use mathlib.Core.Path.{◌≡◌}
 use Rattle.lists.specs.Tab.{over}
 use Rattle.plainway.specs.Plainly.{all_bytes}
 use Rattle.plainway.specs.Noting.{images_to, NotedTo}
-use native.Mathlib.Omega.{arith}
-use lib.ListN.{length}
-use mathlib.Core.Path.{ap, subst, ◌∙◌}
-use Rattle.lists.proofs.TabLaws as tabs
-use Rattle.lawful.specs.Demand3.{Bytes}
-use Rattle.plainway.proofs.NoteLaws as notes
-use Rattle.plainway.proofs.RunLaws as laws
-use Rattle.plainway.proofs.noting.note_some.Reads as reads
-use Rattle.plainway.proofs.noting.note_some.Lts as lts
-use Rattle.plainway.proofs.noting.note.Reads as note-reads
 use Rattle.plainway.proofs.noting.note_some.Given as goal
 
 abbrev pub invariant-loop-k : goal.invariant-loop-k

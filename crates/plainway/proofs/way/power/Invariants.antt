@@ -1,8 +1,5 @@
-use Prim.Native.Nat.{◌*◌, ◌-◌, ◌^◌, ◌≤◌}
-use mathlib.Core.Path.{◌≡◌, refl, sym, ap, ◌∙◌}
-use native.Mathlib.Omega.{arith}
-use native.Mathlib.Nat.{pow-zero}
-use Rattle.plainway.proofs.WayLaws as laws
+use Prim.Native.Nat.{◌-◌, ◌^◌, ◌≤◌}
+use mathlib.Core.Path.{◌≡◌}
 use Rattle.plainway.proofs.way.power.Given as goal
 
 abbrev pub invariant-loop-i : goal.invariant-loop-i

@@ -1,8 +1,7 @@
-use Prim.Native.Nat.{◌+◌, ◌*◌, ◌≤◌, ◌<◌}
+use Prim.Native.Nat.{◌≤◌}
 use mathlib.Core.Path.{◌≡◌, refl, sym, ap, ◌∙◌}
 use mathlib.Core.Bool.{true}
 use native.Mathlib.Omega.{arith}
-use borrow.Author.Rules.{rules}
 use Rattle.answer.specs.Answers.{accepted}
 use Rattle.answer.specs.declared.Answer.TheVariants.{Endings, Room}
 use Rattle.answer.proofs.Injective.{told_injective}

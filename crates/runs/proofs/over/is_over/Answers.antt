@@ -1,4 +1,3 @@
-use borrow.Author.Rules.{rules}
 use native.Mathlib.Omega.{arith}
 use Rattle.runs.proofs.OverLaws as laws
 use Rattle.runs.proofs.over.is_over.Goals as goal

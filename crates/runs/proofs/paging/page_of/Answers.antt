@@ -1,11 +1,10 @@
 use Rattle.answer.specs.Answers.{accepted}
 use Rattle.schedule.specs.declared.Opened.{Opened}
 use native.Mathlib.Omega.{arith}
-use mathlib.Core.Path.{◌≡◌, refl, sym, ap, ◌∙◌}
+use mathlib.Core.Path.{sym, ap, ◌∙◌}
 use Rattle.runs.proofs.GoingLaws as going
 use Rattle.runs.proofs.PageLaws as laws
 use Rattle.codec.proofs.Accepted as codec
-use borrow.Author.Rules.{rules}
 use Rattle.runs.proofs.paging.page_of.Goals as goal
 
 pub returns-then-not-is_taken : goal.returns-then-not-is_taken

@@ -1,7 +1,5 @@
-use mathlib.Core.Path.{◌≡◌, refl, sym, ap, ◌∙◌}
+use mathlib.Core.Path.{refl}
 use Rattle.runs.specs.Rows.{no_rows}
-use Rattle.runs.proofs.rows.no_rows.Reads as reads
-use Rattle.runs.proofs.rows.no_rows.Lts as lts
 use Rattle.runs.proofs.rows.no_rows.Goals as goal
 
 pub returns : goal.returns

@@ -1,12 +1,6 @@
-use borrow.Author.Rules.{rules}
-use native.Mathlib.Omega.{arith}
-use mathlib.Core.Path.{◌≡◌, refl, sym, ap, ◌∙◌}
-use Prim.Native.Nat.{◌+◌, ◌-◌, ◌≤◌}
+use mathlib.Core.Path.{◌≡◌}
+use Prim.Native.Nat.{◌-◌, ◌≤◌}
 use Rattle.runs.specs.Rows.{rows_of}
-use Rattle.runs.proofs.RowLaws as laws
-use Rattle.runs.proofs.rows.rows_of.Reads as reads
-use Rattle.runs.proofs.rows.rows_of.Lts as lts
-use Rattle.runs.proofs.rows.no_rows.Reads as no-rows-reads
 use Rattle.runs.proofs.rows.rows_of.Given as goal
 
 abbrev pub invariant-loop-i : goal.invariant-loop-i

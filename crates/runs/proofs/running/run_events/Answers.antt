@@ -1,6 +1,5 @@
 use native.Mathlib.Omega.{arith}
 use mathlib.Core.Path.{◌∙◌}
-use Prim.Native.Nat.{◌-◌}
 use Rattle.endtable.proofs.SinceRows as since
 use Rattle.onward.proofs.Reached as onward
 use Rattle.runs.proofs.GoingLaws as laws

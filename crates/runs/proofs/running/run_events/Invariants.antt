@@ -1,8 +1,5 @@
-use native.Mathlib.Omega.{arith}
-use mathlib.Core.Path.{◌∙◌}
 use Prim.Native.Nat.{◌-◌}
 use Rattle.endtable.proofs.SinceRows as since
-use Rattle.onward.proofs.Reached as onward
 use Rattle.runs.proofs.GoingLaws as laws
 use Rattle.runs.proofs.RowLaws as rows
 use Rattle.runs.proofs.running.run_events.Given as goal

@@ -1,13 +1,8 @@
 use borrow.Author.Rules.{rules}
 use native.Mathlib.Omega.{arith}
-use mathlib.Core.Path.{◌≡◌, refl, sym, ap, ◌∙◌}
-use Prim.Native.Nat.{◌+◌, ◌-◌, ◌≤◌}
+use mathlib.Core.Path.{◌≡◌, ◌∙◌}
 use lib.ListN.{length}
 use Rattle.runs.proofs.RowLaws as laws
-use Rattle.runs.specs.Rows.{ats_to}
-use Rattle.runs.proofs.tables.table_of.Reads as reads
-use Rattle.runs.proofs.tables.table_of.Lts as lts
-use Rattle.endtable.proofs.opened.blank_table.Reads as blank-table-reads
 use Rattle.runs.proofs.tables.table_of.Goals as goal
 
 pub loop-i-init : goal.loop-i-init

@@ -1,13 +1,6 @@
-use borrow.Author.Rules.{rules}
-use native.Mathlib.Omega.{arith}
-use mathlib.Core.Path.{◌≡◌, refl, sym, ap, ◌∙◌}
-use Prim.Native.Nat.{◌+◌, ◌-◌, ◌≤◌}
-use lib.ListN.{length}
-use Rattle.runs.proofs.RowLaws as laws
+use mathlib.Core.Path.{◌≡◌}
+use Prim.Native.Nat.{◌-◌, ◌≤◌}
 use Rattle.runs.specs.Rows.{ats_to}
-use Rattle.runs.proofs.tables.table_of.Reads as reads
-use Rattle.runs.proofs.tables.table_of.Lts as lts
-use Rattle.endtable.proofs.opened.blank_table.Reads as blank-table-reads
 use Rattle.runs.proofs.tables.table_of.Given as goal
 
 abbrev pub invariant-loop-i : goal.invariant-loop-i

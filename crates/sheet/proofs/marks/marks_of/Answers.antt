@@ -21,12 +21,11 @@ pub mark_of-requires : goal.mark_of-requires
 mark_of-requires c = tt
 
 pub loop-e-preserved : goal.loop-e-preserved
-loop-e-preserved c =
-    (
-      omega arith,
-      ap₂ (λ (l : List ℕ) (x : ℕ). set l c.loop-e.e x) c.loop-e.invariant.1 c.mark_of.ensures ∙ laws.marks_next c.args.t c.args.counts c.loop-e.e (omega arith),
-      ap (λ (l : List ℕ). set l c.loop-e.e (content_at (get_or c.args.t (c.loop-e.e / 16) []) (c.loop-e.e % 16)).item) c.loop-e.invariant.2 ∙ laws.items_next c.args.t c.loop-e.e (omega arith),
-    )
+loop-e-preserved c = (
+  omega arith,
+  ap₂ (λ (l : List ℕ) (x : ℕ). set l c.loop-e.e x) c.loop-e.invariant.1 c.mark_of.ensures ∙ laws.marks_next c.args.t c.args.counts c.loop-e.e (omega arith),
+  ap (λ (l : List ℕ). set l c.loop-e.e (content_at (get_or c.args.t (c.loop-e.e / 16) []) (c.loop-e.e % 16)).item) c.loop-e.invariant.2 ∙ laws.items_next c.args.t c.loop-e.e (omega arith),
+)
 
 pub returns : goal.returns
 returns c =

@@ -25,6 +25,9 @@ put-requires c = omega (arith, c.put_decimal-p.ensures.0, c.put_decimal-p.auto.b
 
 pub returns : goal.returns
 returns c =
-    let s = take c.args.n c.args.end.now in record { place = (fits.put_all c.args.b.now c.args.at (length c.args.b.now - c.args.at) (decimal c.args.k ++ s) (omega (arith, c.width_of-w.ensures, length-append (decimal c.args.k) s, length-take-le c.args.n c.args.end.now (omega arith)))
-    (written.then c.args.b.now c.args.at (decimal c.args.k) s c.put_decimal-p.ensures c.put.ensures)).0; bytes = (fits.put_all c.args.b.now c.args.at (length c.args.b.now - c.args.at) (decimal c.args.k ++ s) (omega (arith, c.width_of-w.ensures, length-append (decimal c.args.k) s, length-take-le c.args.n c.args.end.now (omega arith)))
-    (written.then c.args.b.now c.args.at (decimal c.args.k) s c.put_decimal-p.ensures c.put.ensures)).1 }
+    let s = take c.args.n c.args.end.now in record {
+      place = (fits.put_all c.args.b.now c.args.at (length c.args.b.now - c.args.at) (decimal c.args.k ++ s) (omega (arith, c.width_of-w.ensures, length-append (decimal c.args.k) s, length-take-le c.args.n c.args.end.now (omega arith)))
+          (written.then c.args.b.now c.args.at (decimal c.args.k) s c.put_decimal-p.ensures c.put.ensures)).0;
+      bytes = (fits.put_all c.args.b.now c.args.at (length c.args.b.now - c.args.at) (decimal c.args.k ++ s) (omega (arith, c.width_of-w.ensures, length-append (decimal c.args.k) s, length-take-le c.args.n c.args.end.now (omega arith)))
+          (written.then c.args.b.now c.args.at (decimal c.args.k) s c.put_decimal-p.ensures c.put.ensures)).1;
+    }

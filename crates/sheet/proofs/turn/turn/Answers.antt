@@ -16,12 +16,11 @@ pub returns-then-d-counts : goal.returns-then-d-counts
 returns-then-d-counts c = record { line = sym (laws.at_here c.args.counts.now c.loop-i.picks c.loop-i.i (omega arith) (omega arith)) ∙ c.loop-i.invariant.2; picks = ap (set c.loop-i.picks (c.loop-i.i - 1)) c.next.ensures ∙ sym (turns.turn_here c.args.counts.now c.loop-i.picks c.loop-i.i (omega arith) (omega arith)) ∙ c.loop-i.invariant.1 }
 
 pub loop-i-preserved : goal.loop-i-preserved
-loop-i-preserved c =
-    (
-      omega arith,
-      sym (turns.turn_on c.args.counts.now c.loop-i.picks c.loop-i.i (omega arith) (omega arith)) ∙ c.loop-i.invariant.1,
-      sym (laws.at_on c.args.counts.now c.loop-i.picks c.loop-i.i (omega arith) (omega arith)) ∙ c.loop-i.invariant.2,
-    )
+loop-i-preserved c = (
+  omega arith,
+  sym (turns.turn_on c.args.counts.now c.loop-i.picks c.loop-i.i (omega arith) (omega arith)) ∙ c.loop-i.invariant.1,
+  sym (laws.at_on c.args.counts.now c.loop-i.picks c.loop-i.i (omega arith) (omega arith)) ∙ c.loop-i.invariant.2,
+)
 
 pub returns : goal.returns
 returns c = record { line = sym (laws.at_none c.args.counts.now c.loop-i.picks c.loop-i.i (omega arith)) ∙ c.loop-i.invariant.2; picks = sym (turns.turn_none c.args.counts.now c.loop-i.picks c.loop-i.i (omega arith)) ∙ c.loop-i.invariant.1 }

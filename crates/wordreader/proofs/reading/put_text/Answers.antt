@@ -11,8 +11,7 @@ pub no_line-l-requires : goal.no_line-l-requires
 no_line-l-requires c = tt
 
 pub loop-i-init : goal.loop-i-init
-loop-i-init c =
-    (
+loop-i-init c = (
   omega arith,
   omega arith,
   refl,

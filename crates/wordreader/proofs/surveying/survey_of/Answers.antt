@@ -17,11 +17,11 @@ no_survey-v-requires c = tt
 pub loop-i-init : goal.loop-i-init
 loop-i-init c =
     let t = c.args.t.now in (
-  omega arith,
-  omega arith,
-  turns.survey_start t ∙ ap₂ (λ (v : Survey) (l : Line). survey_from 0 v (acts_from l (drop 0 t))) (sym c.no_survey-v.ensures) (sym c.no_line-l.ensures),
-  turns.last_start t ∙ ap (λ (l : Line). last_from 0 (acts_from l (drop 0 t))) (sym c.no_line-l.ensures),
-)
+      omega arith,
+      omega arith,
+      turns.survey_start t ∙ ap₂ (λ (v : Survey) (l : Line). survey_from 0 v (acts_from l (drop 0 t))) (sym c.no_survey-v.ensures) (sym c.no_line-l.ensures),
+      turns.last_start t ∙ ap (λ (l : Line). last_from 0 (acts_from l (drop 0 t))) (sym c.no_line-l.ensures),
+    )
 
 pub next_survey-w-requires : goal.next_survey-w-requires
 next_survey-w-requires c = tt

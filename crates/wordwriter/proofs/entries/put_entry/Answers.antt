@@ -43,8 +43,11 @@ returns-then-k-h c =
     let s = c.args.s.now in
     let n = entries.nodes_is s c.args.d p.1 in
     let l = entries.lines_is s c.args.d p.1 c.head_lines-h.result c.head_lines-h.ensures in
-    let h = entries.head_is s c.args.d p.1 p.0 (c.args.k - 2) (omega (arith, l, c.if-k-eq0.false, c.if-k-eq1.false, c.if-k-h.true)) in record { put = rw (entries.entry_head s c.args.k (2 + c.head_lines-h.result) (ap (λ z. 2 + z) l) c.if-k-eq0.false c.if-k-eq1.false
-    c.args.d.image.form (head_in c.args.d.image (c.args.k - 2)) (entries.form_is s c.args.d p.1) h c.if-k-h.true) (c.put_heads.ensures.put); room = (c.put_heads.ensures.room) }
+    let h = entries.head_is s c.args.d p.1 p.0 (c.args.k - 2) (omega (arith, l, c.if-k-eq0.false, c.if-k-eq1.false, c.if-k-h.true)) in record {
+      put = rw (entries.entry_head s c.args.k (2 + c.head_lines-h.result) (ap (λ z. 2 + z) l) c.if-k-eq0.false c.if-k-eq1.false
+          c.args.d.image.form (head_in c.args.d.image (c.args.k - 2)) (entries.form_is s c.args.d p.1) h c.if-k-h.true) (c.put_heads.ensures.put);
+      room = (c.put_heads.ensures.room);
+    }
 
 pub overflow_add-h-2 : goal.overflow_add-h-2
 overflow_add-h-2 c =
@@ -77,8 +80,11 @@ returns-then-k-h-2 c =
     let n = entries.nodes_is s c.args.d p.1 in
     let l = entries.lines_is s c.args.d p.1 c.head_lines-h.result c.head_lines-h.ensures in
     let h = 2 + c.head_lines-h.result in
-    let i : c.args.k - h < c.args.d.image.n = omega (arith, c.if-k-h.false, c.if-k-h-2.true) in record { put = rw (entries.entry_node s c.args.k h (ap (λ z. 2 + z) l) c.if-k-eq0.false c.if-k-eq1.false (content_at c.args.d.image.nodes (c.args.k - h))
-    (entries.node_is s c.args.d p.1 p.0 (c.args.k - h) (omega (arith, n, i))) (omega (arith, c.if-k-h.false)) (omega (arith, n, c.if-k-h-2.true))) c.put_node_entry.ensures.put; room = c.put_node_entry.ensures.room }
+    let i : c.args.k - h < c.args.d.image.n = omega (arith, c.if-k-h.false, c.if-k-h-2.true) in record {
+      put = rw (entries.entry_node s c.args.k h (ap (λ z. 2 + z) l) c.if-k-eq0.false c.if-k-eq1.false (content_at c.args.d.image.nodes (c.args.k - h))
+          (entries.node_is s c.args.d p.1 p.0 (c.args.k - h) (omega (arith, n, i))) (omega (arith, c.if-k-h.false)) (omega (arith, n, c.if-k-h-2.true))) c.put_node_entry.ensures.put;
+      room = c.put_node_entry.ensures.room;
+    }
 
 pub put_event_entry-requires : goal.put_event_entry-requires
 put_event_entry-requires c =
