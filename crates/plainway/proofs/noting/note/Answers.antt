@@ -1,4 +1,4 @@
-use Prim.Native.Nat.{ℕ}
+use Prim.Native.Nat.{ℕ, ◌^◌}
 use mathlib.Core.Path.{sym, ap₂, ◌∙◌}
 use native.Mathlib.Omega.{arith}
 use lib.ListN.{length-replicate}
@@ -11,7 +11,7 @@ pub turn_of-picks-requires : goal.turn_of-picks-requires
 turn_of-picks-requires c =
     let y : Bytes c.args.s.now = λ j. omega (arith, c.shared_slice_known-1.given j) in
     let l = c.requires.0 in
-    (omega (arith, l.base), omega (arith, l.base, l.short), omega (arith, l.lines, l.few), l.runs ∙ sym (ap₂ ◌^◌ l.base l.lines), c.requires.2)
+    (omega (arith, l.base), omega (arith, l.base, l.short), omega (arith, l.lines, l.few), l.runs ∙ sym (ap₂ (λ (x y : ℕ). x ^ y) l.base l.lines), c.requires.2)
 
 pub run_picked-m-requires : goal.run_picked-m-requires
 run_picked-m-requires c =
