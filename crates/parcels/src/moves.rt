@@ -2,7 +2,7 @@
 ghost use Rattle.std.specs.Prelude.{◌≡◌, eqb};
 ghost use Rattle.answer.specs.Answers.{told};
 ghost use Rattle.lists.specs.Find.{both};
-ghost use Rattle.parcels.specs.Parcel.{thread_at, node_at, tells, said_news, news_of, is_of, has_index, fresh as fresh_of, moved as movedOf};
+ghost use Rattle.parcels.specs.Parcel.{thread_at, node_at, tells, said_news, news_of, is_of, has_index, fresh as fresh_of, moved as moved_of};
 
 use crate::said::said_of;
 use crate::{News, Parcel};
@@ -125,7 +125,7 @@ fn has_index(p: Parcel, x: u64) -> bool
 
 // A link or an answer is the thread's own operation's, a node taken that of the index, an item answered that of the thread's taking.
 pub fn moved(w: News, p: Parcel) -> Parcel
-    ensures { result ≡ movedOf w p }
+    ensures { result ≡ moved_of w p }
 {
     let mut r = p;
     if w.what == 1 {
