@@ -16,9 +16,9 @@
 
 #![tactic(auto)]
 
+mod instants;
 mod kept;
 mod listing;
-mod moments;
 mod probes;
 mod records;
 mod soak;

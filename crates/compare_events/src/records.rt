@@ -1,8 +1,8 @@
 // Records that are handed in. An item is a record and an event (6 bytes).
 ghost use Rattle.std.specs.Prelude.{◌≤◌, length};
 
+use crate::instants::put_moment;
 use crate::kept::event_by;
-use crate::moments::put_moment;
 use answer::{Told, told_of};
 use compare::text::{Output, put, put_front, put_pair};
 use machine::{Event, Machine, Out, Places};

@@ -1,5 +1,5 @@
 // Starts from contents, and fresh machines.
-use crate::moments::{put_moment, put_moment_sum};
+use crate::instants::{put_moment, put_moment_sum};
 use answer::told_of;
 use compare::contents::{contents_of, wide_contents_of};
 use compare::text::{Output, put_refusal};

@@ -1,6 +1,6 @@
 // A schedule, moment by moment.
+use crate::instants::put_moment_sum;
 use crate::kept::event_by;
-use crate::moments::put_moment_sum;
 use answer::{Told, told_of};
 use compare::text::{Output, put_refusal};
 use machine::Machine;
