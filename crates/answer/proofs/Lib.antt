@@ -1,1 +1,2 @@
 pub mod Injective
+pub mod Results

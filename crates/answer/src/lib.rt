@@ -8,15 +8,9 @@ mod telling;
 pub use taken::is_taken;
 pub use telling::told_of;
 
-// A case for each refusal, with its place where it has one; and one for each answer of an operation.
-#[derive(Clone, Copy)]
-pub enum Answer {
-    Taken,
-    Done,
-    Full,
-    WornOut,
-    Item(u32),
-    Empty,
+// Why a call is refused: a case for each number, with its place where it has one.
+#[derive(Clone, Copy, Debug, PartialEq, Eq)]
+pub enum Refusal {
     Length,
     Mark,
     Nodes,
@@ -39,8 +33,22 @@ pub enum Answer {
     Narrow(u32),
 }
 
+// What an event that is taken answers: nothing yet, or what its operation gives.
+#[derive(Clone, Copy, Debug, PartialEq, Eq)]
+pub enum Reply {
+    Taken,
+    Done,
+    Full,
+    WornOut,
+    Item(u32),
+    Empty,
+}
+
+// An answer: a reply, or a refusal.
+pub type Answer = Result<Reply, Refusal>;
+
 // Number and place as document 01's table has them; the operation's answer, and the item where it has one.
-#[derive(Clone, Copy)]
+#[derive(Clone, Copy, Debug, PartialEq, Eq)]
 pub struct Told {
     pub number: u8,
     pub place: u32,

@@ -7,13 +7,5 @@ use super::Answer;
 pub fn is_taken(a: Answer) -> bool
     ensures { result ≡ accepted a }
 {
-    match a {
-        Answer::Taken => true,
-        Answer::Done => true,
-        Answer::Full => true,
-        Answer::WornOut => true,
-        Answer::Item(_) => true,
-        Answer::Empty => true,
-        _ => false,
-    }
+    a.is_ok()
 }

@@ -1,8 +1,8 @@
 // The numbers of an answer.
 ghost use Rattle.std.specs.Prelude.{◌≡◌};
-ghost use Rattle.answer.specs.Answers.{told, refusal, replied};
+ghost use Rattle.answer.specs.Answers.{told, refusal, replied, told_reply, told_refusal};
 
-use super::{Answer, Told};
+use super::{Answer, Refusal, Reply, Told};
 
 fn refused(number: u8, place: u32) -> Told
     ensures { result ≡ refusal number place }
@@ -26,36 +26,56 @@ fn taken(reply: u8, item: u32) -> Told
     }
 }
 
+impl From<Reply> for Told {
+    ghost from_gives = { λ r t. t ≡ told_reply r };
+
+    fn from(r: Reply) -> Told {
+        match r {
+            Reply::Taken => taken(0, 0),
+            Reply::Done => taken(1, 0),
+            Reply::Full => taken(2, 0),
+            Reply::WornOut => taken(3, 0),
+            Reply::Item(v) => taken(4, v),
+            Reply::Empty => taken(5, 0),
+        }
+    }
+}
+
+impl From<Refusal> for Told {
+    ghost from_gives = { λ r t. t ≡ told_refusal r };
+
+    fn from(r: Refusal) -> Told {
+        match r {
+            Refusal::Length => refused(1, 0),
+            Refusal::Mark => refused(2, 0),
+            Refusal::Nodes => refused(3, 0),
+            Refusal::Threads => refused(4, 0),
+            Refusal::Events => refused(5, 0),
+            Refusal::Linked(i) => refused(6, i),
+            Refusal::Twin(i) => refused(7, i),
+            Refusal::NoDummy => refused(8, 0),
+            Refusal::Kind(p) => refused(9, p),
+            Refusal::Number(p) => refused(10, p),
+            Refusal::Busy(p) => refused(11, p),
+            Refusal::Idle(p) => refused(12, p),
+            Refusal::NotZero(p) => refused(13, p),
+            Refusal::Contents(l) => refused(14, l),
+            Refusal::Endings => refused(15, 0),
+            Refusal::NoEnding => refused(16, 0),
+            Refusal::Room => refused(17, 0),
+            Refusal::Record => refused(18, 0),
+            Refusal::Clean(p) => refused(19, p),
+            Refusal::Narrow(i) => refused(20, i),
+        }
+    }
+}
+
 // An answer's number and place, or its reply and item.
 pub fn told_of(a: Answer) -> Told
     ensures { result ≡ told a }
 {
     match a {
-        Answer::Taken => taken(0, 0),
-        Answer::Done => taken(1, 0),
-        Answer::Full => taken(2, 0),
-        Answer::WornOut => taken(3, 0),
-        Answer::Item(v) => taken(4, v),
-        Answer::Empty => taken(5, 0),
-        Answer::Length => refused(1, 0),
-        Answer::Mark => refused(2, 0),
-        Answer::Nodes => refused(3, 0),
-        Answer::Threads => refused(4, 0),
-        Answer::Events => refused(5, 0),
-        Answer::Linked(i) => refused(6, i),
-        Answer::Twin(i) => refused(7, i),
-        Answer::NoDummy => refused(8, 0),
-        Answer::Kind(p) => refused(9, p),
-        Answer::Number(p) => refused(10, p),
-        Answer::Busy(p) => refused(11, p),
-        Answer::Idle(p) => refused(12, p),
-        Answer::NotZero(p) => refused(13, p),
-        Answer::Contents(l) => refused(14, l),
-        Answer::Endings => refused(15, 0),
-        Answer::NoEnding => refused(16, 0),
-        Answer::Room => refused(17, 0),
-        Answer::Record => refused(18, 0),
-        Answer::Clean(p) => refused(19, p),
-        Answer::Narrow(i) => refused(20, i),
+        Ok(r) => Told::from(r),
+        Err(e) => Told::from(e),
     }
 }

@@ -11,9 +11,7 @@ use Rattle.lists.specs.Find.{pick}
 use Rattle.lists.specs.Tab.{over}
 use Rattle.lists.proofs.BoolLaws as bools
 use Rattle.lists.proofs.TabLaws.{over_append}
-use Rattle.answer.specs.Answers.{told, check, accepted}
-use Rattle.answer.specs.declared.Answer.{Answer}
-use Rattle.answer.specs.declared.Answer.TheVariants.{Taken, Threads, Room}
+use Rattle.answer.specs.Answers.{told, check, accepted, Answer, Taken, Threads, Room}
 use Rattle.answer.proofs.Injective.{told_injective}
 use Rattle.image.specs.Layout.{shape_in, image_in}
 use Rattle.image.proofs.ShapeLaws.{shape_then}

@@ -13,9 +13,7 @@ use Rattle.lists.specs.Tab.{joined, over}
 use Rattle.lists.proofs.TabLaws as tabs
 use Rattle.lists.proofs.BoolLaws.{false_true}
 use Rattle.lists.proofs.FindLaws.{least_clear}
-use Rattle.answer.specs.Answers.{told, check, accepted}
-use Rattle.answer.specs.declared.Answer.{Answer}
-use Rattle.answer.specs.declared.Answer.TheVariants.{Taken, Room, Number, Contents}
+use Rattle.answer.specs.Answers.{told, check, accepted, Answer, Taken, Room, Number, Contents}
 use Rattle.image.specs.Bytes.{le}
 use Rattle.image.specs.Form.{known, width_of, node_size, head_lines}
 use Rattle.image.specs.Layout.{content_at, node_bytes, body_bytes}

@@ -7,9 +7,7 @@ use lib.ListN.{length}
 use lib.Dec.{ltb}
 use Rattle.lists.specs.Find.{pick, both}
 use Rattle.lists.specs.Tab.{over}
-use Rattle.answer.specs.Answers.{told, check, accepted}
-use Rattle.answer.specs.declared.Answer.{Answer}
-use Rattle.answer.specs.declared.Answer.TheVariants.{Taken, Room}
+use Rattle.answer.specs.Answers.{told, check, accepted, Answer, Taken, Room}
 use Rattle.answer.proofs.Injective.{told_injective}
 use Rattle.replaying.specs.Replay.{replay_answer, replay_of}
 use Rattle.replaying.specs.declared.Replayed.{Replayed}

@@ -2,9 +2,7 @@
 use Rattle.std.specs.Prelude.{ℕ, Bool, true, false, not, List, [], ◌∷◌, length, ltb}
 use Rattle.lists.specs.Find.{pick, both}
 use Rattle.lists.specs.Tab.{over}
-use Rattle.answer.specs.Answers.{told, check, accepted}
-use Rattle.answer.specs.declared.Answer.{Answer}
-use Rattle.answer.specs.declared.Answer.TheVariants.{Taken, Threads, Room}
+use Rattle.answer.specs.Answers.{told, check, accepted, Answer, Taken, Threads, Room}
 use Rattle.image.specs.Layout.{image_in}
 use Rattle.image.specs.Refusals.{threads_fit, image_answer, alone_answer}
 use Rattle.machine.specs.Event.{event_on}

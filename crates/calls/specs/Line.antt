@@ -2,9 +2,7 @@
 use Rattle.std.specs.Prelude.{ℕ, ◌*◌, Bool, true, false, List, length, ltb}
 use Rattle.lists.specs.Find.{pick}
 use Rattle.lists.specs.Tab.{joined, over}
-use Rattle.answer.specs.Answers.{told, check, accepted}
-use Rattle.answer.specs.declared.Answer.{Answer}
-use Rattle.answer.specs.declared.Answer.TheVariants.{Taken, Room}
+use Rattle.answer.specs.Answers.{told, check, accepted, Answer, Taken, Room}
 use Rattle.image.specs.Bytes.{le}
 use Rattle.image.specs.Form.{head_lines}
 use Rattle.image.specs.Layout.{content_at, body_bytes}

@@ -3,9 +3,7 @@ use Rattle.std.specs.Prelude.{ℕ, zero, suc, Bool, true, false, List, [], ◌�
 use Prim.Native.String.{String}
 use Rattle.lists.specs.Find.{pick, both}
 use Rattle.lists.specs.Text.{text}
-use Rattle.answer.specs.Answers.{told}
-use Rattle.answer.specs.declared.Answer.{Answer}
-use Rattle.answer.specs.declared.Answer.TheVariants.{Taken}
+use Rattle.answer.specs.Answers.{told, Answer, Taken}
 use Rattle.machine.specs.Place.{in_queue, is_free, is_waiting, is_held, in_enqueue, in_dequeue, placed}
 use Rattle.machine.specs.declared.Machine.{Machine}
 use Rattle.schedule.specs.Run.{ran}

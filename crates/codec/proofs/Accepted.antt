@@ -9,9 +9,7 @@ use borrow.Author.Tests.{eqb-true, ltb-false, leb-true, lt-ltb, le-ltb, not-fals
 use lib.ListN.{length, drop, length-drop}
 use lib.Dec.{eqb, ltb, leb}
 use Rattle.lists.proofs.BoolLaws.{no_way, false_true, both_true}
-use Rattle.answer.specs.Answers.{check, accepted}
-use Rattle.answer.specs.declared.Answer.{Answer}
-use Rattle.answer.specs.declared.Answer.TheVariants.{Taken, Length, Mark, Nodes, Threads, Events, Room}
+use Rattle.answer.specs.Answers.{check, accepted, Answer, Taken, Length, Mark, Nodes, Threads, Events, Room}
 use Rattle.image.specs.Bytes.{at1}
 use Rattle.image.specs.Form.{known, head_lines, image_size}
 use Rattle.image.specs.Layout.{form_in, is_image, image_shape, shape_in, image_in}

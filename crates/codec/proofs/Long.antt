@@ -10,9 +10,7 @@ use borrow.Author.Tests.{eqb-true, ltb-false, le-ltb}
 use lib.ListN.{length, get_or, take, drop, length-drop}
 use lib.Seq.{get_or-take, get_or-drop, length-take-le}
 use lib.Dec.{eqb, ltb}
-use Rattle.answer.specs.Answers.{check, accepted}
-use Rattle.answer.specs.declared.Answer.{Answer}
-use Rattle.answer.specs.declared.Answer.TheVariants.{Taken, Length, Mark, Threads, Events}
+use Rattle.answer.specs.Answers.{check, accepted, Answer, Taken, Length, Mark, Threads, Events}
 use Rattle.image.specs.Bytes.{at1}
 use Rattle.image.proofs.ByteLaws.{at_same}
 use Rattle.image.specs.Form.{image_size}

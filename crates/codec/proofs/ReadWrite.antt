@@ -12,8 +12,7 @@ use lib.Dec.{eqb}
 use Rattle.lists.specs.Tab.{tab, joined, over}
 use Rattle.lists.proofs.BoolLaws.{both_true}
 use Rattle.lists.proofs.TabLaws as tabs
-use Rattle.answer.specs.Answers.{accepted}
-use Rattle.answer.specs.declared.Answer.TheVariants.{Taken}
+use Rattle.answer.specs.Answers.{accepted, Taken}
 use Rattle.image.specs.Bytes.{le, at1, at4, at_w}
 use Rattle.image.specs.Form.{Form, form_of, known, letter, version, thread_bytes, held_threads, width_of, top_of, heads_at, node_size, head_lines, header_size, node_place, image_size}
 use Rattle.image.specs.declared.Content.{Content}

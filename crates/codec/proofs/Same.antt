@@ -6,7 +6,7 @@ use native.Mathlib.Omega.{arith}
 use lib.Dec.{ltb}
 use Rattle.lists.specs.Find.{least}
 use Rattle.lists.proofs.FindLaws.{least_same, any_same}
-use Rattle.answer.specs.declared.Answer.{Answer}
+use Rattle.answer.specs.Answers.{Answer}
 use Rattle.image.specs.Layout.{content_at}
 use Rattle.image.specs.Recovered.{head_of, recovered, recovered_at, twins, has_twin, first_twin, dummy_of, first_unclear}
 use Rattle.image.specs.Refusals.{startable, sound}

@@ -6,7 +6,7 @@ use contract.Lifetimes.{Lfts}
 use denote.Ref.{Bor}
 use denote.MutBor.{MutBor}
 use Rattle.answer.proofs.Injective.{told_injective}
-use Rattle.answer.specs.declared.Answer.{Answer}
+use Rattle.answer.specs.Answers.{Answer}
 use Rattle.image.specs.declared.Image.{Image}
 use Rattle.image.specs.declared.Read.{Read}
 use Rattle.codec.specs.declared.Found.{Found}

@@ -13,8 +13,7 @@ use lib.Dec.{eqb, ltb}
 use Rattle.lists.specs.Find.{pick}
 use Rattle.lists.specs.Tab.{tab, joined, front}
 use Rattle.lists.proofs.TabLaws as tabs
-use Rattle.answer.specs.Answers.{accepted}
-use Rattle.answer.specs.declared.Answer.TheVariants.{Taken}
+use Rattle.answer.specs.Answers.{accepted, Taken}
 use Rattle.image.specs.Bytes.{le, num_of, at_w, at1, at4}
 use Rattle.image.specs.Form.{Form, plain, wide, pair, desks, form_of, known, letter, version, thread_bytes, held_threads}
 use Rattle.image.specs.Form.{width_of, top_of, heads_at, node_size, head_lines, own_threads, header_size, node_place, image_size, per_desk}

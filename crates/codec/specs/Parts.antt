@@ -1,9 +1,7 @@
 -- What the calls of this crate hand out, where images and schedules do not say it already.
 use Rattle.std.specs.Prelude.{ℕ, ◌+◌, ◌≤◌, ◌≡◌, true, false, not, List, length, eqb, ltb, leb}
 use Rattle.lists.specs.Find.{pick, both}
-use Rattle.answer.specs.Answers.{check, accepted}
-use Rattle.answer.specs.declared.Answer.{Answer}
-use Rattle.answer.specs.declared.Answer.TheVariants.{Taken, Length, NoEnding}
+use Rattle.answer.specs.Answers.{check, accepted, Answer, Taken, Length, NoEnding}
 use Rattle.image.specs.Form.{known, image_size}
 use Rattle.image.specs.Layout.{shape_in, image_in}
 use Rattle.image.specs.Refusals.{own_fit, shape_answer, image_answer, blank_image}

@@ -19,7 +19,7 @@ ghost use Rattle.image.specs.Refusals.{read_image};
 ghost use Rattle.schedule.specs.Layout.{read_schedule};
 ghost use Rattle.codec.specs.Parts.{event_asked, event_of};
 
-use answer::{Answer, is_taken};
+use answer::{Answer, Refusal, Reply, is_taken};
 pub use bytes::{form_in, long_at, own_threads, put_index, put_word, shape_in, word_at};
 pub use events::{event_at, event_from};
 use image::{Read, Shape};
@@ -77,7 +77,7 @@ pub fn event_of(s: &[u8], i: usize) -> Found
     let count = d.count as usize;
     if count <= i {
         return Found {
-            answer: Answer::NoEnding,
+            answer: Err(Refusal::NoEnding),
             event: none,
         };
     }
@@ -89,7 +89,7 @@ pub fn event_of(s: &[u8], i: usize) -> Found
     };
     let event = event_at(s, z, i);
     Found {
-        answer: Answer::Taken,
+        answer: Ok(Reply::Taken),
         event,
     }
 }

@@ -6,7 +6,7 @@ ghost use Rattle.schedule.specs.Layout.{file_answer, schedule_answer, read_by, r
 use crate::bytes::{half_at, is_marked};
 use crate::images::image_in;
 use crate::reading::check_part;
-use answer::{Answer, is_taken};
+use answer::{Answer, Refusal, is_taken};
 use machine::Machine;
 use schedule::{Opened, Schedule};
 
@@ -32,21 +32,21 @@ pub fn check_file(s: &[u8], z: u8, w: usize) -> Answer
     ensures { result ≡ file_answer z w s.now }
 {
     if s.len() < 8 {
-        return Answer::Length;
+        return Err(Refusal::Length);
     }
     if !is_marked(s, 85, 81, z, 1) {
-        return Answer::Mark;
+        return Err(Refusal::Mark);
     }
     let t = s[5];
     if t < 1 {
-        return Answer::Threads;
+        return Err(Refusal::Threads);
     }
     if 8 < t {
-        return Answer::Threads;
+        return Err(Refusal::Threads);
     }
     let count = half_at(s, 6);
     if Machine::EVENTS < count {
-        return Answer::Events;
+        return Err(Refusal::Events);
     }
     check_part(&s[8..], t, (count as usize) * w)
 }

@@ -1,13 +1,13 @@
 // An image read from bytes, alone or in front of others.
 ghost use Rattle.std.specs.Prelude.{◌≡◌, ◌≤◌};
-ghost use Rattle.answer.specs.declared.Answer.TheVariants.{Taken};
+ghost use Rattle.answer.specs.Answers.{Taken};
 ghost use Rattle.image.specs.Refusals.{image_answer, alone_answer};
 ghost use Rattle.codec.specs.Parts.{shape, refused_read, read_part};
 
 use crate::bytes::{own_threads, shape_in};
 use crate::images::image_in;
 use crate::sound::sound_at;
-use answer::{Answer, is_taken};
+use answer::{Answer, Refusal, Reply, is_taken};
 use image::{Read, shape_of, size_of};
 
 // A refusal, with the blank image beside it.
@@ -25,7 +25,7 @@ pub fn shape_part(s: &[u8], t: u8, more: usize) -> Answer
 {
     let len = s.len();
     if len < 10 {
-        return Answer::Length;
+        return Err(Refusal::Length);
     }
     let z = shape_in(s);
     let a = shape_of(z, t);
@@ -33,9 +33,9 @@ pub fn shape_part(s: &[u8], t: u8, more: usize) -> Answer
         return a;
     }
     if len != size_of(z) + more {
-        return Answer::Length;
+        return Err(Refusal::Length);
     }
-    Answer::Taken
+    Ok(Reply::Taken)
 }
 
 // 1, 2, 3, 4, 1, 6, 7, 8. It builds no image.

@@ -1,7 +1,7 @@
 // The tests of an image where its bytes lie: unclear linked bytes (6), twins (7), the dummy (8). Nothing is copied.
 // Where a node's bytes are is known to `linked_at` and `index_at` alone; z is the shape of the image that lies in the bytes.
 ghost use Rattle.std.specs.Prelude.{◌≡◌, ◌<◌};
-ghost use Rattle.answer.specs.declared.Answer.TheVariants.{Taken};
+ghost use Rattle.answer.specs.Answers.{Taken};
 ghost use Rattle.image.specs.Layout.{content_at, image_in};
 ghost use Rattle.image.specs.Recovered.{head_of, recovered_at, twins, first_unclear, first_twin, dummy_of};
 ghost use Rattle.image.specs.Refusals.{sound};
@@ -9,7 +9,7 @@ ghost use Rattle.codec.specs.Parts.{Lies};
 
 use crate::bytes::index_in;
 use crate::lines::heads_in;
-use answer::Answer;
+use answer::{Answer, Refusal, Reply};
 use image::{Shape, head_of, place_of};
 
 // Node i's linked byte.
@@ -124,15 +124,15 @@ pub fn sound_at(s: &[u8], z: Shape) -> Answer
     let n = z.n as usize;
     let i = first_unclear_at(s, z, n);
     if i < n {
-        return Answer::Linked(i as u32);
+        return Err(Refusal::Linked(i as u32));
     }
     let h = head_at(s, z);
     let j = first_twin_at(s, z, n, h);
     if j < n {
-        return Answer::Twin(j as u32);
+        return Err(Refusal::Twin(j as u32));
     }
     if dummy_at(s, z, n, h) == n {
-        return Answer::NoDummy;
+        return Err(Refusal::NoDummy);
     }
-    Answer::Taken
+    Ok(Reply::Taken)
 }

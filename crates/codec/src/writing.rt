@@ -4,7 +4,7 @@ ghost use Rattle.answer.specs.Answers.{told};
 ghost use Rattle.image.specs.Refusals.{write_answer, written};
 
 use crate::images::put_image;
-use answer::{Answer, is_taken};
+use answer::{Answer, Refusal, Reply, is_taken};
 use image::{Image, Shape, shape_of, size_of};
 
 // Writes the image into the buffer's first bytes, or nothing.
@@ -30,8 +30,8 @@ pub fn write_image(g: Image, b: &mut [u8]) -> Answer
         return a;
     }
     if b.len() < size_of(z) {
-        return Answer::Room;
+        return Err(Refusal::Room);
     }
     put_image(b, g);
-    Answer::Taken
+    Ok(Reply::Taken)
 }

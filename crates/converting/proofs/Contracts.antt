@@ -8,9 +8,7 @@ use contract.Lifetimes.{Lfts}
 use denote.MutBor.{MutBor}
 use denote.Ref.{Bor}
 use lib.ListN.{length, take, drop}
-use Rattle.answer.specs.Answers.{accepted}
-use Rattle.answer.specs.declared.Answer.{Answer}
-use Rattle.answer.specs.declared.Answer.TheVariants.{Taken}
+use Rattle.answer.specs.Answers.{accepted, Answer, Taken}
 use Rattle.answer.proofs.Injective.{told_injective}
 use Rattle.image.specs.Bytes.{at1}
 use Rattle.image.proofs.ByteLaws.{Bytes}

@@ -12,9 +12,7 @@ use Rattle.lists.specs.Find.{pick}
 use Rattle.lists.specs.Tab.{over, front}
 use Rattle.lists.proofs.BoolLaws.{no_way}
 use Rattle.lists.proofs.TabLaws as tabs
-use Rattle.answer.specs.Answers.{check, accepted}
-use Rattle.answer.specs.declared.Answer.{Answer}
-use Rattle.answer.specs.declared.Answer.TheVariants.{Taken, Length, Mark, Threads, Room}
+use Rattle.answer.specs.Answers.{check, accepted, Answer, Taken, Length, Mark, Threads, Room}
 use Rattle.image.specs.Form.{head_lines, image_size}
 use Rattle.image.specs.Layout.{no_heads, heads_of, image_shape, form_in, shape_in, image_in, image_bytes}
 use Rattle.image.specs.Refusals.{threads_fit, sound, alone_answer}

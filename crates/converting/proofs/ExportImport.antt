@@ -11,8 +11,7 @@ use lib.ListN.{length, get_or, take, drop}
 use lib.Seq.{take_at}
 use Rattle.lists.specs.Find.{pick}
 use Rattle.lists.specs.Tab.{over}
-use Rattle.answer.specs.Answers.{accepted}
-use Rattle.answer.specs.declared.Answer.TheVariants.{Taken}
+use Rattle.answer.specs.Answers.{accepted, Taken}
 use Rattle.image.specs.Bytes.{at1}
 use Rattle.image.specs.Form.{known, width_of, top_of, head_lines, image_size, per_desk}
 use Rattle.image.specs.Layout.{head_in, heads_of, image_shape, form_in, shape_in, image_in, image_bytes}

@@ -11,9 +11,7 @@ use lib.Dec.{eqb, ltb}
 use Rattle.lists.specs.Find.{pick}
 use Rattle.lists.proofs.BoolLaws.{no_way}
 use Rattle.lists.specs.Tab.{over}
-use Rattle.answer.specs.Answers.{check, accepted}
-use Rattle.answer.specs.declared.Answer.{Answer}
-use Rattle.answer.specs.declared.Answer.TheVariants.{Taken, Length, Mark, Room}
+use Rattle.answer.specs.Answers.{check, accepted, Answer, Taken, Length, Mark, Room}
 use Rattle.image.specs.Bytes.{at1}
 use Rattle.image.specs.Form.{form_of, known, head_count, held_threads, per_desk, head_lines, own_threads}
 use Rattle.image.proofs.FormLaws.{by_form}

@@ -8,8 +8,7 @@ use lib.ListN.{length, get_or, take, drop}
 use lib.Seq.{take_at}
 use Rattle.lists.specs.Tab.{over, front}
 use Rattle.lists.proofs.TabLaws as tabs
-use Rattle.answer.specs.Answers.{accepted}
-use Rattle.answer.specs.declared.Answer.TheVariants.{Taken}
+use Rattle.answer.specs.Answers.{accepted, Taken}
 use Rattle.image.specs.Bytes.{at1, at_w}
 use Rattle.image.specs.Form.{known, width_of, heads_at, head_lines, node_place, image_size, per_desk}
 use Rattle.image.specs.Layout.{no_content, no_contents, content_at, head_in, heads_of, no_heads, image_shape, in_form, form_in, shape_in, image_in, image_bytes, read_content, read_heads, read_nodes}

@@ -6,7 +6,7 @@ use contract.Lifetimes.{Lfts}
 use denote.MutBor.{MutBor}
 use denote.Ref.{Bor}
 use Rattle.answer.proofs.Injective.{told_injective}
-use Rattle.answer.specs.declared.Answer.{Answer}
+use Rattle.answer.specs.Answers.{Answer}
 use Rattle.converting.proofs.widen.Reads as widening
 use Rattle.converting.proofs.narrow.Reads as narrowing
 use Rattle.converting.proofs.desks.import_desks.Reads as importing

@@ -5,8 +5,7 @@ use mathlib.Core.Bool.{true, false}
 use mathlib.Core.List.{List, ◌++◌}
 use native.Mathlib.Omega.{arith}
 use lib.ListN.{length, take, drop}
-use Rattle.answer.specs.Answers.{accepted}
-use Rattle.answer.specs.declared.Answer.TheVariants.{Taken}
+use Rattle.answer.specs.Answers.{accepted, Taken}
 use Rattle.image.specs.Bytes.{at1}
 use Rattle.image.specs.Form.{known, width_of, top_of, head_lines, image_size, per_desk}
 use Rattle.image.specs.Layout.{content_at, head_in, image_shape, in_form, form_in, shape_in, image_in}

@@ -2,9 +2,7 @@
 use Rattle.std.specs.Prelude.{ℕ, ◌≤◌, ◌≡◌, true, not, List, length, eqb, ltb}
 use Rattle.lists.specs.Find.{pick}
 use Rattle.lists.specs.Tab.{over}
-use Rattle.answer.specs.Answers.{check, accepted}
-use Rattle.answer.specs.declared.Answer.{Answer}
-use Rattle.answer.specs.declared.Answer.TheVariants.{Taken, Length, Mark, Threads, Room}
+use Rattle.answer.specs.Answers.{check, accepted, Answer, Taken, Length, Mark, Threads, Room}
 use Rattle.image.specs.Form.{known, image_size}
 use Rattle.image.specs.Layout.{heads_of, image_shape, form_in, shape_in, image_in, image_bytes}
 use Rattle.image.specs.Recovered.{head_of}

@@ -5,7 +5,7 @@ ghost use Rattle.image.specs.Form.{head_lines};
 ghost use Rattle.image.specs.Layout.{heads_of, image_shape};
 ghost use Rattle.converting.specs.Desks.{reheaded, Leaves, room_answer, put_as, desks_answer, import_answer, imported, export_answer, exported};
 
-use answer::{Answer, is_taken};
+use answer::{Answer, Refusal, Reply, is_taken};
 use codec::sound::sound_at;
 use codec::{check_alone, form_in, image_in, put_image, shape_in};
 use image::{Image, Shape, head_lines, head_of, shape_of, size_of, threads_fit};
@@ -56,18 +56,18 @@ fn check_desks(s: &[u8]) -> Answer
 {
     let len = s.len();
     if len < 7 {
-        return Answer::Length;
+        return Err(Refusal::Length);
     }
     let z = shape_in(s);
     if z.form != 4 {
-        return Answer::Mark;
+        return Err(Refusal::Mark);
     }
     let a = shape_of(z, z.t);
     if !is_taken(a) {
         return a;
     }
     if len != size_of(z) {
-        return Answer::Length;
+        return Err(Refusal::Length);
     }
     sound_at(s, z)
 }
@@ -82,10 +82,10 @@ fn put_as(s: &[u8], b: &mut [u8], form: u8, t: u8) -> Answer
     let g = reheaded_of(g, form, t);
     let z = Shape { form, n: g.n, t };
     if b.len() < size_of(z) {
-        return Answer::Room;
+        return Err(Refusal::Room);
     }
     put_image(b, g);
-    Answer::Taken
+    Ok(Reply::Taken)
 }
 
 // An image with one head index per desk as one of "UQI" version 1, its head the largest.
@@ -106,17 +106,17 @@ pub fn export_desks(s: &[u8], t: u8, b: &mut [u8]) -> Answer
     ensures bytes { b.new ≡ exported s.now t b.old }
 {
     if s.len() < 10 {
-        return Answer::Length;
+        return Err(Refusal::Length);
     }
     if form_in(s) != 1 {
-        return Answer::Mark;
+        return Err(Refusal::Mark);
     }
     let a = check_alone(s);
     if !is_taken(a) {
         return a;
     }
     if !threads_fit(t) {
-        return Answer::Threads;
+        return Err(Refusal::Threads);
     }
     put_as(s, b, 4, t)
 }

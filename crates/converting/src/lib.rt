@@ -10,7 +10,7 @@ ghost use Rattle.answer.specs.Answers.{told};
 ghost use Rattle.image.specs.Form.{known, per_desk};
 ghost use Rattle.converting.specs.Converted.{convert_answer, converted, widen_answer, widened, narrow_answer, narrowed};
 
-use answer::{Answer, is_taken};
+use answer::{Answer, Refusal, Reply, is_taken};
 use codec::{check_alone, form_in, image_in, put_image};
 pub use desks::{export_desks, import_desks};
 use image::{Shape, fitting_of, size_of};
@@ -22,10 +22,10 @@ fn convert(s: &[u8], b: &mut [u8], from: u8, to: u8) -> Answer
     ensures bytes { b.new ≡ converted from to s.now b.old }
 {
     if s.len() < 10 {
-        return Answer::Length;
+        return Err(Refusal::Length);
     }
     if form_in(s) != from {
-        return Answer::Mark;
+        return Err(Refusal::Mark);
     }
     let a = check_alone(s);
     if !is_taken(a) {
@@ -43,10 +43,10 @@ fn convert(s: &[u8], b: &mut [u8], from: u8, to: u8) -> Answer
         t: g.t,
     };
     if b.len() < size_of(z) {
-        return Answer::Room;
+        return Err(Refusal::Room);
     }
     put_image(b, g);
-    Answer::Taken
+    Ok(Reply::Taken)
 }
 
 // An image of version 1 as one of version 2.

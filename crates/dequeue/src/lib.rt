@@ -9,7 +9,7 @@ ghost use Rattle.machine.specs.Record.{thread};
 ghost use Rattle.machine.specs.Dequeue.{step_d1, step_d2, step_d3, step_d4, step_d5, step_d6, step_d7, stores_index, step_s3, step_s6, step_f3, step_f6};
 ghost use Rattle.dequeue.specs.Held.{NodeOrNone};
 
-use answer::Answer;
+use answer::{Answer, Reply};
 use hands::flushing::{fence_line, flush_line};
 use hands::leaving::leave;
 use hands::retiring::retire;
@@ -61,7 +61,7 @@ pub fn d1(m: Machine, k: usize) -> Acted
     th.step = Machine::D2;
     r.threads[k] = th;
     Acted {
-        answer: Answer::Taken,
+        answer: Ok(Reply::Taken),
         machine: r,
         touch: Touch::Nothing,
     }
@@ -82,7 +82,7 @@ pub fn d2(m: Machine, k: usize) -> Acted
         th.step = s;
         r.threads[k] = th;
         return Acted {
-            answer: Answer::Taken,
+            answer: Ok(Reply::Taken),
             machine: r,
             touch: Touch::Nothing,
         };
@@ -90,7 +90,7 @@ pub fn d2(m: Machine, k: usize) -> Acted
     th.step = Machine::D4;
     r.threads[k] = th;
     Acted {
-        answer: Answer::Taken,
+        answer: Ok(Reply::Taken),
         machine: r,
         touch: Touch::Nothing,
     }
@@ -107,7 +107,7 @@ fn store_index(m: Machine, k: usize, x: usize, s: u8) -> Acted
     r.threads[k].step = s;
     let own = Line::OfHead(k as u8);
     Acted {
-        answer: Answer::Taken,
+        answer: Ok(Reply::Taken),
         machine: r,
         touch: Touch::Store(own),
     }
@@ -132,7 +132,7 @@ pub fn d3(m: Machine, k: usize) -> Acted
     let mut r = flush_line(m, k, line);
     r.threads[k].step = Machine::F3;
     Acted {
-        answer: Answer::Taken,
+        answer: Ok(Reply::Taken),
         machine: r,
         touch: Touch::Flush(k as u8, line),
     }
@@ -149,7 +149,7 @@ pub fn f3(m: Machine, k: usize) -> Acted
     let th = r.threads[k];
     let rest = leave(r, k, th.held);
     Acted {
-        answer: Answer::Empty,
+        answer: Ok(Reply::Empty),
         machine: rest,
         touch: Touch::Fence(k as u8, line),
     }
@@ -166,7 +166,7 @@ pub fn d4(m: Machine, k: usize) -> Acted
     if !is_still(r.form, r.head, r.heads[0], th) {
         r.threads[k].step = Machine::D1;
         return Acted {
-            answer: Answer::Taken,
+            answer: Ok(Reply::Taken),
             machine: r,
             touch: Touch::Nothing,
         };
@@ -175,7 +175,7 @@ pub fn d4(m: Machine, k: usize) -> Acted
         r.head = th.next;
         r.threads[k].step = Machine::D5;
         return Acted {
-            answer: Answer::Taken,
+            answer: Ok(Reply::Taken),
             machine: r,
             touch: Touch::Nothing,
         };
@@ -187,7 +187,7 @@ pub fn d4(m: Machine, k: usize) -> Acted
     r.threads[k].step = Machine::D5;
     let line = Line::OfHead(0);
     Acted {
-        answer: Answer::Taken,
+        answer: Ok(Reply::Taken),
         machine: r,
         touch: Touch::Store(line),
     }
@@ -207,7 +207,7 @@ pub fn d5(m: Machine, k: usize) -> Acted
     th.step = s;
     r.threads[k] = th;
     Acted {
-        answer: Answer::Taken,
+        answer: Ok(Reply::Taken),
         machine: r,
         touch: Touch::Nothing,
     }
@@ -232,7 +232,7 @@ pub fn d6(m: Machine, k: usize) -> Acted
     let mut r = flush_line(m, k, line);
     r.threads[k].step = Machine::F6;
     Acted {
-        answer: Answer::Taken,
+        answer: Ok(Reply::Taken),
         machine: r,
         touch: Touch::Flush(k as u8, line),
     }
@@ -248,7 +248,7 @@ pub fn f6(m: Machine, k: usize) -> Acted
     let mut r = fence_line(m, k, line);
     r.threads[k].step = Machine::D7;
     Acted {
-        answer: Answer::Taken,
+        answer: Ok(Reply::Taken),
         machine: r,
         touch: Touch::Fence(k as u8, line),
     }
@@ -263,7 +263,7 @@ pub fn d7(m: Machine, k: usize) -> Acted
     if th.held == 255 {
         let rest = leave(m, k, th.head);
         return Acted {
-            answer: Answer::Item(th.item),
+            answer: Ok(Reply::Item(th.item)),
             machine: rest,
             touch: Touch::Nothing,
         };
@@ -271,7 +271,7 @@ pub fn d7(m: Machine, k: usize) -> Acted
     let r = retire(m, k, th.held as usize);
     let rest = leave(r, k, th.head);
     Acted {
-        answer: Answer::Item(th.item),
+        answer: Ok(Reply::Item(th.item)),
         machine: rest,
         touch: Touch::Nothing,
     }

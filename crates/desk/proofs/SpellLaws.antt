@@ -8,9 +8,7 @@ use native.Mathlib.Decide.{dec_lt}
 use borrow.Author.Tests.{lt-ltb, le-ltb}
 use lib.ListN.{length}
 use Rattle.lists.specs.Tab.{over}
-use Rattle.answer.specs.Answers.{told, accepted}
-use Rattle.answer.specs.declared.Answer.{Answer}
-use Rattle.answer.specs.declared.Answer.TheVariants.{Taken, NoEnding, Room}
+use Rattle.answer.specs.Answers.{told, accepted, Answer, Taken, NoEnding, Room}
 use Rattle.schedule.specs.Layout.{schedule_answer}
 use Rattle.page.specs.Filled.{lines_on, fitting}
 use Rattle.printing.proofs.Fittings as fits

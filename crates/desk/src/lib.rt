@@ -7,7 +7,7 @@ ghost use Rattle.answer.specs.Answers.{told};
 ghost use Rattle.spelling.specs.Writing.{spell_answer, spell_taken, spell_bytes, spell_written};
 ghost use Rattle.spelling.specs.Reading.{tells, read_answer, read_bytes, read_written};
 
-use answer::{Answer, is_taken};
+use answer::{Answer, Refusal, Reply, is_taken};
 use codec::open_schedule;
 use image::{Shape, head_lines};
 use spelling::{Said, Spelled, Spelt};
@@ -47,15 +47,15 @@ pub fn spell_lines(s: &[u8], k: u64, b: &mut [u8]) -> Spelled
     });
     let to = 2 + lines + (g.n as usize) + (d.count as usize);
     if (to as u64) <= k {
-        return no_entries(Answer::NoEnding);
+        return no_entries(Err(Refusal::NoEnding));
     }
     let from = k as usize;
     let w = put_entries(s, d, from, to, b);
     if w.next == from {
-        return no_entries(Answer::Room);
+        return no_entries(Err(Refusal::Room));
     }
     Spelled {
-        answer: Answer::Taken,
+        answer: Ok(Reply::Taken),
         entries: (w.next - from) as u32,
         bytes: w.place,
     }

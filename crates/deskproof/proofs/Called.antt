@@ -10,8 +10,7 @@ use denote.MutBor.{MutBor}
 use denote.Ref.{Bor}
 use lib.ListN.{length}
 use Rattle.lists.specs.Tab.{over}
-use Rattle.answer.specs.Answers.{accepted}
-use Rattle.answer.specs.declared.Answer.TheVariants.{Taken}
+use Rattle.answer.specs.Answers.{accepted, Taken}
 use Rattle.answer.proofs.Injective.{told_injective}
 use Rattle.image.proofs.ByteLaws as num
 use Rattle.schedule.specs.Layout.{schedule_answer}

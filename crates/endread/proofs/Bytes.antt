@@ -10,9 +10,7 @@ use lib.Seq.{take_at}
 use Rattle.lists.specs.Tab.{over, front}
 use Rattle.lists.proofs.BoolLaws.{yes_of}
 use Rattle.lists.proofs.TabLaws as tabs
-use Rattle.answer.specs.Answers.{accepted, check}
-use Rattle.answer.specs.declared.Answer.{Answer}
-use Rattle.answer.specs.declared.Answer.TheVariants.{Taken, Threads}
+use Rattle.answer.specs.Answers.{accepted, check, Answer, Taken, Threads}
 use Rattle.image.specs.declared.Content.{Content}
 use Rattle.image.specs.declared.Image.{Image}
 use Rattle.image.specs.declared.Read.{Read}

@@ -9,8 +9,7 @@ use lib.Seq.{drop-cons}
 use Rattle.lists.specs.Tab.{tab}
 use Rattle.lists.proofs.BoolLaws.{yes_of, no_of}
 use Rattle.lists.proofs.TabLaws as tabs
-use Rattle.answer.specs.Answers.{accepted}
-use Rattle.answer.specs.declared.Answer.TheVariants.{Taken}
+use Rattle.answer.specs.Answers.{accepted, Taken}
 use Rattle.image.specs.declared.Content.{Content}
 use Rattle.image.specs.Form.{head_lines}
 use Rattle.image.specs.declared.Shape.{Shape}

@@ -17,8 +17,7 @@ use Rattle.schedule.specs.Run.{Bench}
 use Rattle.page.specs.Contents.{joins, gathered, contents_of, table_of}
 use Rattle.page.specs.Endings.{product}
 use Rattle.page.specs.Refusals.{first_crowded, table_answer}
-use Rattle.answer.specs.Answers.{check}
-use Rattle.answer.specs.declared.Answer.TheVariants.{Taken, Contents, Endings}
+use Rattle.answer.specs.Answers.{check, Taken, Contents, Endings}
 use Rattle.endtable.specs.Picks.{is_crowded, crowded_at, prod, counts_answer, Counted}
 use Rattle.endtable.specs.Tables.{Tables}
 use Rattle.moments.proofs.Joins as joined

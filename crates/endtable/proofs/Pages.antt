@@ -7,8 +7,7 @@ use native.Mathlib.Omega.{arith}
 use lib.ListN.{length, drop}
 use lib.Dec.{ltb}
 use borrow.Author.Tests.{ltb-false}
-use Rattle.answer.specs.Answers.{check, accepted}
-use Rattle.answer.specs.declared.Answer.TheVariants.{Taken, Contents, Endings}
+use Rattle.answer.specs.Answers.{check, accepted, Taken, Contents, Endings}
 use Rattle.image.specs.declared.Content.{Content}
 use Rattle.machine.specs.Line.{shape_of, line_count}
 use Rattle.schedule.specs.Run.{Bench}

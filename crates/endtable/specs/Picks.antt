@@ -2,9 +2,7 @@
 use Rattle.std.specs.Prelude.{ℕ, zero, suc, ◌*◌, ◌/◌, ◌%◌, ◌<◌, ◌≤◌, Bool, true, false, List, [], ◌∷◌, ◌++◌, get_or, set, drop, ltb}
 use Rattle.lists.specs.Find.{pick, least}
 use Rattle.lists.specs.Tab.{front}
-use Rattle.answer.specs.Answers.{check}
-use Rattle.answer.specs.declared.Answer.{Answer}
-use Rattle.answer.specs.declared.Answer.TheVariants.{Taken, Contents, Endings}
+use Rattle.answer.specs.Answers.{check, Answer, Taken, Contents, Endings}
 use Rattle.image.specs.Layout.{content_at, no_contents, heads_of}
 use Rattle.image.specs.declared.Content.{Content}
 use Rattle.image.specs.declared.Image.{Image}

@@ -5,7 +5,7 @@ ghost use Rattle.image.specs.Layout.{heads_of};
 ghost use Rattle.machine.specs.Line.{line_count};
 ghost use Rattle.endtable.specs.Picks.{Counted, Filled, crowded_at, capped, prod, counts_answer, digits, picks_of, picked_head, picked_image};
 
-use answer::Answer;
+use answer::{Answer, Refusal, Reply};
 use image::{Content, Image, Shape, head_lines, no_contents, no_heads};
 use machine::Machine;
 
@@ -49,13 +49,13 @@ pub fn counts_answer(counts: [u8; 72], lines: usize) -> Answer
 {
     let crowded = first_crowded(counts, lines);
     if crowded < lines {
-        return Answer::Contents(crowded as u32);
+        return Err(Refusal::Contents(crowded as u32));
     }
     let count = ending_count(counts, lines);
     if Machine::ENDINGS < count {
-        return Answer::Endings;
+        return Err(Refusal::Endings);
     }
-    Answer::Taken
+    Ok(Reply::Taken)
 }
 
 // The choices of the first `left` lines in ending k, written to the front of `picks`. The last line turns fastest.

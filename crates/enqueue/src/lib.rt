@@ -6,7 +6,7 @@ ghost use Rattle.std.specs.Prelude.{◌≡◌, ℕ, ◌<◌, ◌≤◌, ◌^◌}
 ghost use Rattle.machine.specs.Record.{thread};
 ghost use Rattle.machine.specs.Enqueue.{step_a1, step_a2, step_a3, step_a4, step_a5, step_a6, step_a7, step_a8, step_a9, step_a10, step_a11, step_a12, step_f10};
 
-use answer::Answer;
+use answer::{Answer, Reply};
 use hands::flushing::{fence_line, flush_line};
 use hands::leaving::leave;
 use machine::{Acted, Line, Machine, Touch};
@@ -21,7 +21,7 @@ pub fn a1(m: Machine, k: usize) -> Acted
     if f == 0 {
         let rest = leave(m, k, th.held);
         return Acted {
-            answer: Answer::Full,
+            answer: Ok(Reply::Full),
             machine: rest,
             touch: Touch::Nothing,
         };
@@ -36,7 +36,7 @@ pub fn a1(m: Machine, k: usize) -> Acted
     th.step = Machine::A2;
     r.threads[k] = th;
     Acted {
-        answer: Answer::Taken,
+        answer: Ok(Reply::Taken),
         machine: r,
         touch: Touch::Nothing,
     }
@@ -54,7 +54,7 @@ pub fn a2(m: Machine, k: usize) -> Acted
     r.threads[k].step = Machine::A3;
     let line = Line::OfNode(th.node);
     Acted {
-        answer: Answer::Taken,
+        answer: Ok(Reply::Taken),
         machine: r,
         touch: Touch::Store(line),
     }
@@ -71,7 +71,7 @@ pub fn a3(m: Machine, k: usize) -> Acted
     r.nodes[i].next = 255;
     r.threads[k].step = Machine::A4;
     Acted {
-        answer: Answer::Taken,
+        answer: Ok(Reply::Taken),
         machine: r,
         touch: Touch::Nothing,
     }
@@ -89,7 +89,7 @@ pub fn a4(m: Machine, k: usize) -> Acted
     r.threads[k].step = Machine::A5;
     let line = Line::OfNode(th.node);
     Acted {
-        answer: Answer::Taken,
+        answer: Ok(Reply::Taken),
         machine: r,
         touch: Touch::Store(line),
     }
@@ -106,7 +106,7 @@ pub fn a5(m: Machine, k: usize) -> Acted
     th.step = Machine::A6;
     r.threads[k] = th;
     Acted {
-        answer: Answer::Taken,
+        answer: Ok(Reply::Taken),
         machine: r,
         touch: Touch::Nothing,
     }
@@ -124,14 +124,14 @@ pub fn a6(m: Machine, k: usize) -> Acted
     if x == 255 {
         r.threads[k].step = Machine::A7;
         return Acted {
-            answer: Answer::Taken,
+            answer: Ok(Reply::Taken),
             machine: r,
             touch: Touch::Nothing,
         };
     }
     r.threads[k].step = Machine::A12;
     Acted {
-        answer: Answer::Taken,
+        answer: Ok(Reply::Taken),
         machine: r,
         touch: Touch::Nothing,
     }
@@ -153,7 +153,7 @@ pub fn a7(m: Machine, k: usize) -> Acted
         r.free = f;
         let rest = leave(r, k, th.held);
         return Acted {
-            answer: Answer::WornOut,
+            answer: Ok(Reply::WornOut),
             machine: rest,
             touch: Touch::Nothing,
         };
@@ -162,7 +162,7 @@ pub fn a7(m: Machine, k: usize) -> Acted
     r.threads[k].step = Machine::A8;
     let line = Line::OfNode(th.node);
     Acted {
-        answer: Answer::Taken,
+        answer: Ok(Reply::Taken),
         machine: r,
         touch: Touch::Store(line),
     }
@@ -181,14 +181,14 @@ pub fn a8(m: Machine, k: usize) -> Acted
         r.nodes[t].next = th.node;
         r.threads[k].step = Machine::A9;
         return Acted {
-            answer: Answer::Taken,
+            answer: Ok(Reply::Taken),
             machine: r,
             touch: Touch::Nothing,
         };
     }
     r.threads[k].step = Machine::A12;
     Acted {
-        answer: Answer::Taken,
+        answer: Ok(Reply::Taken),
         machine: r,
         touch: Touch::Nothing,
     }
@@ -206,7 +206,7 @@ pub fn a9(m: Machine, k: usize) -> Acted
     r.threads[k].step = Machine::A10;
     let line = Line::OfNode(th.node);
     Acted {
-        answer: Answer::Taken,
+        answer: Ok(Reply::Taken),
         machine: r,
         touch: Touch::Store(line),
     }
@@ -222,7 +222,7 @@ pub fn a10(m: Machine, k: usize) -> Acted
     let mut r = flush_line(m, k, line);
     r.threads[k].step = Machine::F10;
     Acted {
-        answer: Answer::Taken,
+        answer: Ok(Reply::Taken),
         machine: r,
         touch: Touch::Flush(k as u8, line),
     }
@@ -238,7 +238,7 @@ pub fn f10(m: Machine, k: usize) -> Acted
     let mut r = fence_line(m, k, line);
     r.threads[k].step = Machine::A11;
     Acted {
-        answer: Answer::Taken,
+        answer: Ok(Reply::Taken),
         machine: r,
         touch: Touch::Fence(k as u8, line),
     }
@@ -255,14 +255,14 @@ pub fn a11(m: Machine, k: usize) -> Acted
         r.tail = th.node;
         let rest = leave(r, k, th.held);
         return Acted {
-            answer: Answer::Done,
+            answer: Ok(Reply::Done),
             machine: rest,
             touch: Touch::Nothing,
         };
     }
     let rest = leave(r, k, th.held);
     Acted {
-        answer: Answer::Done,
+        answer: Ok(Reply::Done),
         machine: rest,
         touch: Touch::Nothing,
     }
@@ -281,13 +281,13 @@ pub fn a12(m: Machine, k: usize) -> Acted
     if r.tail == th.tail {
         r.tail = x;
         return Acted {
-            answer: Answer::Taken,
+            answer: Ok(Reply::Taken),
             machine: r,
             touch: Touch::Nothing,
         };
     }
     Acted {
-        answer: Answer::Taken,
+        answer: Ok(Reply::Taken),
         machine: r,
         touch: Touch::Nothing,
     }

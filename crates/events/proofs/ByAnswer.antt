@@ -4,9 +4,7 @@ use mathlib.Core.Path.{◌≡◌, sym, ap, ◌∙◌}
 use mathlib.Core.Bool.{Bool, true, false}
 use mathlib.Core.List.{List}
 use lib.ListN.{length}
-use Rattle.answer.specs.Answers.{accepted}
-use Rattle.answer.specs.declared.Answer.{Answer}
-use Rattle.answer.specs.declared.Answer.TheVariants.{Taken, Record}
+use Rattle.answer.specs.Answers.{accepted, Answer, Taken, Record}
 use Rattle.image.specs.Refusals.{write_answer, written}
 use Rattle.machine.specs.Line.{persisted}
 use Rattle.machine.specs.Range.{in_range}

@@ -11,8 +11,7 @@ use types.Logic.{Logic}
 use contract.Monad.{Fun, fact}
 use contract.Lifetimes.{Lfts}
 use denote.MutBor.{MutBor}
-use Rattle.answer.specs.Answers.{told, accepted}
-use Rattle.answer.specs.declared.Answer.{Answer}
+use Rattle.answer.specs.Answers.{told, accepted, Answer}
 use Rattle.answer.specs.declared.Told.{Told}
 use Rattle.answer.proofs.Injective.{told_injective}
 use Rattle.machine.specs.declared.Machine.{Machine}

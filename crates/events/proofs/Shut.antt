@@ -8,8 +8,7 @@ use lib.Dec.{eqb}
 use Rattle.lists.specs.Find.{least, around, any, count}
 use Rattle.lists.specs.Tab.{tab, joined, over, front}
 use Rattle.lists.specs.Word.{has, with, without, word_of}
-use Rattle.answer.specs.Answers.{told, accepted, replied}
-use Rattle.answer.specs.declared.Answer.{Answer}
+use Rattle.answer.specs.Answers.{told, accepted, replied, Answer}
 use Rattle.answer.specs.declared.Told.{Told}
 use Rattle.image.specs.declared.Content.{Content}
 use Rattle.image.specs.Form.{known, top_of, width_of, head_lines, own_threads, per_desk}

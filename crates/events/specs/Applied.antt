@@ -1,7 +1,6 @@
 -- "offer one that works on the machine record that it keeps, one event at a time": what the call on a kept record answers and leaves.
 use Rattle.std.specs.Prelude.{◌≡◌}
-use Rattle.answer.specs.Answers.{told}
-use Rattle.answer.specs.declared.Answer.{Answer}
+use Rattle.answer.specs.Answers.{told, Answer}
 use Rattle.machine.specs.Event.{event_on}
 use Rattle.machine.specs.declared.Machine.{Machine}
 use Rattle.machine.specs.declared.Event.{Event}

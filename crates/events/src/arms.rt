@@ -7,7 +7,7 @@ ghost use Rattle.machine.specs.Range.{in_range};
 ghost use Rattle.events.specs.Arms.{event_by};
 
 use crate::clean::is_clean;
-use answer::Answer;
+use answer::{Refusal, Reply};
 use hands::persisting::persist_line;
 use image::{Image, Shape, head_lines};
 use machine::lines::line_at;
@@ -50,7 +50,7 @@ fn enqueue(p: u32, m: Machine, e: Event) -> Acted
 {
     if m.t <= e.number {
         return Acted {
-            answer: Answer::Number(p),
+            answer: Err(Refusal::Number(p)),
             machine: m,
             touch: Touch::Nothing,
         };
@@ -60,14 +60,14 @@ fn enqueue(p: u32, m: Machine, e: Event) -> Acted
     let th = threads[k];
     if th.step != 0 {
         return Acted {
-            answer: Answer::Busy(p),
+            answer: Err(Refusal::Busy(p)),
             machine: m,
             touch: Touch::Nothing,
         };
     }
     let machine = steps::begin(m, k, Machine::A1, e.item);
     Acted {
-        answer: Answer::Taken,
+        answer: Ok(Reply::Taken),
         machine,
         touch: Touch::Nothing,
     }
@@ -80,14 +80,14 @@ fn dequeue(p: u32, m: Machine, e: Event) -> Acted
 {
     if m.t <= e.number {
         return Acted {
-            answer: Answer::Number(p),
+            answer: Err(Refusal::Number(p)),
             machine: m,
             touch: Touch::Nothing,
         };
     }
     if e.item != 0 {
         return Acted {
-            answer: Answer::NotZero(p),
+            answer: Err(Refusal::NotZero(p)),
             machine: m,
             touch: Touch::Nothing,
         };
@@ -97,14 +97,14 @@ fn dequeue(p: u32, m: Machine, e: Event) -> Acted
     let th = threads[k];
     if th.step != 0 {
         return Acted {
-            answer: Answer::Busy(p),
+            answer: Err(Refusal::Busy(p)),
             machine: m,
             touch: Touch::Nothing,
         };
     }
     let machine = steps::begin(m, k, Machine::D1, 0);
     Acted {
-        answer: Answer::Taken,
+        answer: Ok(Reply::Taken),
         machine,
         touch: Touch::Nothing,
     }
@@ -117,14 +117,14 @@ fn step(p: u32, m: Machine, e: Event) -> Acted
 {
     if m.t <= e.number {
         return Acted {
-            answer: Answer::Number(p),
+            answer: Err(Refusal::Number(p)),
             machine: m,
             touch: Touch::Nothing,
         };
     }
     if e.item != 0 {
         return Acted {
-            answer: Answer::NotZero(p),
+            answer: Err(Refusal::NotZero(p)),
             machine: m,
             touch: Touch::Nothing,
         };
@@ -134,7 +134,7 @@ fn step(p: u32, m: Machine, e: Event) -> Acted
     let th = threads[k];
     if th.step == 0 {
         return Acted {
-            answer: Answer::Idle(p),
+            answer: Err(Refusal::Idle(p)),
             machine: m,
             touch: Touch::Nothing,
         };
@@ -155,14 +155,14 @@ fn write_back(p: u32, m: Machine, e: Event) -> Acted
     let lines = head_lines(z) + m.n as usize;
     if lines <= e.number as usize {
         return Acted {
-            answer: Answer::Number(p),
+            answer: Err(Refusal::Number(p)),
             machine: m,
             touch: Touch::Nothing,
         };
     }
     if e.item != 0 {
         return Acted {
-            answer: Answer::NotZero(p),
+            answer: Err(Refusal::NotZero(p)),
             machine: m,
             touch: Touch::Nothing,
         };
@@ -170,14 +170,14 @@ fn write_back(p: u32, m: Machine, e: Event) -> Acted
     let line = line_at(z, e.number);
     if is_clean(m, line) {
         return Acted {
-            answer: Answer::Clean(p),
+            answer: Err(Refusal::Clean(p)),
             machine: m,
             touch: Touch::Nothing,
         };
     }
     let machine = persist_line(m, line);
     Acted {
-        answer: Answer::Taken,
+        answer: Ok(Reply::Taken),
         machine,
         touch: Touch::Persist(line),
     }
@@ -190,14 +190,14 @@ fn crash(p: u32, m: Machine, e: Event) -> Acted
 {
     if e.number != 0 {
         return Acted {
-            answer: Answer::NotZero(p),
+            answer: Err(Refusal::NotZero(p)),
             machine: m,
             touch: Touch::Nothing,
         };
     }
     if e.item != 0 {
         return Acted {
-            answer: Answer::NotZero(p),
+            answer: Err(Refusal::NotZero(p)),
             machine: m,
             touch: Touch::Nothing,
         };
@@ -213,7 +213,7 @@ fn crash(p: u32, m: Machine, e: Event) -> Acted
     }
     let machine = machine::start::start(g, m.t);
     Acted {
-        answer: Answer::Taken,
+        answer: Ok(Reply::Taken),
         machine,
         touch: Touch::Nothing,
     }
@@ -232,7 +232,7 @@ pub fn act(p: u32, m: Machine, e: Event) -> Acted
         4 => write_back(p, m, e),
         5 => crash(p, m, e),
         0 | 6..=255 => Acted {
-            answer: Answer::Kind(p),
+            answer: Err(Refusal::Kind(p)),
             machine: m,
             touch: Touch::Nothing,
         },

@@ -13,7 +13,7 @@ ghost use Rattle.machine.specs.Place.{count_places};
 ghost use Rattle.machine.specs.Saved.{save_answer, saved};
 ghost use Rattle.events.specs.Applied.{Applied};
 
-use answer::Answer;
+use answer::{Answer, Refusal, Reply};
 pub use arms::{act, kept_image};
 use machine::{Counted, Event, Machine, Out, Places};
 use range::in_range;
@@ -25,7 +25,7 @@ pub fn on_event(m: Machine, e: Event) -> Out
 {
     if !range::in_range(m) {
         return Out {
-            answer: Answer::Record,
+            answer: Err(Refusal::Record),
             machine: m,
         };
     }
@@ -50,7 +50,7 @@ pub fn save(m: Machine, b: &mut [u8]) -> Answer
     ensures bytes { b.new ≡ saved m b.old }
 {
     if !in_range(m) {
-        return Answer::Record;
+        return Err(Refusal::Record);
     }
     let g = kept_image(m);
     codec::write_image(g, b)
@@ -71,13 +71,13 @@ pub fn count_places(m: Machine) -> Counted
             dequeue: 0,
         };
         return Counted {
-            answer: Answer::Record,
+            answer: Err(Refusal::Record),
             places,
         };
     }
     let places = range::places_of(m);
     Counted {
-        answer: Answer::Taken,
+        answer: Ok(Reply::Taken),
         places,
     }
 }

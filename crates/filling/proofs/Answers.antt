@@ -9,9 +9,7 @@ use lib.Dec.{ltb}
 use borrow.Author.Tests.{lt-ltb, le-ltb}
 use Rattle.lists.specs.Tab.{over}
 use Rattle.lists.proofs.BoolLaws.{yes_of, no_of}
-use Rattle.answer.specs.Answers.{told, check, accepted}
-use Rattle.answer.specs.declared.Answer.{Answer}
-use Rattle.answer.specs.declared.Answer.TheVariants.{Taken, NoEnding, Room}
+use Rattle.answer.specs.Answers.{told, check, accepted, Answer, Taken, NoEnding, Room}
 use Rattle.page.specs.Refusals.{page_answer, ending_count}
 use Rattle.page.specs.Filled.{lines_on, fitting, page_line, lines_left, lines_answer, lines_taken, lines_bytes, lines_written}
 use Rattle.printing.specs.Lines.{refused_text, if_fits}

@@ -28,7 +28,7 @@ use Rattle.machine.specs.Flush.{flush, over_after, fence}
 use Rattle.machine.specs.declared.Line.{Line}
 use Rattle.machine.specs.declared.Line.TheVariants.{OfHead as of_head, OfNode as of_node}
 use Rattle.machine.specs.Retire.{left, next_free, hand_out, freed, released, released_at, retired, retired_held, going, answering, storing}
-use Rattle.answer.specs.declared.Answer.TheVariants.{WornOut}
+use Rattle.answer.specs.Answers.{WornOut}
 use Rattle.machine.specs.Start.{start_with, start_of, start_node, queue_of}
 use Rattle.machine.specs.Event.{Deed, unknown, enqueues, dequeues, steps, writes_back, crashes, stepped, done}
 use Rattle.machine.specs.declared.Machine.{Machine}

@@ -8,8 +8,7 @@ use native.Mathlib.Omega.{arith}
 use lib.ListN.{length, get_or, drop}
 use lib.Seq.{get_or-drop}
 use Rattle.lists.specs.Tab.{tab, front}
-use Rattle.answer.specs.Answers.{accepted}
-use Rattle.answer.specs.declared.Answer.{Answer}
+use Rattle.answer.specs.Answers.{accepted, Answer}
 use Rattle.image.specs.Bytes.{at4, at_w}
 use Rattle.image.specs.Form.{width_of, top_of, heads_at, head_lines, node_place, own_threads, per_desk}
 use Rattle.image.specs.declared.Shape.{Shape}

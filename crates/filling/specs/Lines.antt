@@ -1,9 +1,7 @@
 -- The page's lines from the table that the code keeps, and the line of a refusal.
 use Rattle.std.specs.Prelude.{ℕ, zero, suc, ◌≤◌, ◌≡◌, true, List, length, ltb}
 use Rattle.lists.specs.Tab.{over}
-use Rattle.answer.specs.Answers.{told, check, accepted}
-use Rattle.answer.specs.declared.Answer.{Answer}
-use Rattle.answer.specs.declared.Answer.TheVariants.{Taken, Room}
+use Rattle.answer.specs.Answers.{told, check, accepted, Answer, Taken, Room}
 use Rattle.image.specs.declared.Content.{Content}
 use Rattle.image.specs.declared.Shape.{Shape}
 use Rattle.page.specs.Printed.{first_line}

@@ -5,7 +5,7 @@ ghost use Rattle.page.specs.Filled.{lines_answer, lines_taken, lines_bytes, line
 ghost use Rattle.filling.specs.Lines.{TakesOne, refusal_answer, refusal_bytes, refusal_written};
 
 use crate::table::fill;
-use answer::Answer;
+use answer::{Answer, Refusal, Reply};
 use image::Shape;
 use printing::fitting::fit_number_place;
 use runs::paging::{lines_of, page_of};
@@ -53,7 +53,7 @@ pub fn page_lines(s: &[u8], k: u64, b: &mut [u8]) -> Lines
     let counts = counts_of(rows);
     let count = endtable::ending::ending_count(counts, lines_of(z));
     if (count as u64) < k {
-        return no_lines(Answer::NoEnding);
+        return no_lines(Err(Refusal::NoEnding));
     }
     let o = codec::open_schedule(s);
     let d = o.schedule;
@@ -61,10 +61,10 @@ pub fn page_lines(s: &[u8], k: u64, b: &mut [u8]) -> Lines
     let from = k as u32;
     let w = fill(t, counts, z, d.t, d.count, count, from, b);
     if w.next == from {
-        return no_lines(Answer::Room);
+        return no_lines(Err(Refusal::Room));
     }
     Lines {
-        answer: Answer::Taken,
+        answer: Ok(Reply::Taken),
         lines: w.next - from,
         bytes: w.place,
     }
@@ -86,12 +86,12 @@ pub fn refusal_line(number: u32, place: u32, b: &mut [u8]) -> Filled
     let p = fit_number_place(b, 0, number, place);
     if p == 0 {
         return Filled {
-            answer: Answer::Room,
+            answer: Err(Refusal::Room),
             bytes: 0,
         };
     }
     Filled {
-        answer: Answer::Taken,
+        answer: Ok(Reply::Taken),
         bytes: p,
     }
 }

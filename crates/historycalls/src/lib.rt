@@ -6,7 +6,7 @@ ghost use Rattle.std.specs.Prelude.{◌≡◌, ◌≤◌, ◌<◌, length, take}
 ghost use Rattle.lists.specs.Tab.{over};
 ghost use Rattle.calls.specs.Judging.{verdict_of, judge_given, judge_written};
 
-use answer::Answer;
+use answer::{Refusal, Reply};
 use calls::packing::packed_of;
 
 fn verdict_of(tries: u32, verdict: u8, count: u8) -> u64
@@ -39,12 +39,12 @@ pub fn judge(history: &[u8], order: &mut [u8]) -> u64
     }
     let n = history[0] as usize;
     if order.len() < n {
-        return packed_of(Answer::Room, 0);
+        return packed_of(Err(Refusal::Room), 0);
     }
     let numbers = r.order;
     let count = r.count;
     put_order(order, numbers, count as usize);
     let v = r.verdict;
     let verdict = judging::number_of(v);
-    packed_of(Answer::Taken, verdict_of(r.tries, verdict, count))
+    packed_of(Ok(Reply::Taken), verdict_of(r.tries, verdict, count))
 }

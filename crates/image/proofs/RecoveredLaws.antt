@@ -4,8 +4,7 @@ use mathlib.Core.Path.{◌≡◌, refl}
 use mathlib.Core.Bool.{Bool, not}
 use lib.Dec.{eqb, ltb}
 use Rattle.lists.specs.Find.{least}
-use Rattle.answer.specs.Answers.{check}
-use Rattle.answer.specs.declared.Answer.TheVariants.{Taken, Linked, Twin, NoDummy}
+use Rattle.answer.specs.Answers.{check, Taken, Linked, Twin, NoDummy}
 use Rattle.image.specs.Layout.{content_at}
 use Rattle.image.specs.Recovered.{recovered_at, first_unclear, first_twin, dummy_of}
 use Rattle.image.specs.Refusals.{startable, sound}

@@ -6,9 +6,7 @@ use borrow.Author.Tests.{leb-true, eqb-true, eq-eqb}
 use lib.Dec.{leb, eqb}
 use Rattle.lists.specs.Find.{pick}
 use Rattle.lists.proofs.BoolLaws.{no_way, both_true}
-use Rattle.answer.specs.Answers.{check, accepted}
-use Rattle.answer.specs.declared.Answer.{Answer}
-use Rattle.answer.specs.declared.Answer.TheVariants.{Taken, Mark, Nodes, Threads}
+use Rattle.answer.specs.Answers.{check, accepted, Answer, Taken, Mark, Nodes, Threads}
 use Rattle.image.specs.Form.{known, per_desk, head_lines}
 use Rattle.image.specs.Refusals.{nodes_fit, threads_fit, own_fit, agree, shape_answer}
 use Rattle.image.specs.declared.Shape.{Shape}

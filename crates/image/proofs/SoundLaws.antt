@@ -8,9 +8,7 @@ use lib.Dec.{eqb, ltb}
 use Rattle.lists.proofs.BoolLaws.{no_way}
 use Rattle.lists.specs.Find.{least}
 use Rattle.lists.proofs.FindLaws as find
-use Rattle.answer.specs.Answers.{check, accepted}
-use Rattle.answer.specs.declared.Answer.{Answer}
-use Rattle.answer.specs.declared.Answer.TheVariants.{Taken, Linked, Twin, NoDummy, Narrow}
+use Rattle.answer.specs.Answers.{check, accepted, Answer, Taken, Linked, Twin, NoDummy, Narrow}
 use Rattle.image.specs.declared.Image.{Image}
 use Rattle.image.specs.Form.{top_of, head_lines}
 use Rattle.image.specs.Layout.{content_at, image_shape, head_in}

@@ -2,9 +2,7 @@
 use Rattle.std.specs.Prelude.{ℕ, ◌+◌, Bool, true, false, not, List, length, eqb, ltb, leb}
 use Rattle.lists.specs.Find.{pick, both}
 use Rattle.lists.specs.Tab.{over}
-use Rattle.answer.specs.Answers.{check, accepted}
-use Rattle.answer.specs.declared.Answer.{Answer}
-use Rattle.answer.specs.declared.Answer.TheVariants.{Taken, Length, Mark, Nodes, Threads, Linked, Twin, NoDummy, Room, Narrow}
+use Rattle.answer.specs.Answers.{check, accepted, Answer, Taken, Length, Mark, Nodes, Threads, Linked, Twin, NoDummy, Room, Narrow}
 use Rattle.image.specs.Bytes.{at1}
 use Rattle.image.specs.Form.{known, per_desk, image_size}
 use Rattle.image.specs.Layout.{no_contents, no_heads, image_shape, is_image, shape_in, image_in, image_bytes}

@@ -1,13 +1,13 @@
 // What follows from an image's form, and the test for 20.
 ghost use Rattle.std.specs.Prelude.{◌≡◌, true, ◌≤◌};
-ghost use Rattle.answer.specs.declared.Answer.TheVariants.{Taken};
+ghost use Rattle.answer.specs.Answers.{Taken};
 ghost use Rattle.image.specs.Form.{known, width_of, top_of, head_lines, node_place, image_size};
 ghost use Rattle.image.specs.Layout.{image_shape};
 ghost use Rattle.image.specs.Refusals.{fitting};
 
 use super::heads::any_above;
 use super::{Image, Shape};
-use answer::Answer;
+use answer::{Answer, Refusal, Reply};
 
 // Whether the form is read and written.
 pub fn is_known(form: u8) -> bool
@@ -94,16 +94,16 @@ pub fn fitting_of(g: Image) -> Answer
     });
     let heads = g.heads;
     if any_above(heads, lines, top) {
-        return Answer::Narrow(g.n as u32);
+        return Err(Refusal::Narrow(g.n as u32));
     }
     let n = g.n as usize;
     let mut i = 0;
     while i < n {
         let v = g.nodes[i];
         if top < v.index {
-            return Answer::Narrow(i as u32);
+            return Err(Refusal::Narrow(i as u32));
         }
         i += 1;
     }
-    Answer::Taken
+    Ok(Reply::Taken)
 }

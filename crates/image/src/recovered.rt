@@ -1,7 +1,7 @@
 // Which nodes of an image by value are recovered; twins (7) and the dummy (8).
 ghost use Rattle.std.specs.Prelude.{◌≡◌, ◌≤◌, eqb};
 ghost use Rattle.lists.specs.Find.{both};
-ghost use Rattle.answer.specs.declared.Answer.TheVariants.{Taken};
+ghost use Rattle.answer.specs.Answers.{Taken};
 ghost use Rattle.image.specs.Form.{head_lines};
 ghost use Rattle.image.specs.Layout.{image_shape};
 ghost use Rattle.image.specs.Recovered.{largest, recovered, dummy_of};
@@ -9,7 +9,7 @@ ghost use Rattle.image.specs.Refusals.{startable};
 
 use super::heads::head_of;
 use super::{Content, Image, Shape};
-use answer::Answer;
+use answer::{Answer, Refusal, Reply};
 
 // A node is recovered when its linked flag is 1 and its index is above the head index.
 pub fn is_recovered(c: Content, h: u64) -> bool
@@ -94,15 +94,15 @@ pub fn startable_of(g: Image) -> Answer
         i += 1;
     }
     if i < n {
-        return Answer::Twin(i as u32);
+        return Err(Refusal::Twin(i as u32));
     }
     let mut k = 0;
     while k < n {
         let v = g.nodes[k];
         if !is_recovered(v, h) {
-            return Answer::Taken;
+            return Ok(Reply::Taken);
         }
         k += 1;
     }
-    Answer::NoDummy
+    Err(Refusal::NoDummy)
 }

@@ -1,11 +1,11 @@
 // The tests of N and T, and the refusals that an image's shape has.
 ghost use Rattle.std.specs.Prelude.{◌≡◌};
-ghost use Rattle.answer.specs.declared.Answer.TheVariants.{Taken};
+ghost use Rattle.answer.specs.Answers.{Taken};
 ghost use Rattle.image.specs.Refusals.{nodes_fit, threads_fit, shape_answer};
 
 use super::Shape;
 use super::form::is_known;
-use answer::Answer;
+use answer::{Answer, Refusal, Reply};
 
 // 3: N is 2 to 64.
 pub fn nodes_fit(n: u8) -> bool
@@ -32,18 +32,18 @@ pub fn shape_of(z: Shape, t: u8) -> Answer
     ensures { result ≡ shape_answer t z Taken }
 {
     if !is_known(z.form) {
-        return Answer::Mark;
+        return Err(Refusal::Mark);
     }
     if !nodes_fit(z.n) {
-        return Answer::Nodes;
+        return Err(Refusal::Nodes);
     }
     if z.form == 4 {
         if !threads_fit(z.t) {
-            return Answer::Threads;
+            return Err(Refusal::Threads);
         }
         if z.t != t {
-            return Answer::Threads;
+            return Err(Refusal::Threads);
         }
     }
-    Answer::Taken
+    Ok(Reply::Taken)
 }

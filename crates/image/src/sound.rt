@@ -1,6 +1,6 @@
 // The tests on an image by value: unclear linked bytes (6), twins (7), the dummy (8).
 ghost use Rattle.std.specs.Prelude.{◌≡◌, ◌≤◌};
-ghost use Rattle.answer.specs.declared.Answer.TheVariants.{Taken};
+ghost use Rattle.answer.specs.Answers.{Taken};
 ghost use Rattle.image.specs.Form.{head_lines};
 ghost use Rattle.image.specs.Layout.{image_shape};
 ghost use Rattle.image.specs.Refusals.{sound};
@@ -8,7 +8,7 @@ ghost use Rattle.image.specs.Refusals.{sound};
 use super::heads::head_of;
 use super::recovered::{are_twins, is_recovered};
 use super::{Image, Shape};
-use answer::Answer;
+use answer::{Answer, Refusal, Reply};
 
 // 6, 7, 8, with no call inside that is handed the image.
 pub fn sound_of(g: Image) -> Answer
@@ -20,7 +20,7 @@ pub fn sound_of(g: Image) -> Answer
     while u < n {
         let v = g.nodes[u];
         if v.linked > 1 {
-            return Answer::Linked(u as u32);
+            return Err(Refusal::Linked(u as u32));
         }
         u += 1;
     }
@@ -45,15 +45,15 @@ pub fn sound_of(g: Image) -> Answer
         i += 1;
     }
     if i < n {
-        return Answer::Twin(i as u32);
+        return Err(Refusal::Twin(i as u32));
     }
     let mut k = 0;
     while k < n {
         let v = g.nodes[k];
         if !is_recovered(v, h) {
-            return Answer::Taken;
+            return Ok(Reply::Taken);
         }
         k += 1;
     }
-    Answer::NoDummy
+    Err(Refusal::NoDummy)
 }

@@ -11,7 +11,7 @@ use lib.Dec.{eqb, ltb, leb}
 use borrow.Author.Tests.{le-leb}
 use Rattle.lists.specs.Find.{pick, both}
 use Rattle.lists.proofs.BoolLaws.{no_way}
-use Rattle.answer.specs.declared.Answer.{Answer}
+use Rattle.answer.specs.Answers.{Answer}
 use Rattle.machine.specs.Event.{Deed, unknown, enqueues, dequeues, steps, writes_back, crashes, deed_of}
 use Rattle.machine.specs.declared.Event.{Event}
 use Rattle.lawful.specs.Operation.{Operation, Reply, nothing, done, full, worn_out, empty, gave, says, reply_of, Call, puts, takes, begun, answered_by, noted, operations}

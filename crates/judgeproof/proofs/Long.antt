@@ -7,8 +7,7 @@ use native.Mathlib.Omega.{arith}
 use lib.ListN.{length, take}
 use lib.Seq.{length-take-le}
 use lib.Dec.{ltb}
-use Rattle.answer.specs.Answers.{check}
-use Rattle.answer.specs.declared.Answer.TheVariants.{Taken, Length}
+use Rattle.answer.specs.Answers.{check, Taken, Length}
 use Rattle.judging.specs.History.{count_in, first_odd, fault_at, sized, history_answer}
 use Rattle.judging.proofs.Taken.{whole_of}
 

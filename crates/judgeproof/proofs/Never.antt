@@ -4,8 +4,7 @@ use mathlib.Core.Path.{◌≡◌, sym, subst}
 use mathlib.Core.Bool.{true}
 use mathlib.Core.List.{List, map}
 use lib.ListN.{length}
-use Rattle.answer.specs.Answers.{accepted}
-use Rattle.answer.specs.declared.Answer.TheVariants.{Taken}
+use Rattle.answer.specs.Answers.{accepted, Taken}
 use Rattle.lawful.specs.Operation.{Operation}
 use Rattle.lawful.specs.Lawful.{Lawful}
 use Rattle.judging.specs.History.{history_answer, first_in, last_in, operations_in}

@@ -14,8 +14,7 @@ use Rattle.lists.specs.Tab.{tab}
 use Rattle.lists.proofs.BoolLaws.{both_of, false_true}
 use Rattle.lists.proofs.FindLaws.{least_none}
 use Rattle.lists.proofs.TabLaws.{length_joined, get_or_joined, get_or_tab, tab_same, map_tab, take_drop_tab}
-use Rattle.answer.specs.Answers.{check}
-use Rattle.answer.specs.declared.Answer.TheVariants.{Taken, Length}
+use Rattle.answer.specs.Answers.{check, Taken, Length}
 use Rattle.image.specs.Bytes.{le, le4, num_of, at_w, at1, at4}
 use Rattle.image.proofs.ByteLaws.{num_le, at_same}
 use Rattle.lawful.specs.Operation.{Operation, Reply, nothing, done, full, worn_out, empty, gave, Call, puts, takes}

@@ -11,8 +11,7 @@ use Rattle.lists.specs.Find.{pick, both}
 use Rattle.lists.proofs.BoolLaws.{both_true, false_true, no_way}
 use Rattle.lists.proofs.FindLaws as find
 use Rattle.lists.proofs.TabLaws.{length_tab, get_or_tab}
-use Rattle.answer.specs.Answers.{accepted, check}
-use Rattle.answer.specs.declared.Answer.TheVariants.{Taken, Length, Kind, NotZero}
+use Rattle.answer.specs.Answers.{accepted, check, Taken, Length, Kind, NotZero}
 use Rattle.image.proofs.ByteLaws.{at_small}
 use Rattle.lawful.specs.Operation.{says}
 use Rattle.lawful.specs.Lawful.{at, no_operation}

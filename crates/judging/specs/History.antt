@@ -3,9 +3,7 @@
 use Rattle.std.specs.Prelude.{ℕ, ◌+◌, ◌*◌, Bool, true, not, List, [], ◌∷◌, length, get_or, eqb, ltb, leb}
 use Rattle.lists.specs.Find.{pick, both, least}
 use Rattle.lists.specs.Tab.{tab}
-use Rattle.answer.specs.Answers.{check}
-use Rattle.answer.specs.declared.Answer.{Answer}
-use Rattle.answer.specs.declared.Answer.TheVariants.{Taken, Length, Kind, NotZero}
+use Rattle.answer.specs.Answers.{check, Answer, Taken, Length, Kind, NotZero}
 use Rattle.image.specs.Bytes.{at_w, at1, at4}
 use Rattle.lawful.specs.Operation.{Operation, Reply, nothing, done, full, worn_out, empty, gave, Call, puts, takes}
 

@@ -4,7 +4,7 @@ ghost use Rattle.judging.specs.History.{count_in, kind_at, answer_at, kind_fits,
 ghost use Rattle.judging.specs.Place.{Whole};
 
 use crate::reading::{answer_of, began_at, ended_at, kind_of, operation_at};
-use answer::Answer;
+use answer::{Answer, Refusal, Reply};
 
 // Whether the kind is known and can have the answer.
 fn kind_fits(k: u8, a: u8) -> bool
@@ -72,9 +72,9 @@ fn fault_at(h: &[u8], i: usize) -> Answer
     let k = kind_of(h, i);
     let a = answer_of(h, i);
     if !kind_fits(k, a) {
-        return Answer::Kind(i as u32);
+        return Err(Refusal::Kind(i as u32));
     }
-    Answer::NotZero(i as u32)
+    Err(Refusal::NotZero(i as u32))
 }
 
 fn is_sized(h: &[u8]) -> bool
@@ -101,12 +101,12 @@ pub fn refusal_of(h: &[u8]) -> Answer
     ensures { result ≡ history_answer h.now }
 {
     if !is_sized(h) {
-        return Answer::Length;
+        return Err(Refusal::Length);
     }
     let n = h[0] as usize;
     let i = first_odd(h);
     if i < n {
         return fault_at(h, i);
     }
-    Answer::Taken
+    Ok(Reply::Taken)
 }

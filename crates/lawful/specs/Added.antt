@@ -1,7 +1,7 @@
 -- Write-backs added to a schedule's events, anywhere after its last start. That each is of a changed line, and makes no recorded one clean, is said by the run that
 -- has to be accepted (`Leaves`, in Demand3): 19 refuses every write-back of a clean line.
 use Rattle.std.specs.Prelude.{ℕ, suc, ◌≤◌, ◌<◌, ◌≡◌, List, [], ◌∷◌, ◌++◌, ◌≢◌, ◌⊎◌}
-use Rattle.answer.specs.declared.Answer.{Answer}
+use Rattle.answer.specs.Answers.{Answer}
 use Rattle.machine.specs.Event.{Deed, crashes, deed_of}
 use Rattle.machine.specs.declared.Event.{Event}
 

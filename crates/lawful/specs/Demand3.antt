@@ -1,7 +1,6 @@
 -- Demand 3, as types about the bytes of a schedule and the run of its events.
 use Rattle.std.specs.Prelude.{ℕ, ◌<◌, ◌≡◌, Bool, true, false, List, [], ◌↔◌, length, get_or}
-use Rattle.answer.specs.Answers.{accepted}
-use Rattle.answer.specs.declared.Answer.{Answer}
+use Rattle.answer.specs.Answers.{accepted, Answer}
 use Rattle.image.specs.Layout.{content_at, no_contents, head_in, heads_of}
 use Rattle.image.specs.declared.Image.{Image}
 use Rattle.lists.specs.Tab.{front}

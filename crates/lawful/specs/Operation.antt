@@ -1,8 +1,7 @@
 -- The operations begun after the last start, by begin event, with their answers.
 use Rattle.std.specs.Prelude.{ℕ, zero, suc, Bool, true, false, not, List, [], ◌∷◌, ◌++◌, map, get_or, eqb}
 use Rattle.lists.specs.Find.{pick, both}
-use Rattle.answer.specs.Answers.{told}
-use Rattle.answer.specs.declared.Answer.{Answer}
+use Rattle.answer.specs.Answers.{told, Answer}
 use Rattle.machine.specs.Event.{Deed, unknown, enqueues, dequeues, steps, writes_back, crashes, deed_of}
 use Rattle.machine.specs.declared.Event.{Event}
 

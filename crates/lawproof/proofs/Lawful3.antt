@@ -7,8 +7,7 @@ use native.Mathlib.Omega.{arith}
 use lib.ListN.{get_or}
 use Rattle.lists.proofs.BoolLaws.{no_way}
 use Rattle.lists.proofs.TabLaws.{length_tab, get_or_tab}
-use Rattle.answer.specs.Answers.{accepted}
-use Rattle.answer.specs.declared.Answer.{Answer}
+use Rattle.answer.specs.Answers.{accepted, Answer}
 use Rattle.image.specs.declared.Content.{Content}
 use Rattle.image.specs.Layout.{content_at}
 use Rattle.machine.specs.Line.{shape_of, line_count, line_at, number_of}

@@ -7,9 +7,7 @@ use native.Mathlib.Omega.{arith}
 use lib.Dec.{ltb}
 use Rattle.lists.specs.Find.{pick, both}
 use Rattle.lists.proofs.FindLaws.{least_none}
-use Rattle.answer.specs.Answers.{check, accepted}
-use Rattle.answer.specs.declared.Answer.{Answer}
-use Rattle.answer.specs.declared.Answer.TheVariants.{Taken, Threads, Linked}
+use Rattle.answer.specs.Answers.{check, accepted, Answer, Taken, Threads, Linked}
 use Rattle.image.specs.declared.Image.{Image}
 use Rattle.image.specs.Form.{per_desk}
 use Rattle.image.specs.Layout.{content_at, image_shape}

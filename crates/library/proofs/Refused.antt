@@ -13,9 +13,7 @@ use lib.Dec.{eqb, ltb}
 use Rattle.lists.specs.Find.{pick}
 use Rattle.lists.specs.Tab.{joined, over}
 use Rattle.lists.proofs.BoolLaws as bools
-use Rattle.answer.specs.Answers.{told, check, accepted}
-use Rattle.answer.specs.declared.Answer.{Answer}
-use Rattle.answer.specs.declared.Answer.TheVariants.{Taken, Room}
+use Rattle.answer.specs.Answers.{told, check, accepted, Answer, Taken, Room}
 use Rattle.image.specs.Refusals.{image_answer, write_answer, written}
 use Rattle.machine.specs.Line.{persisted}
 use Rattle.machine.specs.Range.{in_range}

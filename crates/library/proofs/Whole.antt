@@ -7,8 +7,7 @@ use native.Mathlib.Omega.{arith}
 use native.Mathlib.Decide.{dec_lt}
 use lib.ListN.{length, length-append}
 use borrow.Author.Tests.{eq-eqb}
-use Rattle.answer.specs.Answers.{told, accepted}
-use Rattle.answer.specs.declared.Answer.{Answer}
+use Rattle.answer.specs.Answers.{told, accepted, Answer}
 use Rattle.page.specs.Refusals.{page_answer, ending_count}
 use Rattle.page.specs.Filled.{lines_on, page_line, lines_left, lines_answer, lines_taken, lines_bytes}
 use Rattle.lawful.specs.Demand3.{Bytes}

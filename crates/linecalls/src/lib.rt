@@ -9,7 +9,7 @@ ghost use Rattle.image.specs.Layout.{body_bytes};
 ghost use Rattle.schedule.specs.Layout.{schedule_shape};
 ghost use Rattle.calls.specs.Line.{index_bytes, parts_of, room_of, line_given, line_written};
 
-use answer::Answer;
+use answer::{Refusal, Reply};
 use calls::packing::packed_of;
 use image::{Content, Shape, head_lines};
 
@@ -89,8 +89,8 @@ pub fn line(schedule: &[u8], line: u32, buffer: &mut [u8]) -> u64
     let head = (line as usize) < head_count(schedule);
     let room = room_of(head, count as usize);
     if buffer.len() < room {
-        return packed_of(Answer::Room, 0);
+        return packed_of(Err(Refusal::Room), 0);
     }
     put_parts(buffer, head, contents, count as usize);
-    packed_of(Answer::Taken, count as u64)
+    packed_of(Ok(Reply::Taken), count as u64)
 }

@@ -1,18 +1,14 @@
 -- What an accepted start knows of its image and of T. Assumes nothing.
-use Prim.Native.Nat.{ℕ, zero, suc, ◌≤◌, ◌<◌}
+use Prim.Native.Nat.{ℕ, ◌≤◌, ◌<◌}
 use mathlib.Core.Path.{◌≡◌, refl, sym, ◌∙◌}
 use mathlib.Core.Bool.{Bool, true, false, not}
-use mathlib.Core.Logic.{◌≢◌, ◌⊎◌, inl, inr}
+use mathlib.Core.Logic.{◌≢◌}
 use native.Mathlib.Omega.{arith}
-use native.Mathlib.Nat.{eq-or-lt_of_le}
 use borrow.Author.Tests.{ltb-false, eqb-false, eq-eqb, not-true, not-false}
 use lib.Dec.{eqb, ltb}
-use Rattle.lists.specs.Find.{pick, least}
 use Rattle.lists.proofs.BoolLaws.{no_way}
 use Rattle.lists.proofs.FindLaws as find
-use Rattle.answer.specs.Answers.{check, accepted}
-use Rattle.answer.specs.declared.Answer.{Answer}
-use Rattle.answer.specs.declared.Answer.TheVariants.{Taken, Threads, Linked, Twin, NoDummy}
+use Rattle.answer.specs.Answers.{check, accepted, Taken, Threads, Linked, Twin, NoDummy}
 use Rattle.image.specs.declared.Image.{Image}
 use Rattle.image.specs.Layout.{content_at, image_shape}
 use Rattle.image.specs.Recovered.{recovered_at, twins, has_twin, first_unclear, first_twin, dummy_of}

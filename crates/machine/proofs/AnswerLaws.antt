@@ -1,14 +1,8 @@
 -- What a start answers, test by test, and what it hands back. Assumes nothing.
-use Prim.Native.Nat.{ℕ, ◌≤◌}
-use mathlib.Core.Path.{◌≡◌, refl, subst, ap, ap₂, ◌∙◌}
-use mathlib.Core.List.{List, [], ◌∷◌}
-use types.Run.{OneOf, miss}
-use denote.Enum.Declared.{tag_of}
-use Rattle.answer.specs.contracts.Answer.{the_type}
+use Prim.Native.Nat.{ℕ}
+use mathlib.Core.Path.{◌≡◌, refl, ap, ap₂, ◌∙◌}
 use mathlib.Core.Bool.{Bool, true, false}
-use Rattle.answer.specs.Answers.{accepted}
-use Rattle.answer.specs.declared.Answer.{Answer}
-use Rattle.answer.specs.declared.Answer.TheVariants.{Taken, Threads}
+use Rattle.answer.specs.Answers.{accepted, Answer, Taken, Threads}
 use Rattle.image.specs.declared.Image.{Image}
 use Rattle.image.specs.Layout.{image_shape}
 use Rattle.image.specs.Refusals.{threads_fit, shape_answer, whole}
@@ -49,10 +43,3 @@ whole_refused g h = by (accepted (whole g Taken)) refl
     by : (b : Bool) → accepted (whole g Taken) ≡ b → b ≡ false
     by true e = absurd (h (whole_then g Taken e))
     by false e = refl
-
--- the numbers of all variants but the first
-abbrev pub keys : List ℕ
-keys = 1 ∷ 2 ∷ 3 ∷ 4 ∷ 5 ∷ 6 ∷ 7 ∷ 8 ∷ 9 ∷ 10 ∷ 11 ∷ 12 ∷ 13 ∷ 14 ∷ 15 ∷ 16 ∷ 17 ∷ 18 ∷ 19 ∷ 20 ∷ 21 ∷ 22 ∷ 23 ∷ 24 ∷ 25 ∷ []
-
-pub not_taken : (a : Answer) → OneOf keys (tag_of the_type a) → a ≡ Taken → ⊥
-not_taken a h e = miss keys 0 tt (subst (λ (x : Answer). OneOf keys (tag_of the_type x)) e h)

@@ -9,7 +9,7 @@ use Rattle.lists.proofs.WordLaws.{word_of_lt, has_word_of}
 use Rattle.lists.specs.Word.{has}
 use Rattle.image.specs.declared.Image.{Image}
 use Rattle.image.specs.Layout.{no_content}
-use Rattle.machine.specs.Record.{flushed, late, over_head, over_node, no_flushed, no_sets}
+use Rattle.machine.specs.Record.{flushed, late, no_flushed, no_sets}
 use Rattle.machine.specs.Line.{Line, over_at, everyone}
 use Rattle.machine.specs.declared.Line.TheVariants.{OfHead as of_head, OfNode as of_node}
 use Rattle.machine.specs.Start.{start_with, start_of}

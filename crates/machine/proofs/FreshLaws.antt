@@ -7,14 +7,13 @@ use borrow.Author.Tests.{le-leb, le-ltb, ne_eqb}
 use lib.Dec.{ltb}
 use Rattle.lists.specs.Find.{least}
 use Rattle.lists.proofs.FindLaws as find
-use Rattle.answer.specs.Answers.{accepted}
-use Rattle.answer.specs.declared.Answer.TheVariants.{Taken}
+use Rattle.answer.specs.Answers.{accepted, Taken}
 use Rattle.image.specs.declared.Content.{Content}
 use Rattle.image.specs.Form.{head_lines, per_desk}
 use Rattle.image.specs.Layout.{no_content, no_contents, no_heads, content_at}
 use Rattle.image.specs.Recovered.{recovered, recovered_at, twins, has_twin, first_unclear, first_twin, dummy_of}
-use Rattle.image.specs.Form.{known, top_of}
-use Rattle.image.specs.Refusals.{startable, sound, fitting, whole}
+use Rattle.image.specs.Form.{known}
+use Rattle.image.specs.Refusals.{startable, sound, whole}
 use Rattle.image.proofs.SoundLaws.{Fitting, is_fitting}
 use Rattle.machine.specs.Start.{zero_image, fresh_of, start_answer, fresh_from}
 use Rattle.machine.specs.Range.{in_range}

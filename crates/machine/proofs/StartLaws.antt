@@ -13,8 +13,7 @@ use Rattle.lists.specs.Tab.{tab, front}
 use Rattle.lists.specs.Word.{has}
 use Rattle.lists.proofs.BoolLaws.{no_way, both_true}
 use Rattle.lists.proofs.TabLaws as tabs
-use Rattle.answer.specs.Answers.{accepted}
-use Rattle.answer.specs.declared.Answer.TheVariants.{Taken}
+use Rattle.answer.specs.Answers.{accepted, Taken}
 use Rattle.image.specs.declared.Content.{Content}
 use Rattle.image.specs.declared.Image.{Image}
 use Rattle.image.specs.Form.{head_lines}

@@ -2,8 +2,7 @@
 use Prim.Native.Nat.{ℕ}
 use mathlib.Core.Path.{◌≡◌, sym, ap₂, ◌∙◌}
 use contract.Lifetimes.{Lfts}
-use Rattle.answer.specs.Answers.{told}
-use Rattle.answer.specs.declared.Answer.{Answer}
+use Rattle.answer.specs.Answers.{told, Answer}
 use Rattle.answer.proofs.Injective.{told_injective}
 use Rattle.image.specs.declared.Image.{Image}
 use Rattle.machine.specs.declared.Machine.{Machine}

@@ -2,7 +2,7 @@
 -- S3 in front of D3 and S6 in front of D6. F3 and F6 are the fences behind D3 and D6.
 use Rattle.std.specs.Prelude.{ℕ, true, eqb}
 use Rattle.lists.specs.Find.{pick, both}
-use Rattle.answer.specs.declared.Answer.TheVariants.{Item, Empty}
+use Rattle.answer.specs.Answers.{Item, Empty}
 use Rattle.image.specs.Form.{per_desk}
 use Rattle.machine.specs.Record.{none, node, head_at, thread, read_head, read_next, read_item, put_head, put_head_node, put_head_at}
 use Rattle.machine.specs.Stage.{D1, D2, D3, D4, D5, D6, D7, S3, S6, F3, F6, number}

@@ -1,7 +1,7 @@
 -- Enqueue, step by step: A1 to A12 of thread k, and F10, the fence behind A10. i is the thread's own node, t the tail it read.
 use Rattle.std.specs.Prelude.{ℕ, ◌+◌, eqb, leb}
 use Rattle.lists.specs.Find.{pick}
-use Rattle.answer.specs.declared.Answer.TheVariants.{Done, Full, WornOut}
+use Rattle.answer.specs.Answers.{Done, Full, WornOut}
 use Rattle.image.specs.Form.{top_of}
 use Rattle.machine.specs.Record.{none, node, thread, own_node, read_tail, with_item, with_next, with_linked, with_index, put_node, put_tail}
 use Rattle.machine.specs.Stage.{A2, A3, A4, A5, A6, A7, A8, A9, A10, A11, A12, F10, number}

@@ -1,9 +1,7 @@
 -- An event: its refusals in their order, and what it does. p is the place that a refusal names.
 use Rattle.std.specs.Prelude.{ℕ, Bool, true, false, not, List, [], ◌∷◌, get_or, eqb, leb}
-use Rattle.lists.specs.Find.{pick, both}
-use Rattle.answer.specs.Answers.{check, accepted}
-use Rattle.answer.specs.declared.Answer.{Answer}
-use Rattle.answer.specs.declared.Answer.TheVariants.{Taken, Kind, Number, Busy, Idle, NotZero, Record, Clean}
+use Rattle.lists.specs.Find.{pick}
+use Rattle.answer.specs.Answers.{check, accepted, Answer, Taken, Kind, Number, Busy, Idle, NotZero, Record, Clean}
 use Rattle.image.specs.Layout.{same_content}
 use Rattle.image.specs.Refusals.{startable}
 use Rattle.machine.specs.Record.{thread, put_thread}
@@ -15,7 +13,6 @@ use Rattle.machine.specs.Enqueue.{step_a1, step_a2, step_a3, step_a4, step_a5, s
 use Rattle.machine.specs.Dequeue.{step_d1, step_d2, step_d3, step_d4, step_d5, step_d6, step_d7, step_s3, step_s6, step_f3, step_f6}
 use Rattle.machine.specs.Range.{in_range}
 use Rattle.machine.specs.declared.Machine.{Machine}
-use Rattle.machine.specs.declared.Thread.{Thread}
 use Rattle.machine.specs.declared.Event.{Event}
 use Rattle.machine.specs.declared.Acted.{Acted}
 use Rattle.machine.specs.declared.Out.{Out}

@@ -2,7 +2,7 @@
 use Rattle.std.specs.Prelude.{ℕ, zero, suc, Bool, true, false, not, eqb}
 use Rattle.lists.specs.Find.{both, any, count}
 use Rattle.lists.specs.Word.{has}
-use Rattle.answer.specs.declared.Answer.TheVariants.{Taken, Record}
+use Rattle.answer.specs.Answers.{Taken, Record}
 use Rattle.machine.specs.Record.{none, node, thread}
 use Rattle.machine.specs.Stage.{stage, enqueue_owns, dequeue_owns}
 use Rattle.machine.specs.Range.{in_range}

@@ -1,9 +1,8 @@
 -- Answering, retiring and waiting; which node A1 takes.
-use Rattle.std.specs.Prelude.{ℕ, zero, suc, Bool, true, false, not, eqb}
+use Rattle.std.specs.Prelude.{ℕ, zero, suc, Bool, not, eqb}
 use Rattle.lists.specs.Find.{pick, both, around}
 use Rattle.lists.specs.Word.{has, with, without, word_of}
-use Rattle.answer.specs.declared.Answer.{Answer}
-use Rattle.answer.specs.declared.Answer.TheVariants.{Taken}
+use Rattle.answer.specs.Answers.{Answer, Taken}
 use Rattle.machine.specs.Record.{none, node, thread, with_waits, at_step, idle_thread, put_node, put_free, put_last, put_thread}
 use Rattle.machine.specs.Stage.{busy}
 use Rattle.machine.specs.Line.{Line, nothing, a_store, a_persist, a_flush, a_fence}

@@ -1,7 +1,6 @@
 -- The persisted image of a record that is handed in, written into a lent buffer.
-use Rattle.std.specs.Prelude.{ℕ, Bool, true, false, List, length}
-use Rattle.answer.specs.declared.Answer.{Answer}
-use Rattle.answer.specs.declared.Answer.TheVariants.{Record}
+use Rattle.std.specs.Prelude.{ℕ, true, false, List}
+use Rattle.answer.specs.Answers.{Answer, Record}
 use Rattle.image.specs.Refusals.{write_answer, written}
 use Rattle.machine.specs.Line.{persisted}
 use Rattle.machine.specs.Range.{in_range}

@@ -9,7 +9,7 @@ ghost use Rattle.machine.specs.Laid.{laid, refused_start, start_nodes, start_kep
 use super::blank::{blank_machine, blank_nodes, idle_threads, no_flushed, no_node_sets, no_sets};
 use super::queue::{Queue, last_of, link_of, queue_of};
 use super::{Machine, Node, Out};
-use answer::{Answer, is_taken};
+use answer::{Answer, Refusal, Reply, is_taken};
 use image::{
     Content, Image, Shape, dummy_of, fitting_of, head_lines, head_of, no_contents, no_heads,
     recovered_in, shape_of, sound_of, threads_fit,
@@ -186,7 +186,7 @@ pub fn start_from(g: Image, t: u8) -> Out
     ensures started { result.machine ≡ (start_from g t).machine }
 {
     if !threads_fit(t) {
-        return refused(Answer::Threads);
+        return refused(Err(Refusal::Threads));
     }
     let z = Shape {
         form: g.form,
@@ -207,7 +207,7 @@ pub fn start_from(g: Image, t: u8) -> Out
     }
     let machine = start(g, t);
     Out {
-        answer: Answer::Taken,
+        answer: Ok(Reply::Taken),
         machine,
     }
 }

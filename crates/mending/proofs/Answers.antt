@@ -8,9 +8,7 @@ use borrow.Author.Tests.{lt-ltb, le-ltb}
 use lib.ListN.{length}
 use lib.Dec.{ltb}
 use Rattle.lists.specs.Tab.{over}
-use Rattle.answer.specs.Answers.{told, check, accepted}
-use Rattle.answer.specs.declared.Answer.{Answer}
-use Rattle.answer.specs.declared.Answer.TheVariants.{Taken, Length, Mark, Room}
+use Rattle.answer.specs.Answers.{told, check, accepted, Answer, Taken, Length, Mark, Room}
 use Rattle.image.specs.Form.{known, head_lines, image_size, per_desk}
 use Rattle.image.specs.Layout.{form_in, image_shape, shape_in, image_in}
 use Rattle.image.specs.declared.Shape.{Shape}

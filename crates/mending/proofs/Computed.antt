@@ -4,7 +4,7 @@ use mathlib.Core.Path.{◌≡◌, refl}
 use mathlib.Core.List.{List, [], ◌∷◌}
 use Rattle.lists.specs.Find.{count, any, least}
 use Rattle.lists.specs.Tab.{tab, joined, front}
-use Rattle.answer.specs.declared.Answer.TheVariants.{Taken, Mark}
+use Rattle.answer.specs.Answers.{Taken, Mark}
 use Rattle.image.specs.Bytes.{at_w}
 use Rattle.image.specs.Form.{known, width_of, heads_at, node_size, head_lines, header_size, node_place, image_size, per_desk}
 use Rattle.image.specs.Layout.{no_heads, heads_of, no_contents, marked, form_in, shape_in, mark_bytes, head_bytes, body_bytes, image_bytes, read_nodes, read_heads, image_in}

@@ -10,8 +10,7 @@ use borrow.Author.Tests.{eqb-true, eqb-false, ltb-true, ltb-false, eq-eqb, ne_eq
 use Rattle.lists.specs.Find.{pick, both, least}
 use Rattle.lists.proofs.BoolLaws.{no_way, false_true, both_true, both_of}
 use Rattle.lists.proofs.FindLaws.{least_clear, least_found, least_le}
-use Rattle.answer.specs.Answers.{check, accepted}
-use Rattle.answer.specs.declared.Answer.TheVariants.{Taken, Linked, Twin, NoDummy}
+use Rattle.answer.specs.Answers.{check, accepted, Taken, Linked, Twin, NoDummy}
 use Rattle.image.specs.Layout.{content_at}
 use Rattle.image.specs.Recovered.{recovered_at, has_twin, first_twin, dummy_of, first_unclear}
 use Rattle.image.specs.Refusals.{startable, sound}

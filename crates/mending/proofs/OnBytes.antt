@@ -16,8 +16,7 @@ use Rattle.lists.specs.Find.{pick}
 use Rattle.lists.specs.Tab.{tab, front}
 use Rattle.lists.proofs.BoolLaws.{no_way}
 use Rattle.lists.proofs.TabLaws as tabs
-use Rattle.answer.specs.Answers.{accepted}
-use Rattle.answer.specs.declared.Answer.TheVariants.{Taken}
+use Rattle.answer.specs.Answers.{accepted, Taken}
 use Rattle.image.specs.Bytes.{at_w, at4}
 use Rattle.image.specs.Form.{known, width_of, heads_at, node_size, head_lines, own_threads, header_size, node_place, image_size}
 use Rattle.image.specs.declared.Shape.{Shape}

@@ -7,23 +7,22 @@ mod reasons;
 mod writing;
 
 ghost use Rattle.std.specs.Prelude.{◌≡◌, length};
-ghost use Rattle.answer.specs.Answers.{told};
-ghost use Rattle.answer.specs.declared.Answer.TheVariants.{Taken};
+ghost use Rattle.answer.specs.Answers.{told, Taken};
 ghost use Rattle.mending.specs.Bytes.{mend_shape, mend_answer, mend_count, mend_written, list_written};
 
 use crate::reasons::{changed_of, spare_at};
 use crate::writing::{mended_of, put_changes};
-use answer::{Answer, is_taken};
+use answer::{Answer, Refusal, Reply, is_taken};
 
 // 1, 2, 3, 1: what is wrong with the image before its nodes are looked at. "UQP" has no mender.
 fn shape_at(s: &[u8]) -> Answer
     ensures { result ≡ mend_shape s.now Taken }
 {
     if s.len() < 10 {
-        return Answer::Length;
+        return Err(Refusal::Length);
     }
     if codec::form_in(s) == 4 {
-        return Answer::Mark;
+        return Err(Refusal::Mark);
     }
     codec::shape_part(s, 0, 0)
 }
@@ -52,7 +51,7 @@ pub fn mend_image(s: &[u8], b: &mut [u8], l: &mut [u8]) -> Mended
     }
     if b.len() < s.len() {
         return Mended {
-            answer: Answer::Room,
+            answer: Err(Refusal::Room),
             count: 0,
         };
     }
@@ -62,7 +61,7 @@ pub fn mend_image(s: &[u8], b: &mut [u8], l: &mut [u8]) -> Mended
     let count = changed_of(s, z, n, spare);
     if l.len() < count * 2 {
         return Mended {
-            answer: Answer::Room,
+            answer: Err(Refusal::Room),
             count: 0,
         };
     }
@@ -70,7 +69,7 @@ pub fn mend_image(s: &[u8], b: &mut [u8], l: &mut [u8]) -> Mended
     codec::put_image(b, g);
     put_changes(s, z, n, spare, l);
     Mended {
-        answer: Answer::Taken,
+        answer: Ok(Reply::Taken),
         count: count as u8,
     }
 }

@@ -7,8 +7,7 @@ use lib.ListN.{get_or, replicate}
 use Rattle.lists.specs.Find.{least, around, any, count}
 use Rattle.lists.specs.Tab.{tab, front}
 use Rattle.lists.specs.Word.{has, with, without, word_of}
-use Rattle.answer.specs.declared.Answer.{Answer}
-use Rattle.answer.specs.declared.Answer.TheVariants.{Taken, Done, Full, Item, Empty}
+use Rattle.answer.specs.Answers.{Answer, Taken, Done, Full, Item, Empty}
 use Rattle.image.specs.Form.{head_lines, per_desk, own_threads, top_of, width_of}
 use Rattle.image.specs.Layout.{no_contents, no_heads, heads_of, same_content}
 use Rattle.image.specs.Recovered.{largest, head_of, recovered, dummy_of}

@@ -8,9 +8,7 @@ use lib.Dec.{eqb, leb}
 use borrow.Author.Tests.{eqb-true, leb-false}
 use Rattle.lists.specs.Find.{pick, both}
 use Rattle.lists.proofs.BoolLaws.{no_way}
-use Rattle.answer.specs.Answers.{check, accepted}
-use Rattle.answer.specs.declared.Answer.{Answer}
-use Rattle.answer.specs.declared.Answer.TheVariants.{Taken, Number, NotZero, Idle}
+use Rattle.answer.specs.Answers.{check, accepted, Answer, Taken, Number, NotZero, Idle}
 use Rattle.image.specs.Form.{top_of, per_desk, head_lines}
 use Rattle.image.proofs.HeadLaws.{lines_desks, lines_some}
 use Rattle.machine.specs.Record.{none, node, thread, head_at, with_item, with_next, with_linked, with_index, put_node, put_tail, put_head_node, put_head_at}

@@ -6,8 +6,7 @@ use native.Mathlib.Omega.{arith}
 use Rattle.lists.specs.Find.{least, around, any, count}
 use Rattle.lists.specs.Tab.{tab, joined, over, front}
 use Rattle.lists.specs.Word.{has, with, without, word_of}
-use Rattle.answer.specs.declared.Answer.{Answer}
-use Rattle.answer.specs.declared.Answer.TheVariants.{Done, Full, WornOut, Item, Empty}
+use Rattle.answer.specs.Answers.{Answer, Done, Full, WornOut, Item, Empty}
 use Rattle.image.specs.Form.{top_of, width_of, head_lines, own_threads, per_desk}
 use Rattle.image.specs.Layout.{no_contents, no_heads, heads_of}
 use Rattle.image.specs.Recovered.{largest, head_of, recovered, twins, has_twin, first_twin, dummy_of}

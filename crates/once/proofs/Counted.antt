@@ -12,9 +12,7 @@ use lib.Seq.{get_or-set_other}
 use lib.Dec.{eqb}
 use Rattle.lists.specs.Find.{pick}
 use Rattle.lists.proofs.BoolLaws.{no_way, false_true, yes_of}
-use Rattle.answer.specs.Answers.{accepted}
-use Rattle.answer.specs.declared.Answer.{Answer}
-use Rattle.answer.specs.declared.Answer.TheVariants.{Taken}
+use Rattle.answer.specs.Answers.{accepted, Answer, Taken}
 use Rattle.image.specs.declared.Image.{Image}
 use Rattle.machine.specs.Record.{thread, zero_thread, idle_thread, idle_threads, put_thread}
 use Rattle.machine.specs.Stage.{Stage, no_step, A1, D1, stage_of, number, stage}

@@ -11,8 +11,7 @@ use lib.Seq.{get_or-set_same, get_or-set_other}
 use lib.Dec.{eqb, leb}
 use Rattle.lists.specs.Find.{pick, both}
 use Rattle.lists.proofs.BoolLaws.{false_true}
-use Rattle.answer.specs.declared.Answer.{Answer}
-use Rattle.answer.specs.declared.Answer.TheVariants.{Taken, Done, Full, WornOut, Item, Empty}
+use Rattle.answer.specs.Answers.{Answer, Taken, Done, Full, WornOut, Item, Empty}
 use Rattle.image.specs.Form.{top_of, per_desk}
 use Rattle.machine.specs.Record.{none, node, head_at, thread, zero_thread, at_step, idle_thread, own_node, read_tail, read_head, read_next, read_item, with_item, with_next, with_linked, with_index, put_node, put_tail, put_head, put_head_node, put_head_at, put_thread, flushed}
 use Rattle.machine.specs.Stage.{Stage, no_step, A1, A2, A3, A4, A5, A6, A7, A8, A9, A10, A11, A12, D1, D2, D3, D4, D5, D6, D7, S3, S6, F10, F3, F6, stage_of, number, stage}

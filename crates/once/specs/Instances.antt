@@ -1,7 +1,7 @@
 -- Runs in which each of the five answers is given, and two machines of which the claim is false.
 use Rattle.std.specs.Prelude.{ℕ, List, [], ◌∷◌, ◌++◌, replicate, set, eqb}
 use Rattle.lists.specs.Find.{pick}
-use Rattle.answer.specs.declared.Answer.TheVariants.{Done, Full, WornOut, Item, Empty}
+use Rattle.answer.specs.Answers.{Done, Full, WornOut, Item, Empty}
 use Rattle.image.specs.Form.{top_of}
 use Rattle.image.specs.Layout.{no_contents, no_heads}
 use Rattle.machine.specs.Record.{thread}

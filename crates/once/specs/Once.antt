@@ -2,8 +2,7 @@
 -- answered Full or Worn out none". Counted from the steps of the machine's own definition.
 use Rattle.std.specs.Prelude.{ℕ, zero, suc, ◌+◌, ◌≡◌, Bool, true, false, not, List, [], ◌∷◌, get_or, eqb}
 use Rattle.lists.specs.Find.{pick}
-use Rattle.answer.specs.Answers.{told}
-use Rattle.answer.specs.declared.Answer.{Answer}
+use Rattle.answer.specs.Answers.{told, Answer}
 use Rattle.machine.specs.Event.{Deed, unknown, enqueues, dequeues, steps, writes_back, crashes, deed_of, event_at}
 use Rattle.machine.specs.Start.{start_of}
 use Rattle.machine.specs.declared.Machine.{Machine}

@@ -7,8 +7,7 @@ use native.Mathlib.Omega.{arith}
 use native.Mathlib.Numerals.{add-one}
 use lib.ListN.{length, get_or}
 use Rattle.lists.specs.Tab.{tab}
-use Rattle.answer.specs.Answers.{accepted}
-use Rattle.answer.specs.declared.Answer.TheVariants.{Taken}
+use Rattle.answer.specs.Answers.{accepted, Taken}
 use Rattle.image.specs.Form.{known, head_lines}
 use Rattle.image.specs.Layout.{form_in, shape_in, image_shape, image_in}
 use Rattle.image.specs.declared.Shape.{Shape}

@@ -7,7 +7,7 @@ ghost use Rattle.answer.specs.Answers.{accepted};
 ghost use Rattle.schedule.specs.Layout.{schedule_in, schedule_answer};
 ghost use Rattle.schedule.specs.Running.{Reached, opened_run, forward_run};
 
-use answer::Answer;
+use answer::Reply;
 use image::Shape;
 use machine::{Event, Touch};
 use schedule::{Running, Schedule};
@@ -26,7 +26,7 @@ pub fn opened(s: &[u8], d: Schedule) -> Running
         form: g.form,
         count: d.count as usize,
         place: 0,
-        answer: Answer::Taken,
+        answer: Ok(Reply::Taken),
         machine,
         event: Event {
             kind: 0,

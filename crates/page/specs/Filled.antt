@@ -1,9 +1,7 @@
 -- The printed page line by line, and how many of its lines a lent buffer takes.
 use Rattle.std.specs.Prelude.{ℕ, zero, suc, ◌+◌, ◌-◌, Bool, true, false, List, [], length, ltb}
 use Rattle.lists.specs.Tab.{joined, over}
-use Rattle.answer.specs.Answers.{check, accepted}
-use Rattle.answer.specs.declared.Answer.{Answer}
-use Rattle.answer.specs.declared.Answer.TheVariants.{Taken, NoEnding, Room}
+use Rattle.answer.specs.Answers.{check, accepted, Answer, Taken, NoEnding, Room}
 use Rattle.schedule.specs.Layout.{threads_in, nodes_in, count_in}
 use Rattle.page.specs.Printed.{first_line, ending_line}
 use Rattle.page.specs.Refusals.{page_answer, ending_count, ending_in}

@@ -1,8 +1,7 @@
 -- The printed page, as bytes.
 use Rattle.std.specs.Prelude.{ℕ, zero, suc, Bool, true, false, List, [], ◌∷◌, ◌++◌, map}
 use Rattle.lists.specs.Text.{text, decimal}
-use Rattle.answer.specs.Answers.{told, accepted}
-use Rattle.answer.specs.declared.Answer.{Answer}
+use Rattle.answer.specs.Answers.{told, accepted, Answer}
 use Rattle.image.specs.Layout.{content_at}
 use Rattle.image.specs.Recovered.{head_of}
 use Rattle.image.specs.declared.Image.{Image}

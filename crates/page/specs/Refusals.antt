@@ -2,9 +2,7 @@
 use Rattle.std.specs.Prelude.{ℕ, Bool, true, false, List, [], length, get_or, ltb, leb}
 use Rattle.lists.specs.Find.{pick, least}
 use Rattle.lists.specs.Tab.{over}
-use Rattle.answer.specs.Answers.{check, accepted}
-use Rattle.answer.specs.declared.Answer.{Answer}
-use Rattle.answer.specs.declared.Answer.TheVariants.{Taken, Contents, Endings, NoEnding, Room}
+use Rattle.answer.specs.Answers.{check, accepted, Answer, Taken, Contents, Endings, NoEnding, Room}
 use Rattle.image.specs.Form.{image_size}
 use Rattle.image.specs.Layout.{image_bytes}
 use Rattle.image.specs.declared.Content.{Content}

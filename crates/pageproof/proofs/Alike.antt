@@ -8,9 +8,7 @@ use lib.ListN.{get_or, set}
 use lib.Dec.{eqb, leb}
 use Rattle.lists.specs.Find.{pick, both}
 use Rattle.lists.specs.Word.{has, without}
-use Rattle.answer.specs.declared.Answer.{Answer}
-use Rattle.answer.specs.Answers.{check}
-use Rattle.answer.specs.declared.Answer.TheVariants.{Taken, Done, Empty, Number, NotZero, Clean}
+use Rattle.answer.specs.Answers.{Answer, check, Taken, Done, Empty, Number, NotZero, Clean}
 use Rattle.image.specs.declared.Content.{Content}
 use Rattle.image.specs.Layout.{same_content}
 use Rattle.image.specs.Form.{top_of, per_desk}

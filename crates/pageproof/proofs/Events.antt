@@ -7,9 +7,7 @@ use lib.Dec.{eqb, leb, leb→le}
 use borrow.Author.Tests.{leb-false}
 use Rattle.lists.specs.Find.{pick}
 use Rattle.lists.proofs.BoolLaws.{no_way}
-use Rattle.answer.specs.Answers.{check, accepted}
-use Rattle.answer.specs.declared.Answer.{Answer}
-use Rattle.answer.specs.declared.Answer.TheVariants.{Taken, Number, Busy, Idle, NotZero, Clean}
+use Rattle.answer.specs.Answers.{check, accepted, Answer, Taken, Number, Busy, Idle, NotZero, Clean}
 use Rattle.image.specs.Refusals.{startable}
 use Rattle.machine.specs.Stage.{busy}
 use Rattle.machine.specs.Line.{shape_of, line_count, line_at, persisted}

@@ -9,9 +9,7 @@ use native.Mathlib.Omega.{arith}
 use lib.Dec.{ltb}
 use lib.ListN.{length, length-map}
 use Rattle.lists.proofs.BoolLaws.{no_way}
-use Rattle.answer.specs.Answers.{accepted, check}
-use Rattle.answer.specs.declared.Answer.{Answer}
-use Rattle.answer.specs.declared.Answer.TheVariants.{Length, Mark, Threads, Events}
+use Rattle.answer.specs.Answers.{accepted, check, Answer, Length, Mark, Threads, Events}
 use Rattle.image.specs.Layout.{shape_in, image_in}
 use Rattle.image.specs.Refusals.{threads_fit, image_answer}
 use Rattle.image.proofs.ShapeLaws.{shape_is, threads_range, shaped_lines}

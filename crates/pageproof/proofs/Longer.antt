@@ -5,8 +5,7 @@ use mathlib.Core.Bool.{true}
 use mathlib.Core.List.{List, [], ◌∷◌, ◌++◌}
 use native.Mathlib.Omega.{arith}
 use lib.ListN.{length}
-use Rattle.answer.specs.Answers.{accepted}
-use Rattle.answer.specs.declared.Answer.{Answer}
+use Rattle.answer.specs.Answers.{accepted, Answer}
 use Rattle.image.specs.Layout.{shape_in, image_in}
 use Rattle.image.specs.declared.Image.{Image}
 use Rattle.image.specs.declared.Shape.{Shape}

@@ -7,8 +7,7 @@ use mathlib.Core.Logic.{◌⊎◌, inl, inr, ◌≢◌}
 use native.Mathlib.Omega.{arith}
 use lib.ListN.{length}
 use Rattle.lists.proofs.BoolLaws.{no_way}
-use Rattle.answer.specs.Answers.{accepted}
-use Rattle.answer.specs.declared.Answer.{Answer}
+use Rattle.answer.specs.Answers.{accepted, Answer}
 use Rattle.machine.specs.Line.{shape_of}
 use Rattle.machine.specs.Start.{start_with}
 use Rattle.machine.specs.Event.{Deed, unknown, enqueues, dequeues, steps, writes_back, crashes, deed_of, done, event_at}

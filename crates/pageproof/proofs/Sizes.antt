@@ -10,9 +10,7 @@ use lib.Dec.{ltb}
 use borrow.Author.Tests.{ltb-true}
 use Rattle.lists.proofs.FindLaws.{least_found}
 use Rattle.lists.proofs.BoolLaws.{no_way, false_true}
-use Rattle.answer.specs.Answers.{accepted, check}
-use Rattle.answer.specs.declared.Answer.{Answer}
-use Rattle.answer.specs.declared.Answer.TheVariants.{Taken, Contents, Endings}
+use Rattle.answer.specs.Answers.{accepted, check, Answer, Taken, Contents, Endings}
 use Rattle.image.specs.declared.Content.{Content}
 use Rattle.schedule.specs.Layout.{schedule_answer}
 use Rattle.schedule.specs.Run.{Ran, ran}

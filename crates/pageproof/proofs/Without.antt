@@ -6,9 +6,7 @@ use mathlib.Core.List.{List, [], ◌∷◌}
 use mathlib.Core.Logic.{◌≢◌}
 use lib.Dec.{eqb}
 use Rattle.lists.proofs.BoolLaws.{no_way, false_true, no_of}
-use Rattle.answer.specs.Answers.{told, check, accepted}
-use Rattle.answer.specs.declared.Answer.{Answer}
-use Rattle.answer.specs.declared.Answer.TheVariants.{Taken, Number, NotZero, Clean}
+use Rattle.answer.specs.Answers.{told, check, accepted, Answer, Taken, Number, NotZero, Clean}
 use Rattle.machine.specs.Line.{shape_of, line_at}
 use Rattle.machine.specs.Event.{Deed, unknown, enqueues, dequeues, steps, writes_back, crashes, deed_of, line_too_large, item_not_zero, clean, event_answer, if_taken, event_at}
 use Rattle.machine.specs.declared.Machine.{Machine}

@@ -1,8 +1,6 @@
 -- "Pages of schedules still taken stay the same" (request 102): the run and the page without 19, and what that says of them.
 use Rattle.std.specs.Prelude.{ℕ, suc, ◌≡◌, true, false, List, [], ◌∷◌, ◌++◌, ◌≢◌}
-use Rattle.answer.specs.Answers.{told, check, accepted}
-use Rattle.answer.specs.declared.Answer.{Answer}
-use Rattle.answer.specs.declared.Answer.TheVariants.{Taken, Number, NotZero}
+use Rattle.answer.specs.Answers.{told, check, accepted, Answer, Taken, Number, NotZero}
 use Rattle.machine.specs.Event.{Deed, unknown, enqueues, dequeues, steps, writes_back, crashes, deed_of, line_too_large, item_not_zero, event_answer, if_taken}
 use Rattle.machine.specs.declared.Machine.{Machine}
 use Rattle.machine.specs.declared.Event.{Event}

@@ -11,9 +11,7 @@ use Rattle.lists.specs.Find.{pick}
 use Rattle.lists.specs.Tab.{front}
 use Rattle.lists.proofs.BoolLaws.{yes_of, no_of}
 use Rattle.lists.proofs.TabLaws as tabs
-use Rattle.answer.specs.Answers.{told, check, accepted}
-use Rattle.answer.specs.declared.Answer.{Answer}
-use Rattle.answer.specs.declared.Answer.TheVariants.{Taken, Number}
+use Rattle.answer.specs.Answers.{told, check, accepted, Answer, Taken, Number}
 use Rattle.image.specs.Layout.{content_at}
 use Rattle.image.specs.declared.Content.{Content}
 use Rattle.machine.specs.Line.{shape_of, line_count}

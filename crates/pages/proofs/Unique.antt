@@ -6,7 +6,7 @@ use contract.Lifetimes.{Lfts}
 use denote.Ref.{Bor}
 use denote.MutBor.{MutBor}
 use Rattle.answer.proofs.Injective.{told_injective}
-use Rattle.answer.specs.declared.Answer.{Answer}
+use Rattle.answer.specs.Answers.{Answer}
 use Rattle.pages.specs.declared.calls.Count.{Count}
 use Rattle.pages.specs.declared.lines.LineContents.{LineContents}
 use Rattle.pages.proofs.calls.count_endings.Reads as counting

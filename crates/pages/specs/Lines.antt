@@ -2,9 +2,7 @@
 use Rattle.std.specs.Prelude.{ℕ, Bool, true, false, List, [], length, get_or, replicate, leb}
 use Rattle.lists.specs.Find.{pick}
 use Rattle.lists.specs.Tab.{front}
-use Rattle.answer.specs.Answers.{check, accepted}
-use Rattle.answer.specs.declared.Answer.{Answer}
-use Rattle.answer.specs.declared.Answer.TheVariants.{Taken, Number}
+use Rattle.answer.specs.Answers.{check, accepted, Answer, Taken, Number}
 use Rattle.image.specs.Layout.{no_content, content_at}
 use Rattle.image.specs.declared.Content.{Content}
 use Rattle.page.specs.Refusals.{and_then, table_in, page_answer}

@@ -4,7 +4,7 @@ ghost use Rattle.answer.specs.Answers.{told};
 ghost use Rattle.page.specs.Refusals.{page_answer, ending_answer, ending_written};
 ghost use Rattle.runs.specs.Paged.{count_of};
 
-use answer::Answer;
+use answer::{Answer, Refusal, Reply};
 use image::Shape;
 use runs::paging::{lines_of, page_of};
 use runs::tables::{counts_of, table_of};
@@ -61,14 +61,14 @@ pub fn ending_of(s: &[u8], k: u64, b: &mut [u8]) -> Answer
     };
     let count = endtable::ending::ending_count(counts, lines_of(z));
     if count as u64 <= k {
-        return Answer::NoEnding;
+        return Err(Refusal::NoEnding);
     }
     if b.len() < image::size_of(z) {
-        return Answer::Room;
+        return Err(Refusal::Room);
     }
     let picks = endtable::ending::ending_picks(counts, z, k as u32);
     let t = table_of(rows);
     let g = endtable::ending::ending_image(t, picks, z);
     codec::put_image(b, g);
-    Answer::Taken
+    Ok(Reply::Taken)
 }

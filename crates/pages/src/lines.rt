@@ -1,10 +1,9 @@
 // The public call on one line of a schedule's page: the contents that a crash may leave in it.
 ghost use Rattle.std.specs.Prelude.{◌≡◌, ◌≤◌, length};
-ghost use Rattle.answer.specs.Answers.{told};
-ghost use Rattle.answer.specs.declared.Answer.TheVariants.{Taken as taken};
+ghost use Rattle.answer.specs.Answers.{told, Taken as taken};
 ghost use Rattle.pages.specs.Lines.{line_answer, line_in, blank_row, sixteen, first_of};
 
-use answer::Answer;
+use answer::{Answer, Refusal, Reply};
 use endtable::row::Row;
 use image::{Content, Shape};
 use runs::paging::{lines_of, page_of};
@@ -62,7 +61,7 @@ fn shown(row: Row) -> LineContents
     let at = row.at;
     let contents = first_of(at, count as usize);
     LineContents {
-        answer: Answer::Taken,
+        answer: Ok(Reply::Taken),
         count,
         contents,
     }
@@ -87,7 +86,7 @@ pub fn line_contents(s: &[u8], l: u32) -> LineContents
         t: m.t,
     };
     if lines_of(z) <= i {
-        return no_line(Answer::Number(0));
+        return no_line(Err(Refusal::Number(0)));
     }
     let rows = r.rows;
     let row = rows[i];

@@ -11,8 +11,7 @@ use lib.Dec.{eqb, leb}
 use borrow.Author.Tests.{lt-ltb, lt-leb}
 use Rattle.lists.specs.Find.{pick, both}
 use Rattle.lists.proofs.BoolLaws.{no_way}
-use Rattle.answer.specs.Answers.{told, accepted}
-use Rattle.answer.specs.declared.Answer.{Answer}
+use Rattle.answer.specs.Answers.{told, accepted, Answer}
 use Rattle.image.specs.Form.{per_desk}
 use Rattle.image.specs.declared.Shape.{Shape}
 use Rattle.machine.specs.Record.{node, thread, zero_node, zero_thread}

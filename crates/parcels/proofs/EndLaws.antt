@@ -13,9 +13,7 @@ use Rattle.lists.specs.Find.{pick, both, least}
 use Rattle.lists.specs.Tab.{tab, over, front}
 use Rattle.lists.proofs.BoolLaws.{no_way, yes_of, no_of, both_true}
 use Rattle.lists.proofs.TabLaws as tabs
-use Rattle.answer.specs.Answers.{told, accepted, check}
-use Rattle.answer.specs.declared.Answer.{Answer}
-use Rattle.answer.specs.declared.Answer.TheVariants.{Taken, NoEnding, Room}
+use Rattle.answer.specs.Answers.{told, accepted, check, Answer, Taken, NoEnding, Room}
 use Rattle.image.specs.Form.{image_size}
 use Rattle.image.specs.Layout.{no_content, no_contents, content_at, shape_in, image_bytes}
 use Rattle.image.specs.Recovered.{head_of, recovered, recovered_at, dummy_of}

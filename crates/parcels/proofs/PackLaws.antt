@@ -13,8 +13,7 @@ use borrow.Author.Tests.{lt-ltb}
 use Rattle.lists.specs.Find.{pick, both}
 use Rattle.lists.specs.Tab.{tab, front}
 use Rattle.lists.proofs.TabLaws as tabs
-use Rattle.answer.specs.Answers.{told, accepted}
-use Rattle.answer.specs.declared.Answer.{Answer}
+use Rattle.answer.specs.Answers.{told, accepted, Answer}
 use Rattle.answer.specs.declared.Told.{Told}
 use Rattle.machine.specs.Start.{start_of, start_answer, start_from}
 use Rattle.machine.specs.Event.{Deed, unknown, enqueues, dequeues, steps, writes_back, crashes, deeds, deed_of, handed, event_at, event_on}

@@ -9,9 +9,7 @@ use lib.ListN.{length, get_or, length-append}
 use borrow.Author.Tests.{lt-ltb, le-ltb}
 use Rattle.lists.specs.Tab.{over}
 use Rattle.lists.proofs.TabLaws as tabs
-use Rattle.answer.specs.Answers.{accepted}
-use Rattle.answer.specs.declared.Answer.{Answer}
-use Rattle.answer.specs.declared.Answer.TheVariants.{Taken, Room}
+use Rattle.answer.specs.Answers.{accepted, Answer, Taken, Room}
 use Rattle.machine.specs.declared.Machine.{Machine}
 use Rattle.parcels.specs.Parcel.{no_parcel, parcels_in}
 use Rattle.parcels.specs.Despatch.{entry_bytes}

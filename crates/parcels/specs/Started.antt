@@ -2,9 +2,7 @@
 use Rattle.std.specs.Prelude.{ℕ, zero, suc, ◌-◌, ◌*◌, ◌≡◌, Bool, true, false, not, List, [], ◌++◌, length, get_or, replicate, eqb, ltb, leb}
 use Rattle.lists.specs.Find.{pick, both}
 use Rattle.lists.specs.Tab.{over}
-use Rattle.answer.specs.Answers.{check, accepted}
-use Rattle.answer.specs.declared.Answer.{Answer}
-use Rattle.answer.specs.declared.Answer.TheVariants.{Taken, Room}
+use Rattle.answer.specs.Answers.{check, accepted, Answer, Taken, Room}
 use Rattle.machine.specs.declared.Machine.{Machine}
 use Rattle.schedule.specs.Layout.{count_in}
 use Rattle.parcels.specs.Parcel.{node_at, no_parcel, is_linked, parcels_in}

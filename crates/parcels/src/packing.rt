@@ -8,7 +8,7 @@ ghost use Rattle.parcels.specs.Started.{Packed};
 use crate::Despatched;
 use crate::entries::{group_of, no_parcels, put_entry};
 use crate::moves::{fresh, moved, news_of};
-use answer::Answer;
+use answer::{Refusal, Reply};
 use machine::Machine;
 use schedule::Schedule;
 
@@ -55,7 +55,7 @@ pub fn packed(s: &[u8], d: Schedule, end: Machine, b: &mut [u8]) -> Despatched
     }
     if b.len() < count * 8 {
         return Despatched {
-            answer: Answer::Room,
+            answer: Err(Refusal::Room),
             count: 0,
         };
     }
@@ -67,7 +67,7 @@ pub fn packed(s: &[u8], d: Schedule, end: Machine, b: &mut [u8]) -> Despatched
         k += 1;
     }
     Despatched {
-        answer: Answer::Taken,
+        answer: Ok(Reply::Taken),
         count: count as u16,
     }
 }

@@ -2,18 +2,18 @@
 ghost use Rattle.std.specs.Prelude.{◌≡◌};
 ghost use Rattle.answer.specs.Answers.{told, accepted};
 
-use answer::Answer;
+use answer::{Answer, Reply};
 
 pub fn is_taken(a: Answer) -> bool
     ensures { result ≡ accepted a }
 {
     match a {
-        Answer::Taken => true,
-        Answer::Done => true,
-        Answer::Full => true,
-        Answer::WornOut => true,
-        Answer::Item(_) => true,
-        Answer::Empty => true,
+        Ok(Reply::Taken) => true,
+        Ok(Reply::Done) => true,
+        Ok(Reply::Full) => true,
+        Ok(Reply::WornOut) => true,
+        Ok(Reply::Item(_)) => true,
+        Ok(Reply::Empty) => true,
         _ => false,
     }
 }
@@ -23,11 +23,11 @@ pub fn said_of(a: Answer) -> u8
     ensures { result ≡ (told a).reply }
 {
     match a {
-        Answer::Done => 1,
-        Answer::Full => 2,
-        Answer::WornOut => 3,
-        Answer::Item(_) => 4,
-        Answer::Empty => 5,
+        Ok(Reply::Done) => 1,
+        Ok(Reply::Full) => 2,
+        Ok(Reply::WornOut) => 3,
+        Ok(Reply::Item(_)) => 4,
+        Ok(Reply::Empty) => 5,
         _ => 0,
     }
 }

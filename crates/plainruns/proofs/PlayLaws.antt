@@ -11,9 +11,7 @@ use borrow.Author.Tests.{leb-false}
 use Rattle.lists.specs.Find.{pick}
 use Rattle.lists.specs.Tab.{tab}
 use Rattle.lists.proofs.BoolLaws.{no_way}
-use Rattle.answer.specs.Answers.{check, accepted}
-use Rattle.answer.specs.declared.Answer.{Answer}
-use Rattle.answer.specs.declared.Answer.TheVariants.{Taken, Number, Busy, Idle, NotZero}
+use Rattle.answer.specs.Answers.{check, accepted, Answer, Taken, Number, Busy, Idle, NotZero}
 use Rattle.image.specs.declared.Shape.{Shape}
 use Rattle.image.proofs.HeadLaws.{lines_few}
 use Rattle.machine.specs.Line.{shape_of, line_count, line_at}

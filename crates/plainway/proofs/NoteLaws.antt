@@ -12,8 +12,7 @@ use lib.Seq.{get_or-take, length-take-le, ext_get_or}
 use Rattle.lists.specs.Tab.{tab, joined, front, over}
 use Rattle.lists.proofs.BoolLaws.{no_way, false_true}
 use Rattle.lists.proofs.TabLaws as tabs
-use Rattle.answer.specs.Answers.{accepted}
-use Rattle.answer.specs.declared.Answer.TheVariants.{Taken}
+use Rattle.answer.specs.Answers.{accepted, Taken}
 use Rattle.image.specs.Form.{known, head_lines, own_threads, image_size}
 use Rattle.image.specs.Layout.{no_content, no_contents, content_at, node_bytes, image_shape, head_in, heads_of, head_bytes, body_bytes, image_bytes}
 use Rattle.image.specs.Refusals.{read_image}

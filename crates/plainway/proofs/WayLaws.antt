@@ -12,9 +12,7 @@ use borrow.Author.Tests.{lt-ltb, le-ltb}
 use Rattle.lists.specs.Find.{pick}
 use Rattle.lists.specs.Tab.{over}
 use Rattle.lists.proofs.BoolLaws.{no_way, yes_of, no_of}
-use Rattle.answer.specs.Answers.{check, accepted}
-use Rattle.answer.specs.declared.Answer.{Answer}
-use Rattle.answer.specs.declared.Answer.TheVariants.{Taken, Endings, Room}
+use Rattle.answer.specs.Answers.{check, accepted, Answer, Taken, Endings, Room}
 use Rattle.image.specs.Form.{known, head_lines, image_size}
 use Rattle.image.specs.Layout.{form_in, image_in, shape_in}
 use Rattle.image.specs.declared.Image.{Image}

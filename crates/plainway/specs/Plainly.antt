@@ -2,9 +2,7 @@
 use Rattle.std.specs.Prelude.{ℕ, ◌*◌, Bool, true, false, List, [], ◌∷◌, ◌++◌, length, ltb}
 use Rattle.lists.specs.Find.{pick}
 use Rattle.lists.specs.Tab.{over}
-use Rattle.answer.specs.Answers.{check, accepted}
-use Rattle.answer.specs.declared.Answer.{Answer}
-use Rattle.answer.specs.declared.Answer.TheVariants.{Taken, Endings, Room}
+use Rattle.answer.specs.Answers.{check, accepted, Answer, Taken, Endings, Room}
 use Rattle.image.specs.Form.{image_size}
 use Rattle.image.specs.Layout.{image_bytes}
 use Rattle.image.specs.declared.Image.{Image}

@@ -1,9 +1,9 @@
 // A schedule laid out for the plain way: what is refused, in order, and otherwise what its runs need.
 ghost use Rattle.std.specs.Prelude.{◌≡◌, ◌≤◌, ◌^◌};
-ghost use Rattle.answer.specs.declared.Answer.{Answer as answered};
+ghost use Rattle.answer.specs.Answers.{Answer as answered};
 ghost use Rattle.plainway.specs.Noting.{WayIs};
 
-use answer::Answer;
+use answer::{Answer, Refusal, Reply};
 use image::Shape;
 use plainruns::Plan;
 use plainruns::planning::plan_of;
@@ -71,24 +71,24 @@ pub fn way_of(s: &[u8], room: usize) -> Way
         t: d.t,
     };
     if 12 < d.count {
-        return refused(Answer::Endings);
+        return refused(Err(Refusal::Endings));
     }
     if 4 < g.n {
-        return refused(Answer::Endings);
+        return refused(Err(Refusal::Endings));
     }
     let lines = runs::paging::lines_of(z);
     if 6 < lines {
-        return refused(Answer::Endings);
+        return refused(Err(Refusal::Endings));
     }
     let size = image::size_of(z);
     if room < c.count as usize * size {
-        return refused(Answer::Room);
+        return refused(Err(Refusal::Room));
     }
     let plan = plan_of(s, d);
     let base = plan.since as u32 + 2;
     let runs = power(base, lines);
     Way {
-        answer: Answer::Taken,
+        answer: Ok(Reply::Taken),
         plan,
         lines,
         size,

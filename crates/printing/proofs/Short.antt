@@ -7,9 +7,7 @@ use native.Mathlib.Decide.{dec_lt}
 use native.Mathlib.Nat.{pow-suc}
 use lib.ListN.{length, get_or, take, length-append}
 use Rattle.lists.specs.Text.{text, decimal}
-use Rattle.answer.specs.Answers.{told}
-use Rattle.answer.specs.declared.Answer.{Answer}
-use Rattle.answer.specs.declared.Answer.TheVariants.{Taken, Done, Full, WornOut, Item, Empty, Length, Mark, Nodes, Threads, Events, Linked, Twin, NoDummy, Kind, Number, Busy, Idle, NotZero, Contents, Endings, NoEnding, Room, Record, Clean, Narrow}
+use Rattle.answer.specs.Answers.{told, Answer, Taken, Done, Full, WornOut, Item, Empty, Length, Mark, Nodes, Threads, Events, Linked, Twin, NoDummy, Kind, Number, Busy, Idle, NotZero, Contents, Endings, NoEnding, Room, Record, Clean, Narrow}
 use Rattle.image.specs.declared.Image.{Image}
 use Rattle.image.specs.Layout.{content_at}
 use Rattle.image.specs.Recovered.{head_of}

@@ -6,7 +6,7 @@ ghost use Rattle.std.specs.Prelude.{◌≡◌, ◌≤◌, length};
 ghost use Rattle.lists.specs.Tab.{over};
 ghost use Rattle.calls.specs.Probes.{replay_given, replay_written, both_bytes};
 
-use answer::Answer;
+use answer::{Refusal, Reply};
 use calls::packing::packed_of;
 use replaying::Replayed;
 
@@ -31,11 +31,11 @@ pub fn replay(file: &[u8], buffer: &mut [u8]) -> u64
         return packed_of(a, 0);
     }
     if buffer.len() < 10 {
-        return packed_of(Answer::Room, 0);
+        return packed_of(Err(Refusal::Room), 0);
     }
     if !r.differs {
-        return packed_of(Answer::Taken, 0);
+        return packed_of(Ok(Reply::Taken), 0);
     }
     put_both(buffer, r);
-    packed_of(Answer::Taken, r.event as u64 + 1)
+    packed_of(Ok(Reply::Taken), r.event as u64 + 1)
 }

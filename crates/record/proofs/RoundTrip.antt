@@ -10,7 +10,7 @@ use lib.ListN.{length, get_or, length-append, length-replicate, get_or-append}
 use lib.Seq.{ext_get_or, get_or-append-add}
 use Rattle.lists.specs.Tab.{joined, front}
 use Rattle.lists.proofs.TabLaws as tabs
-use Rattle.answer.specs.declared.Answer.TheVariants.{Taken}
+use Rattle.answer.specs.Answers.{Taken}
 use Rattle.image.specs.Bytes.{at_w, at1, at4}
 use Rattle.image.proofs.ByteLaws as num
 use Rattle.image.specs.Layout.{marked, no_content, no_contents, no_heads}

@@ -5,7 +5,7 @@ use mathlib.Core.List.{List}
 use denote.MutBor.{MutBor}
 use denote.Ref.{Bor}
 use contract.Lifetimes.{Lfts}
-use Rattle.answer.specs.declared.Answer.{Answer}
+use Rattle.answer.specs.Answers.{Answer}
 use Rattle.answer.proofs.Injective.{told_injective}
 use Rattle.machine.specs.Retire.{out}
 use Rattle.machine.specs.declared.Machine.{Machine}

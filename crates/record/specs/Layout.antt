@@ -5,9 +5,7 @@
 use Rattle.std.specs.Prelude.{ℕ, ◌+◌, ◌*◌, Bool, true, false, not, List, [], ◌∷◌, ◌++◌, length, get_or, eqb, ltb}
 use Rattle.lists.specs.Find.{pick}
 use Rattle.lists.specs.Tab.{tab, joined, front, over}
-use Rattle.answer.specs.Answers.{check, accepted}
-use Rattle.answer.specs.declared.Answer.{Answer}
-use Rattle.answer.specs.declared.Answer.TheVariants.{Taken, Length, Mark, Room}
+use Rattle.answer.specs.Answers.{check, accepted, Answer, Taken, Length, Mark, Room}
 use Rattle.image.specs.Bytes.{le, at_w, at1, at4, le4}
 use Rattle.image.specs.Layout.{marked, no_content, no_contents, no_heads}
 use Rattle.image.specs.declared.Content.{Content}

@@ -10,7 +10,7 @@ ghost use Rattle.std.specs.Prelude.{◌≡◌, length};
 ghost use Rattle.answer.specs.Answers.{told};
 ghost use Rattle.record.specs.Layout.{read_record, record_answer, record_written};
 
-use answer::Answer;
+use answer::{Answer, Refusal, Reply};
 use machine::blank::blank_machine;
 use machine::{Machine, Out};
 use reading::{is_record, record_in};
@@ -27,20 +27,20 @@ pub fn read_record(s: &[u8]) -> Out
     if s.len() != SIZE {
         let machine = blank_machine();
         return Out {
-            answer: Answer::Length,
+            answer: Err(Refusal::Length),
             machine,
         };
     }
     if !is_record(s) {
         let machine = blank_machine();
         return Out {
-            answer: Answer::Mark,
+            answer: Err(Refusal::Mark),
             machine,
         };
     }
     let machine = record_in(s);
     Out {
-        answer: Answer::Taken,
+        answer: Ok(Reply::Taken),
         machine,
     }
 }
@@ -51,8 +51,8 @@ pub fn write_record(m: Machine, b: &mut [u8]) -> Answer
     ensures bytes { b.new ≡ record_written m b.old }
 {
     if b.len() < SIZE {
-        return Answer::Room;
+        return Err(Refusal::Room);
     }
     put_record(b, m);
-    Answer::Taken
+    Ok(Reply::Taken)
 }

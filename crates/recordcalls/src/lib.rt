@@ -6,7 +6,7 @@ ghost use Rattle.std.specs.Prelude.{◌≡◌, ◌≤◌, length};
 ghost use Rattle.lists.specs.Tab.{over};
 ghost use Rattle.calls.specs.Calls.{started, start_written, happened, event_written, saved_bytes, save_written, places_counted, places_written, place_bytes, event_given};
 
-use answer::Answer;
+use answer::{Refusal, Reply};
 use calls::packing::{packed_of, reply_of};
 use image::threads_fit;
 use machine::{Event, Places};
@@ -17,7 +17,7 @@ pub fn start(image: &[u8], threads: u8, bytes: &mut [u8]) -> u64
     ensures written { bytes.new ≡ start_written image.now threads bytes.old }
 {
     if !threads_fit(threads) {
-        return packed_of(Answer::Threads, 0);
+        return packed_of(Err(Refusal::Threads), 0);
     }
     let read = codec::read_part(image, threads, 0);
     let a = read.answer;
@@ -97,9 +97,9 @@ pub fn places(bytes: &[u8], buffer: &mut [u8]) -> u64
         return packed_of(b, 0);
     }
     if buffer.len() < 6 {
-        return packed_of(Answer::Room, 0);
+        return packed_of(Err(Refusal::Room), 0);
     }
     let p = c.places;
     put_places(buffer, p);
-    packed_of(Answer::Taken, 0)
+    packed_of(Ok(Reply::Taken), 0)
 }

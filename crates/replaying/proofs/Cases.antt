@@ -7,7 +7,7 @@ use lib.ListN.{replicate, length}
 use Rattle.lists.specs.Find.{least, any}
 use Rattle.lists.specs.Tab.{tab, front}
 use Rattle.lists.specs.Word.{has, with, without, word_of}
-use Rattle.answer.specs.declared.Answer.TheVariants.{Taken, Kind, Number, NotZero, Idle, Clean}
+use Rattle.answer.specs.Answers.{Taken, Kind, Number, NotZero, Idle, Clean}
 use Rattle.image.specs.Bytes.{at_w}
 use Rattle.image.specs.Form.{known, width_of, top_of, heads_at, node_size, header_size, head_lines, own_threads, per_desk, node_place, image_size}
 use Rattle.image.specs.Layout.{same_content, no_contents, marked, shape_in, read_nodes, image_in, no_heads, heads_of, read_heads, form_in}

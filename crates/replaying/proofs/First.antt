@@ -13,9 +13,7 @@ use Rattle.lists.specs.Find.{pick, both, least}
 use Rattle.lists.specs.Tab.{tab}
 use Rattle.lists.proofs.BoolLaws.{no_way, false_true, both_true, both_of}
 use Rattle.lists.proofs.FindLaws.{least_none, least_clear, least_found, least_le}
-use Rattle.answer.specs.Answers.{told, accepted}
-use Rattle.answer.specs.declared.Answer.{Answer}
-use Rattle.answer.specs.declared.Answer.TheVariants.{Taken}
+use Rattle.answer.specs.Answers.{told, accepted, Answer, Taken}
 use Rattle.schedule.specs.Layout.{schedule_in, count_in}
 use Rattle.schedule.specs.Run.{Bench, run, opened}
 use Rattle.onward.proofs.Come.{Come, Answers, come_none, come_next, answers_none, answers_next}

@@ -12,9 +12,7 @@ use Rattle.lists.specs.Find.{pick, least}
 use Rattle.lists.specs.Tab.{tab}
 use Rattle.lists.proofs.BoolLaws.{no_way, false_true, yes_of, no_of}
 use Rattle.lists.proofs.FindLaws.{least_next, least_hit, least_end}
-use Rattle.answer.specs.Answers.{told, check, accepted}
-use Rattle.answer.specs.declared.Answer.{Answer}
-use Rattle.answer.specs.declared.Answer.TheVariants.{Taken, Kind, NotZero}
+use Rattle.answer.specs.Answers.{told, check, accepted, Answer, Taken, Kind, NotZero}
 use Rattle.machine.specs.Event.{event_at}
 use Rattle.machine.specs.Range.{in_range}
 use Rattle.machine.specs.Start.{start_of}

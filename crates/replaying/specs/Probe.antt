@@ -1,9 +1,7 @@
 -- "A probe file has mark "UQR", version 1, then T, event count and image as in a schedule": its layout, and what an event of it is answered.
 use Rattle.std.specs.Prelude.{ℕ, ◌+◌, Bool, true, false, not, List, eqb, ltb}
 use Rattle.lists.specs.Find.{pick, both}
-use Rattle.answer.specs.Answers.{told, check}
-use Rattle.answer.specs.declared.Answer.{Answer}
-use Rattle.answer.specs.declared.Answer.TheVariants.{Kind, NotZero}
+use Rattle.answer.specs.Answers.{told, check, Answer, Kind, NotZero}
 use Rattle.image.specs.Bytes.{at1, at4}
 use Rattle.machine.specs.declared.Event.{Event}
 use Rattle.schedule.specs.Layout.{schedule_shape, place_in, event_from, file_answer}

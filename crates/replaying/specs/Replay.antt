@@ -1,9 +1,7 @@
 -- A probe file replayed: its refusal, or the first event whose answer differs from the machine's, with both, or that all agree.
 use Rattle.std.specs.Prelude.{ℕ, Bool, true, false, not, List, ltb}
 use Rattle.lists.specs.Find.{pick, least}
-use Rattle.answer.specs.Answers.{told, accepted}
-use Rattle.answer.specs.declared.Answer.{Answer}
-use Rattle.answer.specs.declared.Answer.TheVariants.{Taken}
+use Rattle.answer.specs.Answers.{told, accepted, Answer, Taken}
 use Rattle.machine.specs.Event.{event_at}
 use Rattle.machine.specs.declared.Machine.{Machine}
 use Rattle.schedule.specs.Layout.{schedule_in, count_in}

@@ -4,7 +4,7 @@ ghost use Rattle.replaying.specs.Probe.{wrong_zero, asked, odd};
 ghost use Rattle.replaying.specs.Replay.{nothing_odd, noted};
 
 use crate::{Probed, Replayed};
-use answer::{Answer, told_of};
+use answer::{Answer, Refusal, Reply, told_of};
 
 fn is_wrong_zero(x: Probed) -> bool
     ensures { result ≡ wrong_zero x }
@@ -23,7 +23,7 @@ pub fn answer_to(p: u32, x: Probed, a: Answer) -> Answer
     ensures { result ≡ asked p x a }
 {
     if 5 < x.seen {
-        return Answer::Kind(p);
+        return Err(Refusal::Kind(p));
     }
     if !is_wrong_zero(x) {
         return a;
@@ -35,7 +35,7 @@ pub fn answer_to(p: u32, x: Probed, a: Answer) -> Answer
     if t.number == 10 {
         return a;
     }
-    Answer::NotZero(p)
+    Err(Refusal::NotZero(p))
 }
 
 fn is_odd(x: Probed, a: Answer) -> bool
@@ -75,7 +75,7 @@ pub fn note(r: Replayed, i: u32, x: Probed, a: Answer) -> Replayed
     }
     let t = told_of(a);
     Replayed {
-        answer: Answer::Taken,
+        answer: Ok(Reply::Taken),
         differs: true,
         event: i,
         seen: x.seen,

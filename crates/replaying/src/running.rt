@@ -8,7 +8,7 @@ ghost use Rattle.replaying.specs.Replay.{replay_of};
 use crate::Replayed;
 use crate::asking::{answer_to, note, nothing_odd};
 use crate::reading::probed_at;
-use answer::{Answer, is_taken};
+use answer::{Reply, is_taken};
 use image::Shape;
 use schedule::Schedule;
 
@@ -25,7 +25,7 @@ fn replay_events(s: &[u8], d: Schedule) -> Replayed
     };
     let count = d.count as usize;
     let mut m = machine::start::start(g, d.t);
-    let mut known = nothing_odd(Answer::Taken);
+    let mut known = nothing_odd(Ok(Reply::Taken));
     let mut i = 0;
     while i < count {
         let x = probed_at(s, z, i);

@@ -11,9 +11,7 @@ use Rattle.lists.specs.Find.{pick}
 use Rattle.lists.specs.Tab.{tab}
 use Rattle.lists.proofs.BoolLaws.{yes_of}
 use Rattle.lists.proofs.TabLaws as tabs
-use Rattle.answer.specs.Answers.{accepted}
-use Rattle.answer.specs.declared.Answer.{Answer}
-use Rattle.answer.specs.declared.Answer.TheVariants.{Taken}
+use Rattle.answer.specs.Answers.{accepted, Answer, Taken}
 use Rattle.image.specs.declared.Content.{Content}
 use Rattle.machine.specs.Line.{shape_of, line_count, cached_at}
 use Rattle.machine.specs.Event.{Deed, crashes, unknown, deed_of, event_at}

@@ -10,10 +10,8 @@ use borrow.Author.Tests.{lt-ltb, le-ltb, le-leb, lt-leb}
 use Rattle.lists.specs.Find.{pick}
 use Rattle.lists.specs.Tab.{over}
 use Rattle.lists.proofs.BoolLaws.{yes_of, no_of}
-use Rattle.answer.specs.Answers.{told, check, accepted}
+use Rattle.answer.specs.Answers.{told, check, accepted, Answer, Taken, NoEnding, Room}
 use Rattle.answer.specs.declared.Told.{Told}
-use Rattle.answer.specs.declared.Answer.{Answer}
-use Rattle.answer.specs.declared.Answer.TheVariants.{Taken, NoEnding, Room}
 use Rattle.image.specs.Form.{known, head_lines, own_threads, image_size}
 use Rattle.image.specs.Layout.{image_shape, shape_in, image_in, image_bytes}
 use Rattle.image.specs.declared.Content.{Content}

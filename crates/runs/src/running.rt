@@ -6,7 +6,7 @@ ghost use Rattle.runs.specs.Going.{RunIs};
 
 use crate::over::is_over;
 use crate::rows::opened_rows;
-use answer::Answer;
+use answer::{Answer, Reply};
 use endtable::opened::cached_at;
 use endtable::row::{Row, row_joined, row_of};
 use endtable::since::{first_waiting, no_since, since_joined};
@@ -99,7 +99,7 @@ pub fn run_events(s: &[u8], d: Schedule) -> Run
         rows[l] = row;
     }
     Run {
-        answer: Answer::Taken,
+        answer: Ok(Reply::Taken),
         machine: m,
         rows,
     }

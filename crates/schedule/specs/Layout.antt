@@ -2,9 +2,7 @@
 use Rattle.std.specs.Prelude.{ℕ, ◌+◌, ◌*◌, Bool, true, false, not, List, length, drop, ltb}
 use Rattle.lists.specs.Find.{pick}
 use Rattle.lists.specs.Tab.{tab}
-use Rattle.answer.specs.Answers.{check, accepted}
-use Rattle.answer.specs.declared.Answer.{Answer}
-use Rattle.answer.specs.declared.Answer.TheVariants.{Length, Mark, Threads, Events}
+use Rattle.answer.specs.Answers.{check, accepted, Answer, Length, Mark, Threads, Events}
 use Rattle.image.specs.Bytes.{at1, at2, at4}
 use Rattle.image.specs.Form.{image_size}
 use Rattle.image.specs.Layout.{marked, form_in, image_in}

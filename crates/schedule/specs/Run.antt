@@ -1,9 +1,7 @@
 -- A run: a machine with what has been since its last start, and the events in turn up to the first that is refused.
 use Rattle.std.specs.Prelude.{ℕ, zero, suc, max, Bool, true, false, List, [], ◌∷◌, ◌++◌, length, eqb}
 use Rattle.lists.specs.Find.{pick}
-use Rattle.answer.specs.Answers.{accepted}
-use Rattle.answer.specs.declared.Answer.{Answer}
-use Rattle.answer.specs.declared.Answer.TheVariants.{Taken}
+use Rattle.answer.specs.Answers.{accepted, Answer, Taken}
 use Rattle.machine.specs.Line.{put_line}
 use Rattle.machine.specs.declared.Line.{Line}
 use Rattle.machine.specs.declared.Touch.{Touch}

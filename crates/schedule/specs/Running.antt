@@ -1,8 +1,7 @@
 -- A run as the code goes through it: one value, opened once, taken forward by one event at a time.
 use Rattle.std.specs.Prelude.{ℕ, ◌+◌, ◌≡◌, true, List}
 use Rattle.lists.specs.Tab.{tab}
-use Rattle.answer.specs.Answers.{accepted}
-use Rattle.answer.specs.declared.Answer.TheVariants.{Taken}
+use Rattle.answer.specs.Answers.{accepted, Taken}
 use Rattle.machine.specs.Start.{start_of}
 use Rattle.machine.specs.Event.{event_at}
 use Rattle.machine.specs.declared.Event.{Event}

@@ -8,10 +8,8 @@ use borrow.Author.Tests.{eqb-true}
 use lib.ListN.{length}
 use lib.Dec.{eqb}
 use Rattle.lists.specs.Tab.{over}
-use Rattle.answer.specs.Answers.{told, accepted}
+use Rattle.answer.specs.Answers.{told, accepted, Answer, Taken}
 use Rattle.answer.specs.declared.Told.{Told}
-use Rattle.answer.specs.declared.Answer.{Answer}
-use Rattle.answer.specs.declared.Answer.TheVariants.{Taken}
 use Rattle.image.specs.Layout.{image_bytes}
 use Rattle.page.specs.Refusals.{page_answer, ending_count, ending_in, ending_written}
 use Rattle.lawful.specs.Demand3.{Bytes}

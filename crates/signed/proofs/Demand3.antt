@@ -5,10 +5,8 @@ use mathlib.Core.Bool.{true, false}
 use mathlib.Core.List.{List}
 use lib.ListN.{length}
 use Rattle.lists.specs.Tab.{over}
-use Rattle.answer.specs.Answers.{told, accepted}
+use Rattle.answer.specs.Answers.{told, accepted, Answer, Taken}
 use Rattle.answer.specs.declared.Told.{Told}
-use Rattle.answer.specs.declared.Answer.{Answer}
-use Rattle.answer.specs.declared.Answer.TheVariants.{Taken}
 use Rattle.answer.proofs.Injective.{told_injective}
 use Rattle.image.specs.Layout.{image_bytes}
 use Rattle.page.specs.Refusals.{page_answer, ending_count, ending_in, ending_answer, ending_written}

@@ -4,8 +4,7 @@ use mathlib.Core.Path.{◌≡◌, sym, ap, ◌∙◌}
 use mathlib.Core.Bool.{true}
 use mathlib.Core.List.{List}
 use lib.ListN.{length, take}
-use Rattle.answer.specs.Answers.{accepted}
-use Rattle.answer.specs.declared.Answer.{Answer}
+use Rattle.answer.specs.Answers.{accepted, Answer}
 use Rattle.image.specs.Layout.{image_bytes}
 use Rattle.image.specs.Refusals.{read_image}
 use Rattle.image.specs.declared.Read.{Read}

@@ -4,9 +4,7 @@ use mathlib.Core.Path.{◌≡◌, sym, ap, ◌∙◌}
 use mathlib.Core.Bool.{true, false}
 use mathlib.Core.List.{List, ◌++◌}
 use lib.ListN.{length, take, drop}
-use Rattle.answer.specs.Answers.{accepted}
-use Rattle.answer.specs.declared.Answer.{Answer}
-use Rattle.answer.specs.declared.Answer.TheVariants.{Taken}
+use Rattle.answer.specs.Answers.{accepted, Answer, Taken}
 use Rattle.answer.proofs.Injective.{told_injective}
 use Rattle.image.specs.Form.{image_size}
 use Rattle.image.specs.Layout.{image_shape}

@@ -8,10 +8,8 @@ use native.Mathlib.Omega.{arith}
 use lib.ListN.{length}
 use borrow.Author.Tests.{le-ltb}
 use Rattle.lists.proofs.TabLaws.{length_tab}
-use Rattle.answer.specs.Answers.{told, accepted}
+use Rattle.answer.specs.Answers.{told, accepted, Answer, Taken}
 use Rattle.answer.specs.declared.Told.{Told}
-use Rattle.answer.specs.declared.Answer.{Answer}
-use Rattle.answer.specs.declared.Answer.TheVariants.{Taken}
 use Rattle.answer.proofs.Injective.{told_injective}
 use Rattle.image.proofs.ByteLaws.{at_small}
 use Rattle.schedule.specs.Layout.{count_in, event_in, events_in, threads_in, schedule_in}

@@ -7,8 +7,7 @@ use contract.Lifetimes.{Lfts}
 use denote.MutBor.{MutBor}
 use denote.Ref.{Bor}
 use lib.ListN.{length}
-use Rattle.answer.specs.Answers.{accepted}
-use Rattle.answer.specs.declared.Answer.{Answer}
+use Rattle.answer.specs.Answers.{accepted, Answer}
 use Rattle.answer.proofs.Injective.{told_injective}
 use Rattle.image.specs.Refusals.{write_answer, written}
 use Rattle.image.specs.declared.Image.{Image}

@@ -3,9 +3,7 @@
 use Rattle.std.specs.Prelude.{ℕ, ◌<◌, ◌≤◌, ◌/◌, ◌%◌, ◌≡◌, true, List, [], ◌≢◌, length}
 use contract.Lifetimes.{Lfts}
 use Rattle.std.specs.Borrow.{Bor, MutBor}
-use Rattle.answer.specs.Answers.{accepted}
-use Rattle.answer.specs.declared.Answer.{Answer}
-use Rattle.answer.specs.declared.Answer.TheVariants.{Taken}
+use Rattle.answer.specs.Answers.{accepted, Answer, Taken}
 use Rattle.machine.specs.Start.{start_of}
 use Rattle.schedule.specs.Layout.{events_in, threads_in}
 use Rattle.schedule.specs.Run.{Bench, Ran, ran}

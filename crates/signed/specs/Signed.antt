@@ -3,10 +3,8 @@ use Rattle.std.specs.Prelude.{ℕ, ◌<◌, ◌≤◌, ◌≡◌, Bool, true, fa
 use contract.Lifetimes.{Lfts}
 use Rattle.std.specs.Borrow.{Bor, MutBor}
 use Rattle.lists.specs.Tab.{over}
-use Rattle.answer.specs.Answers.{told, accepted}
+use Rattle.answer.specs.Answers.{told, accepted, Answer, Taken}
 use Rattle.answer.specs.declared.Told.{Told}
-use Rattle.answer.specs.declared.Answer.{Answer}
-use Rattle.answer.specs.declared.Answer.TheVariants.{Taken}
 use Rattle.image.specs.Form.{image_size}
 use Rattle.image.specs.Layout.{image_bytes}
 use Rattle.machine.specs.Line.{shape_of}

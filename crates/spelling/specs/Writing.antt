@@ -4,9 +4,7 @@ use Rattle.std.specs.Prelude.{ℕ, ◌+◌, ◌-◌, ◌*◌, Bool, true, false,
 use Rattle.lists.specs.Find.{pick, both, least}
 use Rattle.lists.specs.Tab.{over}
 use Rattle.lists.specs.Text.{text, decimal}
-use Rattle.answer.specs.Answers.{check, accepted}
-use Rattle.answer.specs.declared.Answer.{Answer}
-use Rattle.answer.specs.declared.Answer.TheVariants.{Taken, NoEnding, Room}
+use Rattle.answer.specs.Answers.{check, accepted, Answer, Taken, NoEnding, Room}
 use Rattle.image.specs.Bytes.{at_w}
 use Rattle.image.specs.Form.{width_of, heads_at, head_lines, node_place, per_desk}
 use Rattle.image.specs.Layout.{form_in, read_content}

@@ -17,7 +17,7 @@ use Rattle.machine.specs.Line.{shape_of, own_head, keeping, everyone, persist}
 use Rattle.machine.specs.Flush.{flush, over_after, fence}
 use Rattle.machine.specs.declared.Line.{Line}
 use Rattle.machine.specs.declared.Line.TheVariants.{OfHead as of_head, OfNode as of_node}
-use Rattle.answer.specs.declared.Answer.TheVariants.{Full, WornOut}
+use Rattle.answer.specs.Answers.{Full, WornOut}
 use Rattle.machine.specs.Retire.{moving, going, answering, storing, next_free, hand_out, freed, last_wait, released_at, released, left, others, retired}
 use Rattle.machine.specs.Event.{begun, stepped}
 use Rattle.machine.specs.declared.Machine.{Machine}

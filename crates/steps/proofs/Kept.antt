@@ -8,7 +8,7 @@ use borrow.Author.Tests.{eqb-false, le-leb}
 use Rattle.lists.specs.Find.{pick, both}
 use Rattle.lists.specs.Word.{with}
 use Rattle.lists.proofs.WordLaws as words
-use Rattle.answer.specs.declared.Answer.TheVariants.{Full, WornOut}
+use Rattle.answer.specs.Answers.{Full, WornOut}
 use Rattle.image.specs.Form.{top_of, per_desk}
 use Rattle.machine.specs.Record.{none, node, thread, head_at, content_of, own_node, read_tail, read_next, read_item, read_head, at_step, with_item, with_next, with_linked, with_index, put_node, put_tail, put_head, put_head_node, put_head_at}
 use Rattle.machine.specs.Stage.{Stage, no_step, A1, A2, A3, A4, A5, A6, A7, A8, A9, A10, A11, A12, D1, D2, D3, D4, D5, D6, D7, S3, S6, F10, F3, F6, stage}

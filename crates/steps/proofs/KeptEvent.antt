@@ -8,9 +8,7 @@ use borrow.Author.Tests.{ltb-true, le-leb, leb-false}
 use Rattle.lists.specs.Find.{pick}
 use Rattle.lists.proofs.BoolLaws.{both_of}
 use Rattle.lists.proofs.FindLaws.{least_found}
-use Rattle.answer.specs.Answers.{check, accepted}
-use Rattle.answer.specs.declared.Answer.{Answer}
-use Rattle.answer.specs.declared.Answer.TheVariants.{Taken, Busy, Idle, Number, NotZero, Record, Clean}
+use Rattle.answer.specs.Answers.{check, accepted, Answer, Taken, Busy, Idle, Number, NotZero, Record, Clean}
 use Rattle.image.specs.Layout.{content_at}
 use Rattle.image.specs.Recovered.{first_unclear}
 use Rattle.image.specs.Refusals.{startable, sound, fitting, whole}

@@ -9,7 +9,7 @@ ghost use Rattle.machine.specs.Event.{begun, stepped};
 ghost use Rattle.steps.specs.Ready.{Ready};
 ghost use Rattle.steps.specs.Numbers.{of_enqueue};
 
-use answer::Answer;
+use answer::Reply;
 use machine::{Acted, Machine, Thread, Touch};
 
 // Thread k begins at step s with item v; it has read nothing.
@@ -65,7 +65,7 @@ fn enqueue_step(m: Machine, k: usize) -> Acted
         Machine::A12 => enqueue::a12(m, k),
         Machine::F10 => enqueue::f10(m, k),
         0 | 13..=21 | 23..=255 => Acted {
-            answer: Answer::Taken,
+            answer: Ok(Reply::Taken),
             machine: m,
             touch: Touch::Nothing,
         },
@@ -93,7 +93,7 @@ fn dequeue_step(m: Machine, k: usize) -> Acted
         Machine::F3 => dequeue::f3(m, k),
         Machine::F6 => dequeue::f6(m, k),
         0..=12 | 22 | 25..=255 => Acted {
-            answer: Answer::Taken,
+            answer: Ok(Reply::Taken),
             machine: m,
             touch: Touch::Nothing,
         },

@@ -11,9 +11,7 @@ use borrow.Author.Tests.{not-false}
 use Rattle.lists.specs.Find.{least, any}
 use Rattle.lists.proofs.BoolLaws.{both_true, no_way}
 use Rattle.lists.proofs.FindLaws.{least_none, least_clear, least_le, any_hit, any_none}
-use Rattle.answer.specs.Answers.{check, accepted}
-use Rattle.answer.specs.declared.Answer.{Answer}
-use Rattle.answer.specs.declared.Answer.TheVariants.{Taken, Linked, Twin, NoDummy}
+use Rattle.answer.specs.Answers.{check, accepted, Answer, Taken, Linked, Twin, NoDummy}
 use Rattle.image.specs.declared.Content.{Content}
 use Rattle.image.specs.declared.Image.{Image}
 use Rattle.image.specs.Layout.{content_at, image_shape}

@@ -15,7 +15,7 @@ use Rattle.machine.specs.Record.{node, thread, at_step, read_head, read_next, re
 use Rattle.machine.specs.Line.{shape_of, own_head, put_line, over_at, keeping}
 use Rattle.machine.specs.Flush.{over_after}
 use Rattle.lists.specs.Word.{has}
-use Rattle.answer.specs.declared.Answer.TheVariants.{Empty}
+use Rattle.answer.specs.Answers.{Empty}
 use Rattle.moments.proofs.Flushes.{held}
 use Rattle.machine.specs.Stage.{Stage, stage, D1, D2, D3, D4, D5, D6, D7, S3, S6, F3, F6, number}
 use Rattle.machine.specs.Retire.{moving, going, storing, answering}

@@ -13,7 +13,7 @@ use Rattle.lists.specs.Find.{pick, least}
 use Rattle.lists.specs.Word.{has, with, without}
 use Rattle.lists.proofs.BoolLaws.{no_way}
 use Rattle.lists.proofs.FindLaws.{around_lt}
-use Rattle.answer.specs.declared.Answer.TheVariants.{Done, Full, WornOut}
+use Rattle.answer.specs.Answers.{Done, Full, WornOut}
 use Rattle.image.specs.declared.Content.{Content}
 use Rattle.tied.specs.Memory as memory
 use Rattle.image.specs.Form.{top_of}

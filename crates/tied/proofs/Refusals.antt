@@ -4,9 +4,7 @@ use mathlib.Core.Bool.{Bool, true, false, not}
 use mathlib.Core.Logic.{◌≢◌}
 use Prim.Native.Nat.{ℕ, ◌<◌}
 use native.Mathlib.Omega.{arith}
-use Rattle.answer.specs.Answers.{told, check}
-use Rattle.answer.specs.declared.Answer.{Answer}
-use Rattle.answer.specs.declared.Answer.TheVariants.{Taken, Kind, Number, Busy, Idle, NotZero, Clean}
+use Rattle.answer.specs.Answers.{told, check, Answer, Taken, Kind, Number, Busy, Idle, NotZero, Clean}
 use Rattle.image.specs.Refusals.{startable}
 use Rattle.machine.specs.Line.{shape_of, line_at, persisted}
 use Rattle.machine.specs.Event.{Deed, unknown, enqueues, dequeues, steps, writes_back, crashes, event_answer, thread_too_large, line_too_large, item_not_zero, clean}

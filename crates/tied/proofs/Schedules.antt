@@ -9,9 +9,7 @@ use lib.ListN.{length, get_or, drop}
 use lib.Seq.{get_or-drop}
 use borrow.Author.Tests.{not-false}
 use Rattle.lists.proofs.TabLaws.{front_at}
-use Rattle.answer.specs.Answers.{check, accepted}
-use Rattle.answer.specs.declared.Answer.{Answer}
-use Rattle.answer.specs.declared.Answer.TheVariants.{Taken, Length, Mark, Threads, Events}
+use Rattle.answer.specs.Answers.{check, accepted, Answer, Taken, Length, Mark, Threads, Events}
 use Rattle.image.specs.declared.Image.{Image}
 use Rattle.image.specs.Bytes.{at_w}
 use Rattle.image.specs.Layout.{content_at, no_content, no_contents, shape_in, read_content, read_nodes, image_in, read_heads}

@@ -7,8 +7,7 @@ use native.Mathlib.Decide.{dec_lt}
 use lib.Dec.{leb}
 use borrow.Author.Tests.{not-false}
 use Rattle.lists.proofs.BoolLaws.{no_way}
-use Rattle.answer.specs.Answers.{accepted}
-use Rattle.answer.specs.declared.Answer.TheVariants.{Taken, Number, Busy, Idle, NotZero}
+use Rattle.answer.specs.Answers.{accepted, Taken, Number, Busy, Idle, NotZero}
 use Rattle.machine.specs.Record.{kept}
 use Rattle.image.specs.Form.{head_lines}
 use Rattle.image.specs.Layout.{image_shape}

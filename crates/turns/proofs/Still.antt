@@ -9,9 +9,7 @@ use lib.Dec.{eqb, leb}
 use Rattle.lists.specs.Find.{pick, both}
 use Rattle.lists.specs.Word.{has, with}
 use Rattle.lists.proofs.WordLaws as words
-use Rattle.answer.specs.Answers.{accepted}
-use Rattle.answer.specs.declared.Answer.{Answer}
-use Rattle.answer.specs.declared.Answer.TheVariants.{Done, Full, WornOut, Item, Empty}
+use Rattle.answer.specs.Answers.{accepted, Answer, Done, Full, WornOut, Item, Empty}
 use Rattle.image.specs.Form.{top_of, per_desk}
 use Rattle.machine.specs.Record.{none, node, thread, head_at, own_node, with_next, with_index, put_node, put_tail, put_head, put_head_node, flushed}
 use Rattle.machine.specs.Stage.{Stage, no_step, A1, A2, A3, A4, A5, A6, A7, A8, A9, A10, A11, A12, D1, D2, D3, D4, D5, D6, D7, S3, S6, F10, F3, F6, stage_of, stage}

@@ -6,8 +6,7 @@ use Rattle.schedule.specs.declared.Opened.{Opened}
 use Rattle.schedule.specs.declared.Schedule.{Schedule}
 use Rattle.image.specs.declared.Shape.{Shape}
 use Rattle.image.specs.Layout.{shape_in, image_in}
-use Rattle.answer.specs.Answers.{told, accepted}
-use Rattle.answer.specs.declared.Answer.{Answer}
+use Rattle.answer.specs.Answers.{told, accepted, Answer}
 use borrow.Author.Tests.{lt-ltb, le-ltb, not-true, not-false}
 use mathlib.Core.Bool.{true, false}
 use mathlib.Core.Path.{◌≡◌, sym, ap, subst, ◌∙◌}

@@ -2,8 +2,7 @@ use mathlib.Core.Bool.{true, false}
 use mathlib.Core.Path.{◌≡◌, sym, ap, ◌∙◌}
 use lib.ListN.{length}
 use borrow.Author.Tests.{not-true, not-false}
-use Rattle.answer.specs.Answers.{accepted}
-use Rattle.answer.specs.declared.Answer.TheVariants.{Taken}
+use Rattle.answer.specs.Answers.{accepted, Taken}
 use Rattle.lists.specs.Tab.{over}
 use Rattle.image.specs.Form.{image_size}
 use Rattle.image.specs.Layout.{in_form, image_shape, form_in, image_in, image_bytes}

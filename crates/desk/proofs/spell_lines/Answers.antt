@@ -3,8 +3,7 @@ use mathlib.Core.Path.{◌≡◌, refl, sym, ap, ◌∙◌}
 use Prim.Native.Nat.{◌+◌, ◌-◌, ◌<◌}
 use lib.ListN.{length}
 use borrow.Author.Tests.{not-true, not-false}
-use Rattle.answer.specs.Answers.{accepted}
-use Rattle.answer.specs.declared.Answer.TheVariants.{NoEnding, Room}
+use Rattle.answer.specs.Answers.{accepted, NoEnding, Room}
 use Rattle.schedule.specs.declared.Opened.{Opened}
 use Rattle.page.specs.Filled.{fitting}
 use Rattle.codec.proofs.Accepted as acc

@@ -4,8 +4,7 @@ use native.Mathlib.Omega.{arith}
 use lib.ListN.{length, take}
 use borrow.Author.Tests.{lt-ltb, le-ltb}
 use Rattle.lists.specs.Tab.{over}
-use Rattle.answer.specs.Answers.{told, accepted}
-use Rattle.answer.specs.declared.Answer.TheVariants.{Taken, Room}
+use Rattle.answer.specs.Answers.{told, accepted, Taken, Room}
 use Rattle.answer.proofs.Injective.{told_injective}
 use Rattle.judging.specs.History.{count_in, history_answer}
 use Rattle.judging.specs.Judged.{number_of, judged_in}

@@ -4,8 +4,7 @@ use native.Mathlib.Omega.{arith}
 use lib.ListN.{length, length-drop}
 use lib.Dec.{ltb}
 use Rattle.lists.specs.Tab.{over}
-use Rattle.answer.specs.Answers.{told, accepted}
-use Rattle.answer.specs.declared.Answer.TheVariants.{Taken, Room}
+use Rattle.answer.specs.Answers.{told, accepted, Taken, Room}
 use Rattle.answer.proofs.Injective.{told_injective}
 use Rattle.pages.specs.Lines.{line_answer, line_in}
 use Rattle.calls.specs.Packed.{packed}

@@ -3,8 +3,7 @@ use mathlib.Core.Path.{◌≡◌, refl, sym, ap, subst, ◌∙◌}
 use borrow.Author.Tests.{not-true, not-false}
 use lib.ListN.{length}
 use Rattle.lists.specs.Tab.{over}
-use Rattle.answer.specs.Answers.{accepted}
-use Rattle.answer.specs.declared.Answer.TheVariants.{Taken, Room}
+use Rattle.answer.specs.Answers.{accepted, Taken, Room}
 use Rattle.image.specs.Layout.{image_in, image_bytes}
 use Rattle.image.specs.declared.Image.{Image}
 use Rattle.image.specs.declared.Shape.{Shape}

@@ -5,8 +5,7 @@ use mathlib.Core.List.{List}
 use native.Mathlib.Omega.{arith}
 use lib.ListN.{length}
 use borrow.Author.Tests.{not-true, not-false}
-use Rattle.answer.specs.Answers.{told, accepted}
-use Rattle.answer.specs.declared.Answer.{Answer}
+use Rattle.answer.specs.Answers.{told, accepted, Answer}
 use Rattle.answer.proofs.Injective.{told_injective}
 use Rattle.page.specs.Refusals.{ending_answer, ending_written}
 use Rattle.lawful.specs.Demand3.{Bytes}

@@ -5,9 +5,7 @@ use lib.ListN.{length}
 use borrow.Author.Tests.{lt-ltb, le-ltb, not-true, not-false}
 use Rattle.lists.specs.Find.{pick}
 use Rattle.lists.specs.Tab.{over}
-use Rattle.answer.specs.Answers.{told, accepted}
-use Rattle.answer.specs.declared.Answer.{Answer}
-use Rattle.answer.specs.declared.Answer.TheVariants.{Taken, Room}
+use Rattle.answer.specs.Answers.{told, accepted, Answer, Taken, Room}
 use Rattle.answer.proofs.Injective.{told_injective}
 use Rattle.replaying.specs.Replay.{replay_answer, replay_of}
 use Rattle.replaying.specs.declared.Replayed.{Replayed}

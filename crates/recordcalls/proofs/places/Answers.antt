@@ -1,11 +1,10 @@
 use mathlib.Core.Path.{sym, ap, ◌∙◌}
-use Rattle.answer.specs.Answers.{accepted}
+use Rattle.answer.specs.Answers.{accepted, Taken, Room}
 use Rattle.answer.proofs.Injective.{told_injective}
 use Rattle.calls.proofs.Laws as laws
 use lib.ListN.{length}
 use borrow.Author.Tests.{lt-ltb, le-ltb}
 use Rattle.lists.specs.Tab.{over}
-use Rattle.answer.specs.declared.Answer.TheVariants.{Taken, Room}
 use Rattle.machine.specs.Place.{count_places}
 use Rattle.record.specs.Layout.{read_record}
 use Rattle.calls.specs.Calls.{places_answered, place_bytes}

@@ -1,10 +1,9 @@
 use mathlib.Core.Path.{sym, ap, ◌∙◌}
-use Rattle.answer.specs.Answers.{accepted}
+use Rattle.answer.specs.Answers.{accepted, Threads}
 use Rattle.answer.proofs.Injective.{told_injective}
 use Rattle.calls.proofs.Laws as laws
 use lib.ListN.{length}
 use native.Mathlib.Omega.{arith}
-use Rattle.answer.specs.declared.Answer.TheVariants.{Threads}
 use Rattle.image.specs.declared.Read.{Read}
 use Rattle.machine.specs.Start.{start_from}
 use Rattle.record.specs.Layout.{record_answer, record_written}

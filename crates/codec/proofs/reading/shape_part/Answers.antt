@@ -4,8 +4,7 @@ use borrow.Author.Tests.{eq-eqb, ne_eqb, lt-ltb, le-ltb, not-true, not-false}
 use Prim.Native.Nat.{◌+◌}
 use lib.Dec.{eqb}
 use lib.ListN.{length}
-use Rattle.answer.specs.Answers.{check, accepted}
-use Rattle.answer.specs.declared.Answer.TheVariants.{Taken, Length}
+use Rattle.answer.specs.Answers.{check, accepted, Taken, Length}
 use Rattle.image.specs.Form.{image_size}
 use Rattle.image.proofs.ShapeLaws.{Shaped, shape_is, shape_then, shape_else, nodes_range}
 use Rattle.codec.specs.Parts.{shape}

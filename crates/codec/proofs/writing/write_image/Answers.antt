@@ -2,8 +2,7 @@ use mathlib.Core.Bool.{true, false}
 use mathlib.Core.Path.{◌≡◌, sym, ap, ◌∙◌}
 use lib.ListN.{length}
 use borrow.Author.Tests.{not-true, not-false}
-use Rattle.answer.specs.Answers.{accepted}
-use Rattle.answer.specs.declared.Answer.TheVariants.{Taken}
+use Rattle.answer.specs.Answers.{accepted, Taken}
 use Rattle.image.specs.Layout.{image_shape}
 use Rattle.image.specs.Refusals.{sound, fitting, whole}
 use Rattle.image.proofs.ShapeLaws.{Shaped, shape_is, shaped_lines}

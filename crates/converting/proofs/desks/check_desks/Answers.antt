@@ -3,8 +3,7 @@ use mathlib.Core.Path.{sym, ap, ◌∙◌}
 use lib.Dec.{eqb}
 use lib.ListN.{length}
 use borrow.Author.Tests.{eq-eqb, ne_eqb, lt-ltb, le-ltb, not-true, not-false}
-use Rattle.answer.specs.Answers.{check, accepted}
-use Rattle.answer.specs.declared.Answer.TheVariants.{Taken, Length}
+use Rattle.answer.specs.Answers.{check, accepted, Taken, Length}
 use Rattle.image.specs.Form.{image_size}
 use Rattle.image.specs.Layout.{image_in}
 use Rattle.image.specs.Refusals.{sound}

@@ -2,8 +2,7 @@ use mathlib.Core.Bool.{true, false}
 use mathlib.Core.Path.{◌≡◌, refl, sym, ap, ◌∙◌}
 use lib.ListN.{length}
 use borrow.Author.Tests.{not-true, not-false}
-use Rattle.answer.specs.Answers.{told, accepted}
-use Rattle.answer.specs.declared.Answer.TheVariants.{Length, Mark, Threads}
+use Rattle.answer.specs.Answers.{told, accepted, Length, Mark, Threads}
 use Rattle.image.specs.Form.{known}
 use Rattle.image.specs.Refusals.{threads_fit, alone_answer}
 use Rattle.image.proofs.ShapeLaws.{threads_range}

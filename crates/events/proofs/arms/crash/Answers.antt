@@ -3,7 +3,7 @@ use mathlib.Core.Path.{◌≡◌, refl, sym, ap, subst, ◌∙◌}
 use mathlib.Core.Bool.{true}
 use native.Mathlib.Omega.{arith}
 use borrow.Author.Tests.{eq-eqb, ne_eqb, not-true, not-false}
-use Rattle.answer.specs.declared.Answer.TheVariants.{Taken, NotZero}
+use Rattle.answer.specs.Answers.{Taken, NotZero}
 use Rattle.image.specs.Form.{head_lines}
 use Rattle.image.specs.Layout.{image_shape}
 use Rattle.image.specs.Refusals.{startable}

@@ -1,7 +1,7 @@
 use mathlib.Core.Path.{refl}
 use native.Mathlib.Omega.{arith}
 use borrow.Author.Tests.{eq-eqb, ne_eqb, le-leb, lt-leb}
-use Rattle.answer.specs.declared.Answer.TheVariants.{Taken, Number, Busy}
+use Rattle.answer.specs.Answers.{Taken, Number, Busy}
 use Rattle.machine.specs.Event.{enqueues}
 use Rattle.events.proofs.ByAnswer as by
 use Rattle.range.proofs.InRange as range

@@ -3,7 +3,7 @@ use mathlib.Core.Path.{◌≡◌, refl, sym, ap, subst, ◌∙◌}
 use mathlib.Core.Bool.{Bool, true, false}
 use native.Mathlib.Omega.{arith}
 use borrow.Author.Tests.{eq-eqb, ne_eqb, le-leb, lt-leb}
-use Rattle.answer.specs.declared.Answer.TheVariants.{Taken, Number, NotZero, Clean}
+use Rattle.answer.specs.Answers.{Taken, Number, NotZero, Clean}
 use Rattle.image.specs.Form.{head_lines}
 use Rattle.image.proofs.HeadLaws.{lines_few}
 use Rattle.machine.specs.Line.{shape_of, line_count, line_at}

@@ -1,8 +1,7 @@
 use Prim.Native.Nat.{suc, ◌≤◌}
 use mathlib.Core.Path.{◌≡◌, refl, sym, ap, ◌∙◌}
 use lib.ListN.{length}
-use Rattle.answer.specs.Answers.{accepted}
-use Rattle.answer.specs.declared.Answer.TheVariants.{NoEnding, Room}
+use Rattle.answer.specs.Answers.{accepted, NoEnding, Room}
 use Rattle.page.specs.Refusals.{page_answer, ending_count}
 use Rattle.page.specs.Filled.{page_line}
 use Rattle.runs.proofs.GoingLaws as going

@@ -2,8 +2,7 @@ use mathlib.Core.Path.{◌≡◌, refl, sym, ap, ◌∙◌}
 use Rattle.machine.specs.Laid.{refused_start}
 use mathlib.Core.Bool.{true, false}
 use borrow.Author.Tests.{not-true, not-false}
-use Rattle.answer.specs.Answers.{told, accepted}
-use Rattle.answer.specs.declared.Answer.TheVariants.{Taken, Threads}
+use Rattle.answer.specs.Answers.{told, accepted, Taken, Threads}
 use Rattle.image.specs.Layout.{image_shape}
 use Rattle.image.specs.Refusals.{threads_fit, shape_answer, sound, fitting}
 use Rattle.image.proofs.ShapeLaws.{Shaped, shape_is, shaped_lines}

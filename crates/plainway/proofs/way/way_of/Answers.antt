@@ -2,8 +2,7 @@ use Prim.Native.Nat.{◌≤◌}
 use mathlib.Core.Path.{◌≡◌, refl, sym, ap, ◌∙◌}
 use mathlib.Core.Bool.{true}
 use native.Mathlib.Omega.{arith}
-use Rattle.answer.specs.Answers.{accepted}
-use Rattle.answer.specs.declared.Answer.TheVariants.{Endings, Room}
+use Rattle.answer.specs.Answers.{accepted, Endings, Room}
 use Rattle.answer.proofs.Injective.{told_injective}
 use Rattle.page.specs.Refusals.{page_answer}
 use Rattle.schedule.specs.Layout.{count_in, nodes_in}
