@@ -7,7 +7,10 @@ use native.Mathlib.Decide.{dec_lt}
 use native.Mathlib.Nat.{pow-suc}
 use lib.ListN.{length, get_or, take, length-append}
 use Rattle.lists.specs.Text.{text, decimal}
-use Rattle.answer.specs.Answers.{told, Answer, Taken, Done, Full, WornOut, Item, Empty, Length, Mark, Nodes, Threads, Events, Linked, Twin, NoDummy, Kind, Number, Busy, Idle, NotZero, Contents, Endings, NoEnding, Room, Record, Clean, Narrow}
+use Rattle.std.specs.Prelude.{Ok, Err}
+use Rattle.answer.specs.declared.Reply.TheVariants as reply
+use Rattle.answer.specs.declared.Refusal.TheVariants as why
+use Rattle.answer.specs.Answers.{told, Answer}
 use Rattle.image.specs.declared.Image.{Image}
 use Rattle.image.specs.Layout.{content_at}
 use Rattle.image.specs.Recovered.{head_of}
@@ -153,32 +156,32 @@ refused_some n p = omega (arith, length-append (text "refused " ++ decimal n ++ 
 
 -- the numbers are 0 to 20
 pub number_small : (a : Answer) → (told a).number < 21
-number_small Taken = omega arith
-number_small Done = omega arith
-number_small Full = omega arith
-number_small WornOut = omega arith
-number_small (Item v) = omega arith
-number_small Empty = omega arith
-number_small Length = omega arith
-number_small Mark = omega arith
-number_small Nodes = omega arith
-number_small Threads = omega arith
-number_small Events = omega arith
-number_small (Linked i) = omega arith
-number_small (Twin i) = omega arith
-number_small NoDummy = omega arith
-number_small (Kind p) = omega arith
-number_small (Number p) = omega arith
-number_small (Busy p) = omega arith
-number_small (Idle p) = omega arith
-number_small (NotZero p) = omega arith
-number_small (Contents l) = omega arith
-number_small Endings = omega arith
-number_small NoEnding = omega arith
-number_small Room = omega arith
-number_small Record = omega arith
-number_small (Clean p) = omega arith
-number_small (Narrow p) = omega arith
+number_small (Ok reply.Taken) = omega arith
+number_small (Ok reply.Done) = omega arith
+number_small (Ok reply.Full) = omega arith
+number_small (Ok reply.WornOut) = omega arith
+number_small (Ok (reply.Item v)) = omega arith
+number_small (Ok reply.Empty) = omega arith
+number_small (Err why.Length) = omega arith
+number_small (Err why.Mark) = omega arith
+number_small (Err why.Nodes) = omega arith
+number_small (Err why.Threads) = omega arith
+number_small (Err why.Events) = omega arith
+number_small (Err (why.Linked i)) = omega arith
+number_small (Err (why.Twin i)) = omega arith
+number_small (Err why.NoDummy) = omega arith
+number_small (Err (why.Kind p)) = omega arith
+number_small (Err (why.Number p)) = omega arith
+number_small (Err (why.Busy p)) = omega arith
+number_small (Err (why.Idle p)) = omega arith
+number_small (Err (why.NotZero p)) = omega arith
+number_small (Err (why.Contents l)) = omega arith
+number_small (Err why.Endings) = omega arith
+number_small (Err why.NoEnding) = omega arith
+number_small (Err why.Room) = omega arith
+number_small (Err why.Record) = omega arith
+number_small (Err (why.Clean p)) = omega arith
+number_small (Err (why.Narrow p)) = omega arith
 
 pub answer_short : (a : Answer) → (told a).place < 4294967296 → length (refused_line a) ≤ refused_room
 unfolding refused_line refused_text
