@@ -63,3 +63,35 @@ gave_none {r = r} {x = x} v e was h = passed_on r x h ∙ ap (λ (y : Answer). g
 -- a call that went on gives its value
 pub gave : {A : Type 0} {a b : Answer} {r : Reply} (v : A) → b ≡ a → b ≡ Ok r → Ok v ≡ given a v
 gave v e was = ap (λ (y : Answer). given y v) (sym was ∙ e)
+
+-- of a call's result that is given by an answer: where it is a value, the answer is accepted and the value is the one that was meant
+pub given_taken : {A : Type 0} (a : Answer) (x : A) {v : A} {r : Result A Refusal} → r ≡ given a x → r ≡ Ok v → (accepted a ≡ true) × (v ≡ x)
+given_taken {A = A} (Ok t) x {v = v} e was =
+    let same : ◌≡◌ {A = Result A Refusal} (Ok v) (Ok x) = sym was ∙ e in
+    (ok_accepted t, (cc))
+given_taken {A = A} (Err w) x {v = v} e was =
+    let same : ◌≡◌ {A = Result A Refusal} (Ok v) (Err w) = sym was ∙ e in
+    absurd (cc)
+
+-- where it is a refusal, that is the answer
+pub given_refused : {A : Type 0} (a : Answer) (x : A) {r : Result A Refusal} {w : Refusal} → r ≡ given a x → r ≡ Err w → a ≡ Err w
+given_refused {A = A} (Ok t) x {w = w} e was =
+    let same : ◌≡◌ {A = Result A Refusal} (Ok x) (Err w) = sym e ∙ was in
+    absurd (cc)
+given_refused {A = A} (Err u) x {w = w} e was =
+    let same : ◌≡◌ {A = Result A Refusal} (Err u) (Err w) = sym e ∙ was in
+    cc
+
+-- a `?` of such a call: the answer that is returned is that one
+pub handed_on : {A : Type 0} (a : Answer) (x : A) {r : Result A Refusal} {b : Answer} {w : Refusal} → r ≡ given a x → r ≡ Err w → IsErrAnd b (λ y. y ≡ w) → b ≡ a
+handed_on a x {b = b} {w = w} e was h = passed_on b w h ∙ sym (given_refused a x e was)
+
+-- and a call that returns it gives no value either
+pub handed_none :
+    {A B : Type 0} (a : Answer) (x : A) {r : Result A Refusal} {q : Result B Refusal} {w : Refusal} (v : B) → r ≡ given a x → r ≡ Err w → IsErrAnd q (λ y. y ≡ w) → q ≡ given a v
+handed_none a x {q = q} {w = w} v e was h = passed_on q w h ∙ ap (λ (y : Answer). given y v) (sym (given_refused a x e was))
+
+-- the value matters only where the answer is accepted
+pub given_same : {A : Type 0} (a : Answer) {x y : A} → (accepted a ≡ true → x ≡ y) → given a x ≡ given a y
+given_same (Ok t) h = ap Ok (h (ok_accepted t))
+given_same (Err w) h = refl
