@@ -5,7 +5,7 @@ use mathlib.Core.List.{List, [], ◌∷◌, ◌++◌}
 use native.Mathlib.Omega.{arith}
 use native.Mathlib.Nat.{div-add-mod', add_assoc, add-zero, mul_assoc, mul-one, pow-suc, pow-le-pow_right}
 use lib.ListN.{length, get_or, take, drop, length-take, length-drop}
-use lib.Seq.{length-take-le, take_all, take-add, drop-drop, drop-append_seam, take-append_seam, get_or-take, get_or-drop}
+use lib.Seq.{length-take-le, take-add, drop-drop, get_or-drop}
 use Rattle.lists.specs.Tab.{tab}
 use Rattle.lists.proofs.TabLaws as tabs
 use Rattle.image.specs.Bytes.{le, num_of, at_w}

@@ -1,6 +1,6 @@
 -- Laws of forms: the largest index, the places of nodes, the searches for an index that does not fit.
 use Prim.Native.Nat.{ℕ, zero, suc, ◌+◌, ◌-◌, ◌*◌, ◌^◌, ◌≤◌, ◌<◌}
-use mathlib.Core.Path.{◌≡◌, refl, sym, ap, subst, ◌∙◌}
+use mathlib.Core.Path.{◌≡◌, refl, sym, subst, ◌∙◌}
 use mathlib.Core.Bool.{Bool, true, false}
 use mathlib.Core.List.{List}
 use mathlib.Core.Logic.{◌≢◌, ◌⊎◌, inl, inr}
@@ -11,11 +11,10 @@ use lib.Dec.{leb, ltb, eqb}
 use lib.ListN.{get_or}
 use Rattle.lists.specs.Find.{pick, both, least, any}
 use Rattle.lists.proofs.BoolLaws.{no_way, both_true}
-use Rattle.lists.proofs.FindLaws as find
 use Rattle.image.specs.Form.{Form, plain, wide, pair, desks, form_of, known, width, heads_place, letter, version}
 use Rattle.image.specs.Form.{width_of, top_of, heads_at, node_size, head_lines, header_size, node_place, image_size, per_desk}
 use Rattle.image.specs.Bytes.{at1}
-use Rattle.image.specs.Layout.{content_at, image_shape, head_in, marked, form_in, is_image}
+use Rattle.image.specs.Layout.{content_at, image_shape, marked, form_in, is_image}
 use Rattle.image.specs.Recovered.{too_wide, head_too_wide, first_too_wide}
 use Rattle.image.specs.Refusals.{own_fit}
 use Rattle.image.specs.declared.Image.{Image}

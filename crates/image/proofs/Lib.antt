@@ -1,3 +1,4 @@
+pub mod EqualLaws
 pub mod RecoveredLaws
 pub mod HeadLaws
 pub mod ByteLaws

@@ -1,6 +1,6 @@
 -- The image's layout: mark "UQI", version, N, head index, then for each node linked, index, item.
 -- #101: "mark "UQP", version 1, N, T (1 byte each), T indices of 4 bytes, then nodes as in "UQI"".
-use Rattle.std.specs.Prelude.{ℕ, ◌+◌, ◌*◌, Bool, true, false, List, [], ◌∷◌, ◌++◌, get_or, replicate, eqb}
+use Rattle.std.specs.Prelude.{ℕ, ◌+◌, ◌*◌, Bool, List, ◌∷◌, ◌++◌, get_or, replicate, eqb}
 use Rattle.lists.specs.Find.{pick, both}
 use Rattle.lists.specs.Tab.{joined, front}
 use Rattle.image.specs.Bytes.{le, at1, at_w, at4, le4}
@@ -21,6 +21,10 @@ content_at l i = get_or l i no_content
 -- whether two contents are equal
 unfoldable pub same_content : Content → Content → Bool
 same_content a b = both (eqb a.linked b.linked) (both (eqb a.index b.index) (eqb a.item b.item))
+
+-- of a head line the index alone is a content
+abbrev pub head_content : ℕ → Content
+head_content x = record { linked = 0; index = x; item = 0 }
 
 -- there are places for eight head lines
 unfoldable pub no_heads : List ℕ

@@ -1,5 +1,5 @@
 -- Which nodes of an image are recovered, which of them are twins, and which one is the dummy.
-use Rattle.std.specs.Prelude.{ℕ, zero, suc, Bool, true, false, not, List, get_or, eqb, ltb}
+use Rattle.std.specs.Prelude.{ℕ, zero, suc, Bool, not, List, get_or, eqb, ltb}
 use Rattle.lists.specs.Find.{pick, both, least, any}
 use Rattle.image.specs.Form.{top_of, head_lines}
 use Rattle.image.specs.Layout.{content_at, image_shape, head_in}

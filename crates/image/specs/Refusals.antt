@@ -1,15 +1,13 @@
 -- The order of refusals for an image, and for contents to be written as one; what the two calls give.
-use Rattle.std.specs.Prelude.{ℕ, ◌+◌, Bool, true, false, not, List, length, eqb, ltb, leb}
+use Rattle.std.specs.Prelude.{ℕ, ◌+◌, Bool, true, not, List, length, eqb, ltb, leb}
 use Rattle.lists.specs.Find.{pick, both}
 use Rattle.lists.specs.Tab.{over}
 use Rattle.answer.specs.Answers.{check, accepted, Answer, Taken, Length, Mark, Nodes, Threads, Linked, Twin, NoDummy, Room, Narrow}
-use Rattle.image.specs.Bytes.{at1}
 use Rattle.image.specs.Form.{known, per_desk, image_size}
-use Rattle.image.specs.Layout.{no_contents, no_heads, image_shape, is_image, shape_in, image_in, image_bytes}
+use Rattle.image.specs.Layout.{no_contents, no_heads, image_shape, shape_in, image_in, image_bytes}
 use Rattle.image.specs.Recovered.{first_unclear, first_twin, dummy_of, head_too_wide, first_too_wide}
 use Rattle.image.specs.declared.Image.{Image}
 use Rattle.image.specs.declared.Shape.{Shape}
-use Rattle.image.specs.declared.Read.{Read}
 
 -- 3: N is 2 to 64
 abbrev pub nodes_fit : ℕ → Bool
@@ -69,6 +67,11 @@ alone_answer s = image_answer (shape_in s).t 0 s
 -- what is handed back beside a refusal
 abbrev pub blank_image : Image
 blank_image = record { form = 0; n = 0; t = 0; heads = no_heads; nodes = no_contents }
+
+-- what reading an image answers, and the image beside it
+pub record Read : Type 0 where
+  pub answer : Answer
+  pub image : Image
 
 -- an image alone
 unfoldable pub read_image : List ℕ → Read

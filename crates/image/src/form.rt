@@ -87,11 +87,7 @@ pub fn fitting_of(g: Image) -> Answer
     ensures { result ≡ fitting g Taken }
 {
     let top = top_of(g.form);
-    let lines = head_lines(Shape {
-        form: g.form,
-        n: g.n,
-        t: g.t,
-    });
+    let lines = head_lines(g.shape());
     let heads = g.heads;
     if any_above(heads, lines, top) {
         return Err(Refusal::Narrow(g.n as u32));

@@ -2,7 +2,8 @@
 
 #![tactic(auto)]
 
-use answer::Answer;
+ghost use Rattle.std.specs.Prelude.{◌≡◌};
+ghost use Rattle.image.specs.Layout.{head_content, image_shape};
 
 pub mod blank;
 pub mod form;
@@ -21,7 +22,7 @@ pub use shapes::{nodes_fit, shape_of, threads_fit};
 pub use sound::sound_of;
 
 // The content of a node's line.
-#[derive(Clone, Copy)]
+#[derive(Clone, Copy, Debug, PartialEq, Eq)]
 pub struct Content {
     pub index: u64,
     pub item: u32,
@@ -29,7 +30,7 @@ pub struct Content {
 }
 
 // What fixes an image's layout and a machine's lines: the form (docs/DECISIONS.md), N, T.
-#[derive(Clone, Copy)]
+#[derive(Clone, Copy, Debug, PartialEq, Eq)]
 pub struct Shape {
     pub form: u8,
     pub n: u8,
@@ -38,7 +39,7 @@ pub struct Shape {
 
 // Its shape, the indices of the head lines, and the contents of the N nodes. T is part of it in "UQP" alone, as many head lines as its shape has,
 // and the nodes below n.
-#[derive(Clone, Copy)]
+#[derive(Clone, Copy, Debug, PartialEq, Eq)]
 pub struct Image {
     pub heads: [u64; 8],
     pub nodes: [Content; 64],
@@ -47,9 +48,28 @@ pub struct Image {
     pub t: u8,
 }
 
-// What reading an image gives: on a refusal the image is the blank one.
-#[derive(Clone, Copy)]
-pub struct Read {
-    pub answer: Answer,
-    pub image: Image,
+impl Content {
+    // What the line of a head holds: its index alone.
+    pub fn of_head(index: u64) -> Content
+        ensures { result ≡ head_content index }
+    {
+        Content {
+            index,
+            item: 0,
+            linked: 0,
+        }
+    }
+}
+
+impl Image {
+    // What fixes its layout.
+    pub fn shape(&self) -> Shape
+        ensures { result ≡ image_shape self.now }
+    {
+        Shape {
+            form: self.form,
+            n: self.n,
+            t: self.t,
+        }
+    }
 }

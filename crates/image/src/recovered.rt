@@ -50,11 +50,7 @@ pub fn dummy_of(g: Image) -> usize
 {
     let n = g.n as usize;
     let heads = g.heads;
-    let z = Shape {
-        form: g.form,
-        n: g.n,
-        t: g.t,
-    };
+    let z = g.shape();
     let h = head_of(heads, z);
     let mut i = 0;
     while i < n {
@@ -74,11 +70,7 @@ pub fn startable_of(g: Image) -> Answer
 {
     let n = g.n as usize;
     let heads = g.heads;
-    let z = Shape {
-        form: g.form,
-        n: g.n,
-        t: g.t,
-    };
+    let z = g.shape();
     let h = head_of(heads, z);
     let mut i = 0;
     'pairs: while i < n {

@@ -7,11 +7,5 @@ use super::Content;
 pub fn is_same(a: Content, b: Content) -> bool
     ensures { result ≡ same_content a b }
 {
-    if a.linked != b.linked {
-        return false;
-    }
-    if a.index != b.index {
-        return false;
-    }
-    a.item == b.item
+    a == b
 }

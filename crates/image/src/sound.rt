@@ -25,11 +25,7 @@ pub fn sound_of(g: Image) -> Answer
         u += 1;
     }
     let heads = g.heads;
-    let z = Shape {
-        form: g.form,
-        n: g.n,
-        t: g.t,
-    };
+    let z = g.shape();
     let h = head_of(heads, z);
     let mut i = 0;
     'pairs: while i < n {

@@ -2,7 +2,9 @@
 use Prim.Native.Nat.{ℕ}
 use mathlib.Core.Path.{◌≡◌, refl, ap, ap₂, ◌∙◌}
 use mathlib.Core.Bool.{Bool, true, false}
-use Rattle.answer.specs.Answers.{accepted, Answer, Taken, Threads}
+use Rattle.std.specs.Prelude.{Ok, Err}
+use Rattle.answer.specs.Answers.{accepted, given, Answer, Taken, Threads}
+use Rattle.answer.proofs.Results.{went_on, came_back}
 use Rattle.image.specs.declared.Image.{Image}
 use Rattle.image.specs.Layout.{image_shape}
 use Rattle.image.specs.Refusals.{threads_fit, shape_answer, whole}
@@ -23,6 +25,12 @@ module _ (g : Image) (t : ℕ) where
   pub start_taken : start_answer g t ≡ Taken → start_from g t ≡ record { answer = Taken; machine = start_of g t }
   unfolding start_from
   start_taken e = ap₂ (handed g t) (ap accepted e) e
+
+  -- what the call gives: the machine, or a refusal and nothing beside it
+  pub start_given : (a : Answer) → start_answer g t ≡ a → given (start_from g t).answer (start_from g t).machine ≡ given a (start_of g t)
+  unfolding start_from
+  start_given (Ok r) e = ap (λ (o : Out). given o.answer o.machine) (ap₂ (handed g t) (went_on refl e) e)
+  start_given (Err x) e = ap (λ (o : Out). given o.answer o.machine) (ap₂ (handed g t) (came_back refl e) e)
 
   pub answer_threads : threads_fit t ≡ false → start_answer g t ≡ Threads
   unfolding start_answer

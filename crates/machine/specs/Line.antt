@@ -8,6 +8,8 @@ use Rattle.image.specs.declared.Image.{Image}
 use Rattle.image.specs.declared.Shape.{Shape}
 use Rattle.machine.specs.Record.{node, kept, head_at, kept_head, content_of, put_kept, put_kept_head, over_head, over_node, put_over_head, put_over_node}
 use Rattle.machine.specs.declared.Machine.{Machine}
+-- of a head line the index alone is a content
+pub use Rattle.image.specs.Layout.{head_content}
 -- a head line or a node's line
 pub use Rattle.machine.specs.declared.Line.{Line}
 pub use Rattle.machine.specs.declared.Line.TheVariants.{OfHead as of_head, OfNode as of_node}
@@ -49,10 +51,6 @@ unfoldable pub put_line : {A : Type 0} → (Line → A) → Line → A → Line 
 put_line f l a j = pick (same_line j l) a (f j)
 
 -- ---- the two copies
-
--- of a head line the index alone is a content
-abbrev pub head_content : ℕ → Content
-head_content x = record { linked = 0; index = x; item = 0 }
 
 -- a line's cached content
 abbrev pub cached_at : Machine → Line → Content

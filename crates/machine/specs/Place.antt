@@ -2,13 +2,12 @@
 use Rattle.std.specs.Prelude.{ℕ, zero, suc, Bool, true, false, not, eqb}
 use Rattle.lists.specs.Find.{both, any, count}
 use Rattle.lists.specs.Word.{has}
-use Rattle.answer.specs.Answers.{Taken, Record}
+use Rattle.answer.specs.Answers.{Answer, Taken, Record}
 use Rattle.machine.specs.Record.{none, node, thread}
 use Rattle.machine.specs.Stage.{stage, enqueue_owns, dequeue_owns}
 use Rattle.machine.specs.Range.{in_range}
 use Rattle.machine.specs.declared.Machine.{Machine}
 use Rattle.machine.specs.declared.Places.{Places}
-use Rattle.machine.specs.declared.Counted.{Counted}
 
 -- node i is x, or is reached from x in at most c moves along the links
 unfoldable pub reached : Machine → ℕ → ℕ → ℕ → Bool
@@ -57,6 +56,11 @@ places_of m = record {
 
 abbrev pub no_places : Places
 no_places = record { queue = 0; free = 0; waiting = 0; held = 0; enqueue = 0; dequeue = 0 }
+
+-- what counting answers, and the six numbers beside it
+pub record Counted : Type 0 where
+  pub answer : Answer
+  pub places : Places
 
 -- the six numbers of a record that is handed in: 18 before all else
 unfoldable pub count_places : Machine → Counted

@@ -1,4 +1,4 @@
-// Places of the tables that no node or thread has, and the machine handed back beside a refused start.
+// Places of the tables that no node or thread has, and the machine that holds nothing.
 // Each table stands behind a contract, so that no goal has its elements written out.
 ghost use Rattle.std.specs.Prelude.{◌≡◌};
 ghost use Rattle.machine.specs.Record.{blank_nodes, idle_threads, no_flushed, no_sets};

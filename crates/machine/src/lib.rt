@@ -2,8 +2,8 @@
 
 #![tactic(auto)]
 
-use answer::Answer;
-use image::{Content, Image, no_contents, no_heads};
+use answer::{Answer, Refusal};
+use image::{Content, Image, Shape, no_contents, no_heads};
 
 pub mod blank;
 pub mod lines;
@@ -11,13 +11,15 @@ pub mod queue;
 pub mod start;
 
 ghost use Rattle.std.specs.Prelude.{◌≡◌};
-ghost use Rattle.answer.specs.Answers.{told};
+ghost use Rattle.answer.specs.Answers.{given};
+ghost use Rattle.machine.specs.Line.{shape_of};
+ghost use Rattle.machine.specs.Record.{content_of};
 ghost use Rattle.machine.specs.Start.{fresh_from};
 
 pub use start::start_from;
 
 // A node's cached copy, its link (255: none), and the threads it waits for, as a set.
-#[derive(Clone, Copy)]
+#[derive(Clone, Copy, Debug, PartialEq, Eq)]
 pub struct Node {
     pub index: u64,
     pub item: u32,
@@ -29,7 +31,7 @@ pub struct Node {
 // A thread: its next step (0: no operation, 1 to 12: A1 to A12, 13 to 19: D1 to D7, 20 and 21: S3 and S6 of "UQP",
 // 22 to 24: F10, F3 and F6, the fences behind A10, D3 and D6) and what it has read.
 // A node number of 255 is none.
-#[derive(Clone, Copy)]
+#[derive(Clone, Copy, Debug, PartialEq, Eq)]
 pub struct Thread {
     pub index: u64,
     pub item: u32,
@@ -45,7 +47,7 @@ pub struct Thread {
 // Tail; the free set as a word; cached and persisted copies, those of the head lines apart; the threads; the node last handed out. Of flushes: what each thread has
 // flushed, and sets of threads: those that have flushed since a thread last did, and, over a head line and over a node, those whose flush of it is no later than what
 // is persisted there. Head lines behind those that there are, nodes at n and beyond and threads at t and beyond are not part of it.
-#[derive(Clone, Copy)]
+#[derive(Clone, Copy, Debug, PartialEq, Eq)]
 pub struct Machine {
     pub free: u64,
     pub heads: [u64; 8],
@@ -133,9 +135,8 @@ impl Machine {
     pub const EVENTS: u16 = 4096;
 
     // The fresh machine of N nodes and T threads: the start of the all-zero image. Public: every input is answered.
-    pub fn fresh(n: u8, t: u8) -> Out
-        ensures answered { told result.answer ≡ told (fresh_from n t).answer }
-        ensures started { result.machine ≡ (fresh_from n t).machine }
+    pub fn fresh(n: u8, t: u8) -> Result<Machine, Refusal>
+        ensures { result ≡ given (fresh_from n t).answer (fresh_from n t).machine }
     {
         let heads = no_heads();
         let nodes = no_contents();
@@ -148,32 +149,56 @@ impl Machine {
         };
         start_from(g, t)
     }
+
+    // What fixes its lines, and the layout of its image.
+    pub fn shape(&self) -> Shape
+        ensures { result ≡ shape_of self.now }
+    {
+        Shape {
+            form: self.form,
+            n: self.n,
+            t: self.t,
+        }
+    }
+}
+
+// What the node's line holds: the link and the threads it waits for are no part of it.
+impl From<Node> for Content {
+    ghost from_gives = { λ v c. c ≡ content_of v };
+
+    fn from(v: Node) -> Content {
+        Content {
+            index: v.index,
+            item: v.item,
+            linked: v.linked,
+        }
+    }
 }
 
 // An event of a schedule: its six bytes.
-#[derive(Clone, Copy)]
+#[derive(Clone, Copy, Debug, PartialEq, Eq)]
 pub struct Event {
     pub kind: u8,
     pub number: u8,
     pub item: u32,
 }
 
-// What a start or an event answers, with the machine after it.
-#[derive(Clone, Copy)]
+// What an event answers, with the machine after it: a refused one hands it back as it was.
+#[derive(Clone, Copy, Debug, PartialEq, Eq)]
 pub struct Out {
     pub answer: Answer,
     pub machine: Machine,
 }
 
 // A line of memory: a head line, or a node's.
-#[derive(Clone, Copy)]
+#[derive(Clone, Copy, Debug, PartialEq, Eq)]
 pub enum Line {
     OfHead(u8),
     OfNode(u8),
 }
 
 // What an event does to the lines' contents: nothing, a store to one line, the persist of one line at once; or a thread's flush of one line, or its fence.
-#[derive(Clone, Copy)]
+#[derive(Clone, Copy, Debug, PartialEq, Eq)]
 pub enum Touch {
     Nothing,
     Store(Line),
@@ -183,7 +208,7 @@ pub enum Touch {
 }
 
 // What a step or an event answers, with the machine after it and the line that it touched.
-#[derive(Clone, Copy)]
+#[derive(Clone, Copy, Debug, PartialEq, Eq)]
 pub struct Acted {
     pub answer: Answer,
     pub machine: Machine,
@@ -191,7 +216,7 @@ pub struct Acted {
 }
 
 // How many nodes are in each of the six places.
-#[derive(Clone, Copy)]
+#[derive(Clone, Copy, Debug, PartialEq, Eq)]
 pub struct Places {
     pub queue: u8,
     pub free: u8,
@@ -199,10 +224,4 @@ pub struct Places {
     pub held: u8,
     pub enqueue: u8,
     pub dequeue: u8,
-}
-
-#[derive(Clone, Copy)]
-pub struct Counted {
-    pub answer: Answer,
-    pub places: Places,
 }

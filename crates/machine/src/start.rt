@@ -1,18 +1,18 @@
 // Recovery, and a start from an image and T.
 ghost use Rattle.std.specs.Prelude.{◌≡◌, suc, ◌≤◌, ◌<◌};
-ghost use Rattle.answer.specs.Answers.{told};
+ghost use Rattle.answer.specs.Answers.{given};
 ghost use Rattle.image.specs.Form.{head_lines};
 ghost use Rattle.image.specs.Layout.{image_shape};
 ghost use Rattle.machine.specs.Start.{queue_of, start_heads, start_node, start_of, start_from};
-ghost use Rattle.machine.specs.Laid.{laid, refused_start, start_nodes, start_kept, start_free};
+ghost use Rattle.machine.specs.Laid.{laid, start_nodes, start_kept, start_free};
 
-use super::blank::{blank_machine, blank_nodes, idle_threads, no_flushed, no_node_sets, no_sets};
+use super::blank::{blank_nodes, idle_threads, no_flushed, no_node_sets, no_sets};
 use super::queue::{Queue, last_of, link_of, queue_of};
-use super::{Machine, Node, Out};
-use answer::{Answer, Refusal, Reply, is_taken};
+use super::{Machine, Node};
+use answer::Refusal;
 use image::{
-    Content, Image, Shape, dummy_of, fitting_of, head_lines, head_of, no_contents, no_heads,
-    recovered_in, shape_of, sound_of, threads_fit,
+    Content, Image, dummy_of, fitting_of, head_lines, head_of, no_contents, no_heads, recovered_in,
+    shape_of, sound_of, threads_fit,
 };
 
 // Node i after a start whose dummy is d: the cached copy is read anew, the dummy's cached index becomes the head index.
@@ -23,11 +23,7 @@ fn node_of(g: Image, d: u8, q: Queue, i: usize) -> Node
     let v = g.nodes[i];
     let next = link_of(d, q, i);
     if i == d as usize {
-        let z = Shape {
-            form: g.form,
-            n: g.n,
-            t: g.t,
-        };
+        let z = g.shape();
         let index = head_of(g.heads, z);
         return Node {
             item: v.item,
@@ -66,11 +62,7 @@ fn heads_of(g: Image) -> [u64; 8]
     requires { head_lines (image_shape g) ≤ 8 }
     ensures { result ≡ start_heads g }
 {
-    let lines = head_lines(Shape {
-        form: g.form,
-        n: g.n,
-        t: g.t,
-    });
+    let lines = head_lines(g.shape());
     let mut heads = no_heads();
     let mut k = 0;
     while k < lines {
@@ -106,11 +98,7 @@ fn with_spare(g: Image, d: u8, w: u64, i: usize) -> u64
         return w;
     }
     let v = g.nodes[i];
-    let z = Shape {
-        form: g.form,
-        n: g.n,
-        t: g.t,
-    };
+    let z = g.shape();
     if recovered_in(v, g.heads, z) {
         return w;
     }
@@ -172,42 +160,15 @@ pub fn start(g: Image, t: u8) -> Machine
     }
 }
 
-// A refused start: its number and place, and a machine that holds nothing.
-fn refused(a: Answer) -> Out
-    ensures { result ≡ refused_start a }
-{
-    let machine = blank_machine();
-    Out { answer: a, machine }
-}
-
 // A start from contents and T, tested for 4, 2, 3, 4, 6, 7, 8, 20. Public: every input is answered.
-pub fn start_from(g: Image, t: u8) -> Out
-    ensures answered { told result.answer ≡ told (start_from g t).answer }
-    ensures started { result.machine ≡ (start_from g t).machine }
+pub fn start_from(g: Image, t: u8) -> Result<Machine, Refusal>
+    ensures { result ≡ given (start_from g t).answer (start_from g t).machine }
 {
     if !threads_fit(t) {
-        return refused(Err(Refusal::Threads));
+        return Err(Refusal::Threads);
     }
-    let z = Shape {
-        form: g.form,
-        n: g.n,
-        t: g.t,
-    };
-    let a = shape_of(z, t);
-    if !is_taken(a) {
-        return refused(a);
-    }
-    let a = sound_of(g);
-    if !is_taken(a) {
-        return refused(a);
-    }
-    let a = fitting_of(g);
-    if !is_taken(a) {
-        return refused(a);
-    }
-    let machine = start(g, t);
-    Out {
-        answer: Ok(Reply::Taken),
-        machine,
-    }
+    shape_of(g.shape(), t)?;
+    sound_of(g)?;
+    fitting_of(g)?;
+    Ok(start(g, t))
 }

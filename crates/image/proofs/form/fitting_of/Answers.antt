@@ -1,5 +1,4 @@
 use mathlib.Core.Path.{◌≡◌, ◌∙◌}
-use mathlib.Core.Bool.{false}
 use native.Mathlib.Nat.{sub-zero}
 use native.Mathlib.Omega.{arith}
 use borrow.Author.Tests.{lt-ltb, le-ltb}
@@ -13,10 +12,10 @@ use Rattle.image.proofs.form.fitting_of.Goals.{After-any_above}
 -- what the head lines say
 headed : (c : After-any_above) → c.any_above.result ≡ head_too_wide c.args.g
 headed c =
-    head_wide_by c.args.g c.top_of-top.result c.head_lines-lines.result c.any_above.result c.top_of-top.ensures c.head_lines-lines.ensures c.any_above.ensures
+    head_wide_by c.args.g c.top_of-top.result c.head_lines-lines.result c.any_above.result c.top_of-top.ensures (rw c.shape.ensures at c.head_lines-lines.ensures) c.any_above.ensures
 
 pub any_above-requires : goal.any_above-requires
-any_above-requires c = omega (arith, c.head_lines-lines.ensures, c.requires.1)
+any_above-requires c = omega (arith, rw c.shape.ensures at c.head_lines-lines.ensures, c.requires.1)
 
 pub returns-then-any_above : goal.returns-then-any_above
 unfolding fitting

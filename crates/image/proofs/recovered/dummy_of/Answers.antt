@@ -14,14 +14,14 @@ pub returns-then-not-is_recovered : goal.returns-then-not-is_recovered
 unfolding unrecovered
 returns-then-not-is_recovered c =
     let g = c.args.g in
-    let h = c.head_of-h.ensures ∙ head_is g in
+    let h = (rw c.shape-z.ensures at c.head_of-h.ensures) ∙ head_is g in
     sym (c.loop-i.invariant.1 ∙ find.least_hit (unrecovered g) g.n c.loop-i.i (omega arith) (rw (← h, ← c.is_recovered.ensures, not-true c.is_recovered.result c.if-not-is_recovered.true-raw)))
 
 pub loop-i-preserved : goal.loop-i-preserved
 unfolding unrecovered
 loop-i-preserved c =
     let g = c.args.g in
-    let h = c.head_of-h.ensures ∙ head_is g in
+    let h = (rw c.shape-z.ensures at c.head_of-h.ensures) ∙ head_is g in
     (omega arith, c.loop-i.invariant.1 ∙ find.least_next (unrecovered g) g.n c.loop-i.i (omega arith) (rw (← h, ← c.is_recovered.ensures, not-false c.is_recovered.result c.if-not-is_recovered.false-raw)))
 
 pub returns : goal.returns

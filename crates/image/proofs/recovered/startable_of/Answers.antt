@@ -16,7 +16,7 @@ found : (c : Left-pairs) → c.pairs.i ≡ first_twin c.args.g
 unfolding has_twin twins
 found c =
     let g = c.args.g in
-    let h = c.head_of-h.ensures ∙ head_is g in
+    let h = (rw c.shape-z.ensures at c.head_of-h.ensures) ∙ head_is g in
     let i = c.pairs.i in
     sym (c.pairs.invariant.1 ∙ elim c.pairs-test.branch [
       | else-pairs-test w ↦ find.least_end (has_twin g) g.n i w.pairs-test.false
@@ -37,7 +37,7 @@ pub loop-j-preserved : goal.loop-j-preserved
 unfolding twins
 loop-j-preserved c =
     let g = c.args.g in
-    let h = c.head_of-h.ensures ∙ head_is g in
+    let h = (rw c.shape-z.ensures at c.head_of-h.ensures) ∙ head_is g in
     let i = c.pairs.i in
     (omega arith, find.any_more (twins g i) c.loop-j.j c.loop-j.invariant.1 (rw (← h) (sym c.are_twins.ensures ∙ c.if-are_twins.false)))
 
@@ -62,7 +62,7 @@ pub returns-then-not-is_recovered : goal.returns-then-not-is_recovered
 unfolding unrecovered
 returns-then-not-is_recovered c =
     let g = c.args.g in
-    let h = c.head_of-h.ensures ∙ head_is g in
+    let h = (rw c.shape-z.ensures at c.head_of-h.ensures) ∙ head_is g in
     let k = c.loop-k.k in
     let d = sym (c.loop-k.invariant.1 ∙ find.least_hit (unrecovered g) g.n k (omega arith) (rw (← h, ← c.is_recovered.ensures, not-true c.is_recovered.result c.if-not-is_recovered.true-raw))) in
     rw (← startable_by g g.n c.pairs.i k refl (found (goal.at.returns-then-not-is_recovered c).Left-pairs) d, le-ltb _ _ c.if-i-n.false, ne_eqb k g.n (λ x. omega (arith, x)))
@@ -71,7 +71,7 @@ pub loop-k-preserved : goal.loop-k-preserved
 unfolding unrecovered
 loop-k-preserved c =
     let g = c.args.g in
-    let h = c.head_of-h.ensures ∙ head_is g in
+    let h = (rw c.shape-z.ensures at c.head_of-h.ensures) ∙ head_is g in
     (omega arith, c.loop-k.invariant.1 ∙ find.least_next (unrecovered g) g.n c.loop-k.k (omega arith) (rw (← h, ← c.is_recovered.ensures, not-false c.is_recovered.result c.if-not-is_recovered.false-raw)))
 
 pub returns : goal.returns

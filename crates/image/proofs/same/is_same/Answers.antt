@@ -1,15 +1,6 @@
-use Rattle.image.specs.Layout.{same_content}
-use borrow.Author.Tests.{eq-eqb, ne_eqb}
+use mathlib.Core.Path.{◌∙◌}
+use Rattle.image.proofs.EqualLaws.{equal_is}
 use Rattle.image.proofs.same.is_same.Goals as goal
 
-pub returns-then-a-b : goal.returns-then-a-b
-unfolding same_content
-returns-then-a-b c = rw (ne_eqb _ _ c.if-a-b.true)
-
-pub returns-then-a-b-2 : goal.returns-then-a-b-2
-unfolding same_content
-returns-then-a-b-2 c = rw (eq-eqb _ _ c.if-a-b.false, ne_eqb _ _ c.if-a-b-2.true)
-
 pub returns : goal.returns
-unfolding same_content
-returns c = rw (eq-eqb _ _ c.if-a-b.false, eq-eqb _ _ c.if-a-b-2.false)
+returns c = c.eq.ensures ∙ equal_is c.args.a c.args.b

@@ -1,4 +1,3 @@
-use mathlib.Core.Bool.{true, false}
 use borrow.Author.Tests.{not-true, not-false, eq-eqb, ne_eqb}
 use Rattle.image.specs.Form.{per_desk}
 use Rattle.image.proofs.shapes.shape_of.Goals as goal

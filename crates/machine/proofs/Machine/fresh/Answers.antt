@@ -3,4 +3,4 @@ use Rattle.machine.proofs.Machine.fresh.Goals as goal
 
 pub returns : goal.returns
 unfolding fresh_from
-returns c = record { answered = rw (← c.no_contents-nodes.ensures, ← c.no_heads-heads.ensures) c.start_from.ensures.answered; started = rw (← c.no_contents-nodes.ensures, ← c.no_heads-heads.ensures) c.start_from.ensures.started }
+returns c = rw (← c.no_contents-nodes.ensures, ← c.no_heads-heads.ensures) c.start_from.ensures
