@@ -1,12 +1,11 @@
 -- A returned number taken apart, as include/uq.h does it: the answer's number, its place, its reply and item come back.
 use Prim.Native.Nat.{ℕ, ◌+◌, ◌*◌, ◌/◌, ◌%◌, ◌<◌}
-use mathlib.Core.Path.{◌≡◌, refl, sym, ap, ◌∙◌}
+use mathlib.Core.Path.{◌≡◌, refl, ap, ◌∙◌}
 use mathlib.Core.Bool.{Bool, true, false}
 use native.Mathlib.Omega.{arith}
 use lib.Dec.{eqb}
 use borrow.Author.Tests.{eqb-true}
 use Rattle.lists.specs.Find.{pick}
-use Rattle.answer.specs.Answers.{told, accepted}
 use Rattle.answer.specs.declared.Told.{Told}
 use Rattle.calls.specs.Packed.{packed, reply_of, lines_of}
 use Rattle.calls.specs.Judging.{verdict_of}

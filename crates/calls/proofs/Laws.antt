@@ -6,25 +6,20 @@ use mathlib.Core.List.{List, [], ◌∷◌}
 use native.Mathlib.Omega.{arith}
 use lib.ListN.{length, get_or, set, take}
 use lib.Seq.{length-take-le, take-suc, take-append_seam}
-use lib.Dec.{eqb, ltb}
-use Rattle.lists.specs.Find.{pick}
+use lib.Dec.{ltb}
 use Rattle.lists.specs.Tab.{over}
 use Rattle.lists.proofs.BoolLaws as bools
 use Rattle.lists.proofs.TabLaws.{over_append}
 use Rattle.answer.specs.Answers.{told, check, accepted, Answer, Taken, Threads, Room}
-use Rattle.answer.proofs.Injective.{told_injective}
 use Rattle.image.specs.Layout.{shape_in, image_in}
 use Rattle.image.proofs.ShapeLaws.{shape_then}
 use Rattle.codec.specs.Parts.{read_part}
 use Rattle.image.specs.Refusals.{threads_fit, image_answer, whole}
-use Rattle.image.specs.declared.Image.{Image}
 use Rattle.machine.specs.Event.{event_on}
 use Rattle.machine.specs.Place.{count_places}
 use Rattle.machine.specs.Saved.{save_answer, saved}
-use Rattle.machine.specs.Start.{start_of, start_answer, start_from, blank_machine}
-use Rattle.machine.specs.declared.Machine.{Machine}
+use Rattle.machine.specs.Start.{start_of, start_answer, start_from}
 use Rattle.machine.specs.declared.Event.{Event}
-use Rattle.machine.specs.declared.Out.{Out}
 use Rattle.page.specs.Refusals.{and_then}
 use Rattle.record.specs.Layout.{read_record, record_in, record_answer, record_written}
 use Rattle.image.proofs.ByteLaws as num

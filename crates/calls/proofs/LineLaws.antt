@@ -1,5 +1,5 @@
 -- The call on one line: how its bytes are written one after the other, and what its definitions come to.
-use Prim.Native.Nat.{ℕ, zero, suc, ◌+◌, ◌*◌, ◌/◌, ◌<◌, ◌≤◌}
+use Prim.Native.Nat.{ℕ, ◌+◌, ◌*◌, ◌/◌, ◌<◌, ◌≤◌}
 use mathlib.Core.Path.{◌≡◌, refl, sym, ap, ◌∙◌}
 use mathlib.Core.Bool.{Bool, true, false}
 use mathlib.Core.List.{List, [], ◌++◌}
@@ -8,19 +8,18 @@ use native.Mathlib.Numerals.{add-one}
 use lib.ListN.{length, get_or}
 use lib.Dec.{ltb, leb}
 use borrow.Author.Tests.{lt-ltb, le-ltb, ltb-false, leb-false}
-use Rattle.lists.specs.Find.{pick}
 use Rattle.lists.specs.Tab.{joined, over}
 use Rattle.lists.proofs.TabLaws as tabs
 use Rattle.lists.proofs.BoolLaws.{false_true}
 use Rattle.lists.proofs.FindLaws.{least_clear}
-use Rattle.answer.specs.Answers.{told, check, accepted, Answer, Taken, Room, Number, Contents}
+use Rattle.answer.specs.Answers.{told, accepted, Taken, Room, Number, Contents}
 use Rattle.image.specs.Bytes.{le}
 use Rattle.image.specs.Form.{known, width_of, node_size, head_lines}
 use Rattle.image.specs.Layout.{content_at, node_bytes, body_bytes}
 use Rattle.image.specs.declared.Content.{Content}
 use Rattle.schedule.specs.Layout.{schedule_shape, schedule_answer}
-use Rattle.schedule.specs.Run.{Ran, ran}
-use Rattle.page.specs.Refusals.{and_then, first_crowded, table_in, table_answer, page_answer}
+use Rattle.schedule.specs.Run.{ran}
+use Rattle.page.specs.Refusals.{first_crowded, table_in, table_answer, page_answer}
 use Rattle.pages.specs.Lines.{line_answer, line_in, blank_row, first_of, sixteen}
 use Rattle.codec.proofs.Accepted as codec
 use Rattle.codec.proofs.Laws.{length_body, body_next}

@@ -1,5 +1,5 @@
 -- What each call of the library returns, and what it leaves in the lent bytes. s is what the call reads, b what it may write.
-use Rattle.std.specs.Prelude.{ℕ, Bool, true, false, not, List, [], ◌∷◌, length, ltb}
+use Rattle.std.specs.Prelude.{ℕ, not, List, [], ◌∷◌, length, ltb}
 use Rattle.lists.specs.Find.{pick, both}
 use Rattle.lists.specs.Tab.{over}
 use Rattle.answer.specs.Answers.{told, check, accepted, Answer, Taken, Threads, Room}
