@@ -49,18 +49,11 @@ pub fn dummy_of(g: Image) -> usize
     ensures { result ≡ dummy_of g }
 {
     let n = g.n as usize;
-    let heads = g.heads;
-    let z = g.shape();
-    let h = head_of(heads, z);
-    let mut i = 0;
-    while i < n {
-        let v = g.nodes[i];
-        if !is_recovered(v, h) {
-            return i;
-        }
-        i += 1;
-    }
-    i
+    let h = head_of(g.heads, g.shape());
+    g.nodes[..n]
+        .iter()
+        .position(|v| !is_recovered(*v, h))
+        .unwrap_or(n)
 }
 
 // 7, then 8: what a start asks of an image. The image is read where the call has it: what is passed by value is copied, so no call inside is handed it.

@@ -1,6 +1,6 @@
 -- Printed text as bytes: quoted text, and numbers in decimal.
-use Rattle.std.specs.Prelude.{ℕ, zero, suc, ◌+◌, ◌/◌, ◌%◌, Bool, true, false, List, [], ◌∷◌, ◌++◌, ltb}
-use Prim.Native.Char.{Char, code}
+use Rattle.std.specs.Prelude.{ℕ, zero, suc, ◌+◌, ◌/◌, ◌%◌, true, false, List, [], ◌∷◌, ◌++◌, ltb}
+use Prim.Native.Char.{code}
 use Prim.Native.String.{String}
 
 -- the codes of a text's characters

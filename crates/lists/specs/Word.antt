@@ -1,5 +1,5 @@
 -- A set of numbers below 64 as a word: number i is in it where bit i is set.
-use Rattle.std.specs.Prelude.{ℕ, zero, suc, ◌+◌, ◌-◌, ◌/◌, ◌%◌, ◌^◌, Bool, true, false, eqb}
+use Rattle.std.specs.Prelude.{ℕ, zero, suc, ◌+◌, ◌-◌, ◌/◌, ◌%◌, ◌^◌, Bool, eqb}
 use Rattle.lists.specs.Find.{pick}
 
 -- whether number i is in the set w
