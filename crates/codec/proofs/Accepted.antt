@@ -6,14 +6,15 @@ use mathlib.Core.List.{List}
 use native.Mathlib.Omega.{arith}
 use native.Mathlib.Nat.{suc-mul, mul-le-mul_right}
 use borrow.Author.Tests.{eqb-true, ltb-false, leb-true, lt-ltb, le-ltb, not-false}
-use lib.ListN.{length, drop, length-drop}
+use lib.ListN.{length, length-drop}
 use lib.Dec.{eqb, ltb, leb}
-use Rattle.lists.proofs.BoolLaws.{no_way, false_true, both_true}
-use Rattle.answer.specs.Answers.{check, accepted, Answer, Taken, Length, Mark, Nodes, Threads, Events, Room}
+use Rattle.lists.proofs.BoolLaws.{false_true, both_true}
+use Rattle.answer.proofs.Results.{given_same}
+use Rattle.answer.specs.Answers.{check, accepted, given, Answer, Taken, Length, Mark, Threads, Events, Room}
 use Rattle.image.specs.Bytes.{at1}
-use Rattle.image.specs.Form.{known, head_lines, image_size}
+use Rattle.image.specs.Form.{known, image_size}
 use Rattle.image.specs.Layout.{form_in, is_image, image_shape, shape_in, image_in}
-use Rattle.image.specs.Refusals.{nodes_fit, threads_fit, agree, sound, whole, shape_answer, image_answer, alone_answer, write_answer}
+use Rattle.image.specs.Refusals.{nodes_fit, threads_fit, sound, whole, shape_answer, image_answer, alone_answer, read_image, write_answer}
 use Rattle.image.proofs.ShapeLaws.{Shaped, shape_is, nodes_range, shaped_lines, agree_is}
 use Rattle.image.proofs.ShapeLaws as shapes
 use Rattle.image.proofs.SoundLaws.{whole_then, whole_else}
@@ -21,7 +22,7 @@ use Rattle.image.specs.declared.Image.{Image}
 use Rattle.image.specs.declared.Shape.{Shape}
 use Rattle.codec.specs.Parts.{Lies, shape}
 use Rattle.codec.proofs.Shapes.{form_of_lem, nodes_of, size_same}
-use Rattle.schedule.specs.Layout.{is_file, threads_in, count_in, image_part, schedule_shape, place_in, event_place, schedule_in, file_answer, schedule_answer, read_schedule}
+use Rattle.schedule.specs.Layout.{is_file, threads_in, count_in, image_part, schedule_shape, place_in, event_place, schedule_in, file_answer, schedule_answer, read_by, read_schedule}
 
 pub nodes_least : (n : ℕ) → nodes_fit n ≡ true → 2 ≤ n
 nodes_least n h = leb-true 2 n (both_true (leb 2 n) (leb n 64) h).0
@@ -236,3 +237,15 @@ schedule_size s h = file_size 83 6 s h
 pub schedule_lies : (s : List ℕ) → accepted (schedule_answer s) ≡ true → Lies (image_part s) (shape_in (image_part s))
 unfolding schedule_answer
 schedule_lies s h = file_lies 83 6 s h
+
+-- ---- what the calls that read give: the value itself, where the answer is accepted
+pub read_given : (s : List ℕ) → given (read_image s).answer (read_image s).image ≡ given (alone_answer s) (image_in s)
+unfolding read_image
+read_given s = given_same (alone_answer s) (λ h. rw h)
+
+pub opened_given : (a : Answer) (s : List ℕ) → given (read_by a s).answer (read_by a s).schedule ≡ given a (schedule_in s)
+opened_given a s = given_same a (λ h. rw h)
+
+pub schedule_given : (s : List ℕ) → given (read_schedule s).answer (read_schedule s).schedule ≡ given (schedule_answer s) (schedule_in s)
+unfolding read_schedule
+schedule_given s = opened_given (schedule_answer s) s

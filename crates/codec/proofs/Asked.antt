@@ -5,7 +5,7 @@ use mathlib.Core.Bool.{true, false}
 use mathlib.Core.List.{List}
 use borrow.Author.Tests.{le-leb, lt-leb}
 use Rattle.lists.proofs.BoolLaws.{yes_of, no_of}
-use Rattle.answer.specs.Answers.{accepted, Answer, Taken, NoEnding}
+use Rattle.answer.specs.Answers.{accepted, Taken, NoEnding}
 use Rattle.schedule.specs.Layout.{schedule_answer, count_in}
 use Rattle.codec.specs.Parts.{event_asked}
 

@@ -7,7 +7,7 @@ use mathlib.Core.List.{List}
 use native.Mathlib.Omega.{arith}
 use native.Mathlib.Nat.{zero-add, mul-le-mul_right}
 use borrow.Author.Tests.{eqb-true, ltb-false, le-ltb}
-use lib.ListN.{length, get_or, take, drop, length-drop}
+use lib.ListN.{length, take, length-drop}
 use lib.Seq.{get_or-take, get_or-drop, length-take-le}
 use lib.Dec.{eqb, ltb}
 use Rattle.answer.specs.Answers.{check, accepted, Answer, Taken, Length, Mark, Threads, Events}

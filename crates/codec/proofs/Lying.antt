@@ -1,15 +1,14 @@
 -- An image's nodes and its head index, as the bytes have them.
-use Prim.Native.Nat.{ℕ, ◌+◌, ◌*◌, ◌≤◌, ◌<◌}
-use mathlib.Core.Path.{◌≡◌, refl, sym, ap, ◌∙◌}
+use Prim.Native.Nat.{ℕ, ◌≤◌, ◌<◌}
+use mathlib.Core.Path.{◌≡◌}
 use mathlib.Core.List.{List}
 use native.Mathlib.Omega.{arith}
 use lib.ListN.{length}
 use Rattle.lists.proofs.TabLaws as tabs
-use Rattle.image.specs.Form.{head_lines, header_size, node_place, image_size}
-use Rattle.image.specs.Layout.{no_content, no_contents, content_at, shape_in, read_content, read_nodes, read_heads, image_in}
+use Rattle.image.specs.Form.{head_lines, header_size, node_place}
+use Rattle.image.specs.Layout.{no_content, no_contents, content_at, read_content, read_nodes, read_heads, image_in}
 use Rattle.image.specs.Recovered.{largest, head_of}
 use Rattle.image.specs.declared.Shape.{Shape}
-use Rattle.image.proofs.FormLaws.{place_from}
 use Rattle.image.proofs.HeadLaws.{own_few}
 use Rattle.codec.specs.Parts.{Lies}
 use Rattle.codec.proofs.Shapes.{size_from}

@@ -9,18 +9,18 @@ use borrow.Author.Tests.{eqb-true}
 use lib.ListN.{length, get_or, take, drop}
 use lib.Seq.{take_all, take-add, drop-drop}
 use lib.Dec.{eqb}
-use Rattle.lists.specs.Tab.{tab, joined, over}
+use Rattle.lists.specs.Tab.{tab, over}
 use Rattle.lists.proofs.BoolLaws.{both_true}
 use Rattle.lists.proofs.TabLaws as tabs
 use Rattle.answer.specs.Answers.{accepted, Taken}
 use Rattle.image.specs.Bytes.{le, at1, at4, at_w}
-use Rattle.image.specs.Form.{Form, form_of, known, letter, version, thread_bytes, held_threads, width_of, top_of, heads_at, node_size, head_lines, header_size, node_place, image_size}
+use Rattle.image.specs.Form.{form_of, known, letter, version, thread_bytes, held_threads, width_of, top_of, heads_at, node_size, head_lines, header_size, node_place, image_size}
 use Rattle.image.specs.declared.Content.{Content}
 use Rattle.image.specs.Layout as im
 use Rattle.image.specs.declared.Shape.{Shape}
 use Rattle.image.proofs.HeadLaws.{heads_at_lem}
 use Rattle.image.proofs.FormLaws.{size_is, header_is, place_from, place_within, by_form, has_mark, form_marked}
-use Rattle.codec.proofs.Shapes.{form_of_lem, nodes_of, line_within, size_place, size_from}
+use Rattle.codec.proofs.Shapes.{form_of_lem, line_within, size_place, size_from}
 use Rattle.image.proofs.SoundLaws.{Fitting, sound_then, is_fitting}
 use Rattle.image.specs.Refusals.{sound, whole, image_answer, alone_answer, read_image, write_answer, written}
 use Rattle.codec.proofs.Accepted as acc

@@ -1,7 +1,7 @@
 -- What a shape fixes of an image's bytes: the mark, where the head lines stand, the size; and the shape that bytes have.
 use Prim.Native.Nat.{ℕ, zero, suc, ◌+◌, ◌*◌, ◌≤◌, ◌<◌}
-use mathlib.Core.Path.{◌≡◌, refl, sym, ap, ap₂, ◌∙◌}
-use mathlib.Core.Bool.{Bool, true}
+use mathlib.Core.Path.{◌≡◌, refl, sym, ap, ◌∙◌}
+use mathlib.Core.Bool.{true}
 use mathlib.Core.List.{List, [], ◌∷◌}
 use mathlib.Core.Logic.{◌≢◌}
 use native.Mathlib.Omega.{arith}
@@ -10,7 +10,7 @@ use lib.ListN.{length}
 use Rattle.image.specs.Bytes.{at1}
 use Rattle.image.specs.Form.{Form, plain, wide, pair, desks, form_of, known, held_threads, thread_bytes, letter, version}
 use Rattle.image.specs.Form.{width_of, heads_at, node_size, head_lines, own_threads, header_size, node_place, image_size, per_desk}
-use Rattle.image.specs.Layout.{form_in, is_image, shape_in, mark_bytes}
+use Rattle.image.specs.Layout.{form_in, shape_in, mark_bytes}
 use Rattle.image.specs.Refusals.{own_fit}
 use Rattle.image.specs.declared.Shape.{Shape}
 use Rattle.image.proofs.FormLaws.{by_form, place_most}

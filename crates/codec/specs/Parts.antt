@@ -4,12 +4,10 @@ use Rattle.lists.specs.Find.{pick, both}
 use Rattle.answer.specs.Answers.{check, accepted, Answer, Taken, Length, NoEnding}
 use Rattle.image.specs.Form.{known, image_size}
 use Rattle.image.specs.Layout.{shape_in, image_in}
-use Rattle.image.specs.Refusals.{own_fit, shape_answer, image_answer, blank_image}
-use Rattle.image.specs.declared.Read.{Read}
+use Rattle.image.specs.Refusals.{own_fit, shape_answer, image_answer, blank_image, Read}
 use Rattle.image.specs.declared.Shape.{Shape}
 use Rattle.machine.specs.declared.Event.{Event}
-use Rattle.schedule.specs.Layout.{count_in, event_in, schedule_answer, blank_schedule}
-use Rattle.schedule.specs.declared.Opened.{Opened}
+use Rattle.schedule.specs.Layout.{count_in, event_in, schedule_answer}
 
 -- an image of shape z, its head lines and nodes, lies in the bytes
 pub record Lies (s : List ℕ) (z : Shape) : Type 0 where
@@ -31,13 +29,6 @@ read_part t more s = record {
   answer = image_answer t more s;
   image = pick (accepted (image_answer t more s)) (image_in s) blank_image;
 }
-
--- a refusal with what is handed back beside it
-abbrev pub refused_read : Answer → Read
-refused_read a = record { answer = a; image = blank_image }
-
-abbrev pub refused_opened : Answer → Opened
-refused_opened a = record { answer = a; schedule = blank_schedule }
 
 -- what is handed out where there is no such event
 abbrev pub no_event : Event

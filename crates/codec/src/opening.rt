@@ -1,30 +1,15 @@
 // A schedule, or another file with its layout, read up to its events.
 ghost use Rattle.std.specs.Prelude.{◌≡◌, ◌≤◌};
-ghost use Rattle.codec.specs.Parts.{refused_opened};
+ghost use Rattle.answer.specs.Answers.{given};
 ghost use Rattle.schedule.specs.Layout.{file_answer, schedule_answer, read_by, read_schedule};
 
 use crate::bytes::{half_at, is_marked};
 use crate::images::image_in;
 use crate::reading::check_part;
-use answer::{Answer, Refusal, is_taken};
+use answer::{Answer, Refusal};
+use image::threads_fit;
 use machine::Machine;
-use schedule::{Opened, Schedule};
-
-// A refusal, with the blank schedule beside it.
-fn refused(a: Answer) -> Opened
-    ensures { result ≡ refused_opened a }
-{
-    let image = image::blank_image();
-    let schedule = Schedule {
-        t: 0,
-        count: 0,
-        image,
-    };
-    Opened {
-        answer: a,
-        schedule,
-    }
-}
+use schedule::Schedule;
 
 // What is wrong, up to its events, with a file of the mark "UQ" and z that has w bytes an event. It builds none.
 pub fn check_file(s: &[u8], z: u8, w: usize) -> Answer
@@ -38,10 +23,7 @@ pub fn check_file(s: &[u8], z: u8, w: usize) -> Answer
         return Err(Refusal::Mark);
     }
     let t = s[5];
-    if t < 1 {
-        return Err(Refusal::Threads);
-    }
-    if 8 < t {
+    if !threads_fit(t) {
         return Err(Refusal::Threads);
     }
     let count = half_at(s, 6);
@@ -58,26 +40,22 @@ pub fn check_schedule(s: &[u8]) -> Answer
 }
 
 // The file up to its events, or what is wrong.
-pub fn open_file(s: &[u8], z: u8, w: usize) -> Opened
+pub fn open_file(s: &[u8], z: u8, w: usize) -> Result<Schedule, Refusal>
     requires { w ≤ 12 }
-    ensures { result ≡ read_by (file_answer z w s.now) s.now }
+    ensures { result ≡ given (read_by (file_answer z w s.now) s.now).answer (read_by (file_answer z w s.now) s.now).schedule }
 {
-    let a = check_file(s, z, w);
-    if !is_taken(a) {
-        return refused(a);
-    }
-    let t = s[5];
+    check_file(s, z, w)?;
     let count = half_at(s, 6);
     let image = image_in(&s[8..]);
-    let schedule = Schedule { t, count, image };
-    Opened {
-        answer: a,
-        schedule,
-    }
+    Ok(Schedule {
+        t: s[5],
+        count,
+        image,
+    })
 }
 
-pub fn open_schedule(s: &[u8]) -> Opened
-    ensures { result ≡ read_schedule s.now }
+pub fn open_schedule(s: &[u8]) -> Result<Schedule, Refusal>
+    ensures { result ≡ given (read_schedule s.now).answer (read_schedule s.now).schedule }
 {
     open_file(s, 83, 6)
 }

@@ -1,22 +1,15 @@
 // An image read from bytes, alone or in front of others.
 ghost use Rattle.std.specs.Prelude.{◌≡◌, ◌≤◌};
-ghost use Rattle.answer.specs.Answers.{Taken};
+ghost use Rattle.answer.specs.Answers.{Taken, given};
 ghost use Rattle.image.specs.Refusals.{image_answer, alone_answer};
-ghost use Rattle.codec.specs.Parts.{shape, refused_read, read_part};
+ghost use Rattle.image.specs.Layout.{image_in};
+ghost use Rattle.codec.specs.Parts.{shape};
 
 use crate::bytes::{own_threads, shape_in};
 use crate::images::image_in;
 use crate::sound::sound_at;
-use answer::{Answer, Refusal, Reply, is_taken};
-use image::{Read, shape_of, size_of};
-
-// A refusal, with the blank image beside it.
-fn refused(a: Answer) -> Read
-    ensures { result ≡ refused_read a }
-{
-    let image = image::blank_image();
-    Read { answer: a, image }
-}
+use answer::{Answer, Refusal, Reply};
+use image::{Image, shape_of, size_of};
 
 // 1, 2, 3, 4, 1: what is wrong with the image that the bytes begin with before its nodes are looked at, for t threads, `more` bytes behind it.
 pub fn shape_part(s: &[u8], t: u8, more: usize) -> Answer
@@ -28,10 +21,7 @@ pub fn shape_part(s: &[u8], t: u8, more: usize) -> Answer
         return Err(Refusal::Length);
     }
     let z = shape_in(s);
-    let a = shape_of(z, t);
-    if !is_taken(a) {
-        return a;
-    }
+    shape_of(z, t)?;
     if len != size_of(z) + more {
         return Err(Refusal::Length);
     }
@@ -43,25 +33,18 @@ pub fn check_part(s: &[u8], t: u8, more: usize) -> Answer
     requires { more ≤ 49152 }
     ensures { result ≡ image_answer t more s.now }
 {
-    let a = shape_part(s, t, more);
-    if !is_taken(a) {
-        return a;
-    }
+    shape_part(s, t, more)?;
     let z = shape_in(s);
     sound_at(s, z)
 }
 
 // The image that the bytes begin with, for t threads, `more` bytes behind it; or what is wrong.
-pub fn read_part(s: &[u8], t: u8, more: usize) -> Read
+pub fn read_part(s: &[u8], t: u8, more: usize) -> Result<Image, Refusal>
     requires { more ≤ 49152 }
-    ensures { result ≡ read_part t more s.now }
+    ensures { result ≡ given (image_answer t more s.now) (image_in s.now) }
 {
-    let a = check_part(s, t, more);
-    if !is_taken(a) {
-        return refused(a);
-    }
-    let image = image_in(s);
-    Read { answer: a, image }
+    check_part(s, t, more)?;
+    Ok(image_in(s))
 }
 
 // What is wrong with an image alone: it agrees with itself.

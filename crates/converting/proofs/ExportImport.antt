@@ -16,9 +16,8 @@ use Rattle.image.specs.Bytes.{at1}
 use Rattle.image.specs.Form.{known, width_of, top_of, head_lines, image_size, per_desk}
 use Rattle.image.specs.Layout.{head_in, heads_of, image_shape, form_in, shape_in, image_in, image_bytes}
 use Rattle.image.specs.Recovered.{largest, head_of}
-use Rattle.image.specs.Refusals.{threads_fit, sound, whole, alone_answer, read_image, write_answer}
+use Rattle.image.specs.Refusals.{threads_fit, sound, whole, alone_answer, read_image, write_answer, Read}
 use Rattle.image.specs.declared.Image.{Image}
-use Rattle.image.specs.declared.Read.{Read}
 use Rattle.image.specs.declared.Shape.{Shape}
 use Rattle.image.proofs.ByteLaws as num
 use Rattle.image.proofs.FormLaws.{place_desks}

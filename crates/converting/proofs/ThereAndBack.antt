@@ -12,10 +12,9 @@ use Rattle.answer.specs.Answers.{accepted, Taken}
 use Rattle.image.specs.Bytes.{at1, at_w}
 use Rattle.image.specs.Form.{known, width_of, heads_at, head_lines, node_place, image_size, per_desk}
 use Rattle.image.specs.Layout.{no_content, no_contents, content_at, head_in, heads_of, no_heads, image_shape, in_form, form_in, shape_in, image_in, image_bytes, read_content, read_heads, read_nodes}
-use Rattle.image.specs.Refusals.{sound, whole, alone_answer, read_image, write_answer}
+use Rattle.image.specs.Refusals.{sound, whole, alone_answer, read_image, write_answer, Read}
 use Rattle.image.specs.declared.Content.{Content}
 use Rattle.image.specs.declared.Image.{Image}
-use Rattle.image.specs.declared.Read.{Read}
 use Rattle.image.proofs.ByteLaws as num
 use Rattle.image.proofs.HeadLaws.{heads_at_lem, heads_same, head_same}
 use Rattle.codec.specs.Parts.{Lies}

@@ -13,11 +13,10 @@ use Rattle.lists.proofs.TabLaws as tabs
 use Rattle.answer.specs.Answers.{accepted, check, Answer, Taken, Threads}
 use Rattle.image.specs.declared.Content.{Content}
 use Rattle.image.specs.declared.Image.{Image}
-use Rattle.image.specs.declared.Read.{Read}
+use Rattle.image.specs.Refusals.{Read, threads_fit, whole, read_image, write_answer}
 use Rattle.image.specs.Form.{Form, plain, wide, pair, desks, form_of, held_threads, own_threads, image_size}
 use Rattle.image.specs.Layout.{no_content, no_contents, content_at, image_shape, no_heads, heads_of, image_bytes}
 use Rattle.image.specs.declared.Shape.{Shape}
-use Rattle.image.specs.Refusals.{threads_fit, whole, read_image, write_answer}
 use Rattle.image.proofs.HeadLaws.{heads_at_lem, heads_same}
 use Rattle.image.proofs.ShapeLaws.{Shaped, shape_is, agree_own}
 use Rattle.pages.proofs.OwnLaws.{owned, own_lines, own_size}

@@ -18,7 +18,7 @@ use Rattle.image.proofs.ShapeLaws as shapes
 use Rattle.schedule.specs.Layout.{schedule_answer, schedule_in, read_schedule, threads_in, count_in, nodes_in, events_in, schedule_shape}
 use Rattle.schedule.specs.Run.{Bench, Ran, ran, begins}
 use Rattle.schedule.specs.declared.Schedule.{Schedule}
-use Rattle.schedule.specs.declared.Opened.{Opened}
+use Rattle.schedule.specs.Layout.{Opened}
 use Rattle.page.specs.Endings.{product}
 use Rattle.page.specs.Refusals.{table_in, table_answer, page_answer, ending_count, first_crowded}
 use Rattle.endtable.specs.Picks.{prod, capped}

@@ -21,10 +21,9 @@ use Rattle.image.specs.Bytes.{at_w, at4}
 use Rattle.image.specs.Form.{known, width_of, heads_at, node_size, head_lines, own_threads, header_size, node_place, image_size}
 use Rattle.image.specs.declared.Shape.{Shape}
 use Rattle.image.specs.Layout.{no_content, no_contents, content_at, head_in, heads_of, image_shape, shape_in, node_bytes, head_bytes, body_bytes, read_content, read_nodes, read_heads, image_in, image_bytes}
-use Rattle.image.specs.Refusals.{sound, whole, alone_answer, write_answer, read_image}
+use Rattle.image.specs.Refusals.{sound, whole, alone_answer, write_answer, read_image, Read}
 use Rattle.image.specs.declared.Content.{Content}
 use Rattle.image.specs.declared.Image.{Image}
-use Rattle.image.specs.declared.Read.{Read}
 use Rattle.image.proofs.ByteLaws as num
 use Rattle.image.proofs.FormLaws.{size_is, place_next, place_zero, place_within}
 use Rattle.image.proofs.HeadLaws.{heads_at_lem, heads_same}

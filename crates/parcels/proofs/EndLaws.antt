@@ -17,10 +17,9 @@ use Rattle.answer.specs.Answers.{told, accepted, check, Answer, Taken, NoEnding,
 use Rattle.image.specs.Form.{image_size}
 use Rattle.image.specs.Layout.{no_content, no_contents, content_at, shape_in, image_bytes}
 use Rattle.image.specs.Recovered.{head_of, recovered, recovered_at, dummy_of}
-use Rattle.image.specs.Refusals.{read_image}
+use Rattle.image.specs.Refusals.{read_image, Read}
 use Rattle.image.specs.declared.Content.{Content}
 use Rattle.image.specs.declared.Image.{Image}
-use Rattle.image.specs.declared.Read.{Read}
 use Rattle.image.specs.declared.Shape.{Shape}
 use Rattle.image.proofs.ShapeLaws.{shaped_lines}
 use Rattle.machine.specs.Line.{shape_of}

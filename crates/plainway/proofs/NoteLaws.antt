@@ -15,9 +15,8 @@ use Rattle.lists.proofs.TabLaws as tabs
 use Rattle.answer.specs.Answers.{accepted, Taken}
 use Rattle.image.specs.Form.{known, head_lines, own_threads, image_size}
 use Rattle.image.specs.Layout.{no_content, no_contents, content_at, node_bytes, image_shape, head_in, heads_of, head_bytes, body_bytes, image_bytes}
-use Rattle.image.specs.Refusals.{read_image}
+use Rattle.image.specs.Refusals.{read_image, Read}
 use Rattle.image.specs.declared.Image.{Image}
-use Rattle.image.specs.declared.Read.{Read}
 use Rattle.image.specs.declared.Shape.{Shape}
 use Rattle.image.proofs.HeadLaws.{heads_at_lem}
 use Rattle.machine.specs.Line.{shape_of, line_count, persisted}

@@ -21,7 +21,7 @@ use Rattle.machine.specs.Line.{shape_of, line_count}
 use Rattle.machine.specs.declared.Machine.{Machine}
 use Rattle.schedule.specs.Layout.{threads_in, count_in, nodes_in, schedule_in, schedule_answer, schedule_shape, read_schedule}
 use Rattle.schedule.specs.declared.Schedule.{Schedule}
-use Rattle.schedule.specs.declared.Opened.{Opened}
+use Rattle.schedule.specs.Layout.{Opened}
 use Rattle.schedule.specs.Run.{Bench, Ran, ran}
 use Rattle.page.specs.Refusals.{page_answer, ending_count}
 use Rattle.plainproof.specs.Plain.{last_start, since_count, lines_in, plain_images}

@@ -7,42 +7,29 @@ mod reading;
 mod writing;
 
 ghost use Rattle.std.specs.Prelude.{◌≡◌, length};
-ghost use Rattle.answer.specs.Answers.{told};
+ghost use Rattle.answer.specs.Answers.{told, given};
 ghost use Rattle.record.specs.Layout.{read_record, record_answer, record_written};
 
 use answer::{Answer, Refusal, Reply};
-use machine::blank::blank_machine;
-use machine::{Machine, Out};
-use reading::{is_record, record_in};
+use codec::is_marked;
+use machine::Machine;
+use reading::record_in;
 use writing::put_record;
 
 // The size of a record's bytes.
 pub const SIZE: usize = 2267;
 
-// The record that 2,267 bytes are, or 1, or 2; the record is not tested.
-pub fn read_record(s: &[u8]) -> Out
-    ensures answers { told result.answer ≡ told (read_record s.now).answer }
-    ensures machine { result.machine ≡ (read_record s.now).machine }
+// The record that 2,267 bytes are, or 1, or 2; the record is not tested. The mark is "UQM", version 4.
+pub fn read_record(s: &[u8]) -> Result<Machine, Refusal>
+    ensures { result ≡ given (read_record s.now).answer (read_record s.now).machine }
 {
     if s.len() != SIZE {
-        let machine = blank_machine();
-        return Out {
-            answer: Err(Refusal::Length),
-            machine,
-        };
+        return Err(Refusal::Length);
     }
-    if !is_record(s) {
-        let machine = blank_machine();
-        return Out {
-            answer: Err(Refusal::Mark),
-            machine,
-        };
+    if !is_marked(s, 85, 81, 77, 4) {
+        return Err(Refusal::Mark);
     }
-    let machine = record_in(s);
-    Out {
-        answer: Ok(Reply::Taken),
-        machine,
-    }
+    Ok(record_in(s))
 }
 
 // Writes the record, untested, into the first 2,267 bytes of the buffer, or nothing and 17.

@@ -3,32 +3,12 @@ ghost use Rattle.std.specs.Prelude.{◌≡◌, ◌+◌, ◌≤◌, length};
 ghost use Rattle.lists.specs.Tab.{front};
 ghost use Rattle.image.specs.Layout.{no_contents, no_heads};
 ghost use Rattle.machine.specs.Record.{blank_nodes, idle_threads, no_flushed, no_sets};
-ghost use Rattle.record.specs.Layout.{record_size, is_record, read_node, read_kept, read_thread, long_in, node_in, kept_in, thread_in, read_flush, flush_in, set_in, record_in};
+ghost use Rattle.record.specs.Layout.{record_size, read_node, read_kept, read_thread, long_in, node_in, kept_in, thread_in, read_flush, flush_in, set_in, record_in};
 
 use codec::{long_at, word_at};
 use image::{Content, no_contents, no_heads};
 use machine::blank::{blank_nodes, idle_threads, no_flushed, no_node_sets, no_sets};
 use machine::{Machine, Node, Thread};
-
-// Whether the bytes begin with a record's mark and version.
-pub fn is_record(s: &[u8]) -> bool
-    requires { record_size ≤ length s.now }
-    ensures { result ≡ is_record s.now }
-{
-    if s[0] != 85 {
-        return false;
-    }
-    if s[1] != 81 {
-        return false;
-    }
-    if s[2] != 77 {
-        return false;
-    }
-    if s[3] != 4 {
-        return false;
-    }
-    s[4] == 0
-}
 
 fn node_at(s: &[u8], at: usize) -> Node
     requires { at + 28 ≤ length s.now }

@@ -26,7 +26,7 @@ use Rattle.image.proofs.ShapeLaws.{shaped_lines}
 use Rattle.schedule.specs.Layout.{schedule_in, schedule_shape, count_in, threads_in, image_part, place_in, file_answer, read_by, blank_schedule}
 use Rattle.schedule.specs.Run.{Bench, bench_at, opened}
 use Rattle.schedule.specs.declared.Schedule.{Schedule}
-use Rattle.schedule.specs.declared.Opened.{Opened}
+use Rattle.schedule.specs.Layout.{Opened}
 use Rattle.codec.proofs.Accepted as codec
 use Rattle.tied.proofs.Schedules as schedules
 use Rattle.onward.proofs.Come.{Come, come_none, come_next, next_machine}

@@ -11,7 +11,6 @@ use Rattle.image.specs.declared.Image.{Image}
 use Rattle.image.specs.declared.Shape.{Shape}
 use Rattle.machine.specs.declared.Event.{Event}
 use Rattle.schedule.specs.declared.Schedule.{Schedule}
-use Rattle.schedule.specs.declared.Opened.{Opened}
 
 -- mark "UQ" with a third letter z, version 1; T; the event count; one image; then the events
 abbrev pub is_file : ℕ → List ℕ → Bool
@@ -72,6 +71,11 @@ schedule_answer s = file_answer 83 6 s
 -- what is handed back beside a refusal
 abbrev pub blank_schedule : Schedule
 blank_schedule = record { t = 0; count = 0; image = blank_image }
+
+-- what reading a schedule up to its events gives: on a refusal the schedule is the blank one
+pub record Opened : Type 0 where
+  pub answer : Answer
+  pub schedule : Schedule
 
 -- what reading a file up to its events gives, by its answer
 abbrev pub read_by : Answer → List ℕ → Opened

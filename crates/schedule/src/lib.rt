@@ -13,13 +13,6 @@ pub struct Schedule {
     pub image: Image,
 }
 
-// What reading a schedule up to its events gives: on a refusal the schedule is the blank one.
-#[derive(Clone, Copy)]
-pub struct Opened {
-    pub answer: Answer,
-    pub schedule: Schedule,
-}
-
 // A run on its way: T, N, the image's form, how many events there are, the number of the next one, and the machine;
 // what the last event was, what it answered and which line it touched.
 #[derive(Clone, Copy)]

@@ -6,8 +6,7 @@ use mathlib.Core.List.{List}
 use lib.ListN.{length, take}
 use Rattle.answer.specs.Answers.{accepted, Answer}
 use Rattle.image.specs.Layout.{image_bytes}
-use Rattle.image.specs.Refusals.{read_image}
-use Rattle.image.specs.declared.Read.{Read}
+use Rattle.image.specs.Refusals.{read_image, Read}
 use Rattle.page.specs.Refusals.{page_answer, ending_count, ending_in, ending_written}
 use Rattle.lawful.specs.Demand3.{Bytes}
 use Rattle.pageproof.proofs.Holds.{page_holds}

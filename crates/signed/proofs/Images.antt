@@ -8,9 +8,8 @@ use Rattle.answer.specs.Answers.{accepted, Answer, Taken}
 use Rattle.answer.proofs.Injective.{told_injective}
 use Rattle.image.specs.Form.{image_size}
 use Rattle.image.specs.Layout.{image_shape}
-use Rattle.image.specs.Refusals.{read_image, write_answer, written}
+use Rattle.image.specs.Refusals.{read_image, write_answer, written, Read}
 use Rattle.image.specs.declared.Image.{Image}
-use Rattle.image.specs.declared.Read.{Read}
 use Rattle.codec.proofs.ReadWrite.{read_written}
 use Rattle.codec.proofs.WriteRead.{Items, trimmed, written_read}
 use Rattle.lawful.specs.Demand3.{Bytes}

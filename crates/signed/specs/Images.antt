@@ -4,7 +4,7 @@ use contract.Lifetimes.{Lfts}
 use Rattle.std.specs.Borrow.{Bor, MutBor}
 use Rattle.answer.specs.Answers.{accepted, Answer, Taken}
 use Rattle.image.specs.declared.Image.{Image}
-use Rattle.image.specs.declared.Read.{Read}
+use Rattle.image.specs.Refusals.{Read}
 use Rattle.page.specs.Refusals.{page_answer, ending_count, ending_in}
 use Rattle.lawful.specs.Demand3.{Bytes}
 use Rattle.codec.proofs.read_image.Reads as reading

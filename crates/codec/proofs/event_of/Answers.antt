@@ -1,74 +1,72 @@
+use Prim.Native.Nat.{◌+◌, ◌≤◌}
+use mathlib.Core.Bool.{true}
+use mathlib.Core.Path.{◌≡◌, refl, sym, ap, subst, ◌∙◌}
+use Rattle.std.specs.Prelude.{Ok}
+use native.Mathlib.Omega.{arith}
+use lib.ListN.{length}
+use borrow.Author.Tests.{lt-ltb}
+use Rattle.answer.specs.Answers.{accepted, given, Answer}
+use Rattle.answer.proofs.Results.{came_back, given_taken, given_refused, handed_none}
+use Rattle.image.specs.Form.{known}
+use Rattle.image.specs.Layout.{shape_in, image_in}
+use Rattle.image.specs.declared.Shape.{Shape}
+use Rattle.schedule.specs.Layout.{schedule_in, schedule_answer, schedule_shape, count_in, event_from, event_place}
+use Rattle.schedule.specs.declared.Schedule.{Schedule}
+use Rattle.codec.specs.Parts.{event_of}
 use Rattle.codec.proofs.Accepted as laws
 use Rattle.codec.proofs.Asked as asked
-use Rattle.codec.specs.Parts.{event_of}
-use Rattle.schedule.specs.Layout.{schedule_in, schedule_answer, schedule_shape, count_in, event_from, event_place}
-use Rattle.schedule.specs.declared.Opened.{Opened}
-use Rattle.schedule.specs.declared.Schedule.{Schedule}
-use Rattle.image.specs.declared.Shape.{Shape}
-use Rattle.image.specs.Layout.{shape_in, image_in}
-use Rattle.answer.specs.Answers.{told, accepted, Answer}
-use borrow.Author.Tests.{lt-ltb, le-ltb, not-true, not-false}
-use mathlib.Core.Bool.{true, false}
-use mathlib.Core.Path.{◌≡◌, sym, ap, subst, ◌∙◌}
-use Prim.Native.Nat.{◌+◌, ◌≤◌}
-use lib.ListN.{length}
-use Rattle.image.specs.Form.{known}
-use native.Mathlib.Omega.{arith}
 use Rattle.codec.proofs.event_of.Goals as goal
-use Rattle.codec.proofs.event_of.Goals.{Else-not-is_taken}
+use Rattle.codec.proofs.event_of.Goals.{In_ok-d}
 
--- the schedule was taken
-taken : (c : Else-not-is_taken) → accepted (schedule_answer c.args.s.now) ≡ true
-taken c =
-    let ea = ap (λ (r : Opened). r.answer) c.open_schedule-o.ensures ∙ laws.opened_answer _ in
-    rw (← ea) (sym c.is_taken.ensures ∙ not-false c.is_taken.result c.if-not-is_taken.false-raw)
-
-found : (c : Else-not-is_taken) → c.open_schedule-o.result.schedule ≡ schedule_in c.args.s.now
-found c =
-    ap (λ (r : Opened). r.schedule) c.open_schedule-o.ensures ∙ laws.opened_schedule _ (taken c)
+-- the schedule was taken, and is the one in the bytes
+opened : (c : In_ok-d) → (accepted (schedule_answer c.args.s.now) ≡ true) × (c.in_ok-d.d ≡ schedule_in c.args.s.now)
+opened c =
+    let s = c.args.s.now in
+    given_taken (schedule_answer s) (schedule_in s) (c.open_schedule.ensures ∙ laws.schedule_given s) c.in_ok-d.was
 
 -- its machine's shape
-abbrev shapeFor : Schedule → Shape
-shapeFor d = record { form = d.image.form; n = d.image.n; t = d.t }
+abbrev shape_for : Schedule → Shape
+shape_for d = record { form = d.image.form; n = d.image.n; t = d.t }
 
-shape-for : (c : Else-not-is_taken) → shapeFor c.open_schedule-o.result.schedule ≡ schedule_shape c.args.s.now
+shape_is : (c : In_ok-d) → shape_for c.in_ok-d.d ≡ schedule_shape c.args.s.now
 unfolding schedule_in image_in shape_in
-shape-for c =
-    ap shapeFor (found c)
+shape_is c = ap shape_for (opened c).1
 
-count-for : (c : Else-not-is_taken) → c.open_schedule-o.result.schedule.count ≡ count_in c.args.s.now
+count_is : (c : In_ok-d) → c.in_ok-d.d.count ≡ count_in c.args.s.now
 unfolding schedule_in
-count-for c =
-    ap (λ (d : Schedule). d.count) (found c)
+count_is c = ap (λ (d : Schedule). d.count) (opened c).1
 
-pub returns-then-not-is_taken : goal.returns-then-not-is_taken
-unfolding event_of
-returns-then-not-is_taken c =
+pub returns-in_err-d : goal.returns-in_err-d
+returns-in_err-d c =
     let s = c.args.s.now in
-    let ea = ap (λ (r : Opened). r.answer) c.open_schedule-o.ensures ∙ laws.opened_answer s in
-    let f : accepted (schedule_answer s) ≡ false = rw (← ea) (sym c.is_taken.ensures ∙ not-true c.is_taken.result c.if-not-is_taken.true-raw) in record { answers = ap (λ (x : Answer). told x) (ea ∙ sym (asked.asked_refused s c.args.i f)); event = rw f }
+    let e = c.open_schedule.ensures ∙ laws.schedule_given s in
+    let f = came_back refl (given_refused (schedule_answer s) (schedule_in s) e c.in_err-d.was) in
+    let v = event_of s c.args.i in
+    handed_none (schedule_answer s) (schedule_in s) v e c.in_err-d.was c.from_residual.ensures.1 ∙ ap (λ (a : Answer). given a v) (sym (asked.asked_refused s c.args.i f))
 
 pub returns-then-count-i : goal.returns-then-count-i
-unfolding event_of
 returns-then-count-i c =
     let s = c.args.s.now in
-    let h = taken (goal.at.returns-then-count-i c).Else-not-is_taken in
-    let ec = count-for (goal.at.returns-then-count-i c).Else-not-is_taken in
-    let i = c.args.i in record { answers = ap (λ (x : Answer). told x) (sym (asked.asked_none s i h (omega (arith, ec, c.if-count-i.true)))); event = rw (h, ← ec, le-ltb _ _ c.if-count-i.true) }
+    let o = (goal.at.returns-then-count-i c).In_ok-d in
+    let h = (opened o).0 in
+    let ec = count_is o in
+    ap (λ (a : Answer). given a (event_of s c.args.i)) (sym (asked.asked_none s c.args.i h (omega (arith, ec, c.if-count-i.true))))
 
-pub event_at-event-requires : goal.event_at-event-requires
-event_at-event-requires c =
+pub event_at-requires : goal.event_at-requires
+event_at-requires c =
     let s = c.args.s.now in
-    let h = taken (goal.at.event_at-event-requires c).Else-not-is_taken in
-    let ez = shape-for (goal.at.event_at-event-requires c).Else-not-is_taken in
-    let ec = count-for (goal.at.event_at-event-requires c).Else-not-is_taken in
-    subst (λ (z : Shape). (known z.form ≡ true) × (event_place z c.args.i + 6 ≤ length s)) (sym ez) ((laws.schedule_taken s h).part.mark, laws.event_fits s c.args.i h (omega (arith, ec, c.if-count-i.false)))
+    let o = (goal.at.event_at-requires c).In_ok-d in
+    let h = (opened o).0 in
+    let ec = count_is o in
+    subst (λ (z : Shape). (known z.form ≡ true) × (event_place z c.args.i + 6 ≤ length s)) (sym (shape_is o)) ((laws.schedule_taken s h).part.mark, laws.event_fits s c.args.i h (omega (arith, ec, c.if-count-i.false)))
 
 pub returns : goal.returns
 unfolding event_of
 returns c =
     let s = c.args.s.now in
-    let h = taken (goal.at.returns c).Else-not-is_taken in
-    let ez = shape-for (goal.at.returns c).Else-not-is_taken in
-    let ec = count-for (goal.at.returns c).Else-not-is_taken in
-    let i = c.args.i in record { answers = ap (λ (x : Answer). told x) (sym (asked.asked_taken s i h (omega (arith, ec, c.if-count-i.false)))); event = rw (h, ← ec, lt-ltb _ _ c.if-count-i.false) (c.event_at-event.ensures ∙ ap (λ (z : Shape). event_from s (event_place z i)) ez) }
+    let i = c.args.i in
+    let o = (goal.at.returns c).In_ok-d in
+    let h = (opened o).0 in
+    let ec = count_is o in
+    rw (asked.asked_taken s i h (omega (arith, ec, c.if-count-i.false)), h, ← ec, lt-ltb _ _ c.if-count-i.false)
+    (ap Ok (c.event_at.ensures ∙ ap (λ (z : Shape). event_from s (event_place z i)) (shape_is o)))

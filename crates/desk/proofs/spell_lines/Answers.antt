@@ -4,7 +4,7 @@ use Prim.Native.Nat.{◌+◌, ◌-◌, ◌<◌}
 use lib.ListN.{length}
 use borrow.Author.Tests.{not-true, not-false}
 use Rattle.answer.specs.Answers.{accepted, NoEnding, Room}
-use Rattle.schedule.specs.declared.Opened.{Opened}
+use Rattle.schedule.specs.Layout.{Opened}
 use Rattle.page.specs.Filled.{fitting}
 use Rattle.codec.proofs.Accepted as acc
 use Rattle.spelling.specs.Writing.{entry_of, entries_in}

@@ -4,7 +4,7 @@ use Rattle.answer.proofs.Injective.{told_injective}
 use Rattle.calls.proofs.Laws as laws
 use lib.ListN.{length}
 use native.Mathlib.Omega.{arith}
-use Rattle.image.specs.declared.Read.{Read}
+use Rattle.image.specs.Refusals.{Read}
 use Rattle.machine.specs.Start.{start_from}
 use Rattle.record.specs.Layout.{record_answer, record_written}
 use Rattle.calls.specs.Calls.{start_answered}

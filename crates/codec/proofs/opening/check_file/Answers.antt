@@ -6,7 +6,7 @@ use Prim.Native.Nat.{◌*◌, ◌-◌}
 use mathlib.Core.Path.{ap, ◌∙◌}
 use native.Mathlib.Omega.{arith}
 use native.Mathlib.Nat.{mul-le-mul}
-use borrow.Author.Tests.{lt-ltb, le-ltb, le-leb, lt-leb, not-true, not-false}
+use borrow.Author.Tests.{lt-ltb, le-ltb, not-true, not-false}
 use Rattle.codec.proofs.opening.check_file.Goals as goal
 
 pub returns-then-s-lt8 : goal.returns-then-s-lt8
@@ -15,11 +15,9 @@ returns-then-s-lt8 c = rw (lt-ltb _ _ c.if-s-lt8.true)
 pub returns-then-not-is_marked : goal.returns-then-not-is_marked
 returns-then-not-is_marked c = rw (le-ltb _ _ c.if-s-lt8.false, ← c.is_marked.ensures, not-true c.is_marked.result c.if-not-is_marked.true-raw)
 
-pub returns-then-t-lt1 : goal.returns-then-t-lt1
-returns-then-t-lt1 c = rw (le-ltb _ _ c.if-s-lt8.false, ← c.is_marked.ensures, not-false c.is_marked.result c.if-not-is_marked.false-raw, lt-leb _ _ c.if-t-lt1.true)
-
-pub returns-then-t-gt8 : goal.returns-then-t-gt8
-returns-then-t-gt8 c = rw (le-ltb _ _ c.if-s-lt8.false, ← c.is_marked.ensures, not-false c.is_marked.result c.if-not-is_marked.false-raw, le-leb _ _ c.if-t-lt1.false, lt-leb _ _ c.if-t-gt8.true)
+pub returns-then-not-threads_fit : goal.returns-then-not-threads_fit
+returns-then-not-threads_fit c =
+    rw (le-ltb _ _ c.if-s-lt8.false, ← c.is_marked.ensures, not-false c.is_marked.result c.if-not-is_marked.false-raw, ← c.threads_fit.ensures, not-true c.threads_fit.result c.if-not-threads_fit.true-raw)
 
 pub returns-then-count-gt-EVENTS : goal.returns-then-count-gt-EVENTS
 returns-then-count-gt-EVENTS c =
@@ -27,8 +25,8 @@ returns-then-count-gt-EVENTS c =
       le-ltb _ _ c.if-s-lt8.false,
       ← c.is_marked.ensures,
       not-false c.is_marked.result c.if-not-is_marked.false-raw,
-      le-leb _ _ c.if-t-lt1.false,
-      le-leb _ _ c.if-t-gt8.false,
+      ← c.threads_fit.ensures,
+      not-false c.threads_fit.result c.if-not-threads_fit.false-raw,
       ← c.half_at-count.ensures,
       lt-ltb _ _ c.if-count-gt-EVENTS.true,
     )
@@ -47,8 +45,8 @@ returns c =
       le-ltb _ _ c.if-s-lt8.false,
       ← c.is_marked.ensures,
       not-false c.is_marked.result c.if-not-is_marked.false-raw,
-      le-leb _ _ c.if-t-lt1.false,
-      le-leb _ _ c.if-t-gt8.false,
+      ← c.threads_fit.ensures,
+      not-false c.threads_fit.result c.if-not-threads_fit.false-raw,
       ← c.half_at-count.ensures,
       le-ltb _ _ c.if-count-gt-EVENTS.false,
     )

@@ -1,5 +1,5 @@
 use Rattle.answer.specs.Answers.{accepted}
-use Rattle.schedule.specs.declared.Opened.{Opened}
+use Rattle.schedule.specs.Layout.{Opened}
 use native.Mathlib.Omega.{arith}
 use mathlib.Core.Path.{sym, ap, ◌∙◌}
 use Rattle.runs.proofs.GoingLaws as going
