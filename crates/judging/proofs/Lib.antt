@@ -3,5 +3,7 @@ pub mod Items
 pub mod Timely
 pub mod Shown
 pub mod Turns
-pub mod Unique
 pub mod Small
+pub mod Found
+pub mod Choosing
+pub mod Unique

@@ -16,7 +16,7 @@ use Rattle.image.proofs.ByteLaws.{at_small}
 use Rattle.lawful.specs.Operation.{says}
 use Rattle.lawful.specs.Lawful.{at, no_operation}
 use Rattle.lawful.specs.Demand3.{Bytes}
-use Rattle.judging.specs.History.{at8, count_in, first_count, last_count, operation_place, kind_at, answer_at, reply_by, operation_at, operations_in, kind_fits, fits, odd, first_odd, fault_at, sized, history_answer}
+use Rattle.judging.specs.History.{at8, count_in, first_count, last_count, operation_place, kind_at, answer_at, reply_by, operation_at, operations_in, kind_fits, fits, odd, first_odd, fault_at, sized, history_answer, odd_answer}
 use Rattle.judging.specs.Place.{Whole, Clear, top}
 
 pub whole_of : (s : List ℕ) → sized s ≡ true → Whole s
@@ -55,6 +55,11 @@ taken_of s e = by (sized s) refl (ltb (first_odd s) (count_in s)) refl e
     by false a y b h = false_true h
     by true a true b h = no_way (sym h ∙ never_fault s (first_odd s))
     by true a false b h = (whole_of s a, clear_of s (ltb-false (first_odd s) (count_in s) b))
+
+-- behind the first refusal
+pub sized_answer : (s : List ℕ) → sized s ≡ true → history_answer s ≡ odd_answer s
+unfolding history_answer
+sized_answer s e = rw e
 
 -- ---- the operations that the bytes are
 

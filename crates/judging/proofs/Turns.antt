@@ -16,16 +16,17 @@ use Rattle.judging.specs.Search.{Verdict, lawful, unlawful, undecided, Judged, j
 use Rattle.judging.specs.Place.{no_bytes, padded, order_in, queue_in, is_finished, is_eligible, next_from, took, fresh, Ready}
 use Rattle.judging.specs.Judged.{number_of, said_of, said_none, said_at, searched_at, asked_at, judged_in}
 use Rattle.judging.specs.declared.Place.{Place}
+use Rattle.judging.specs.declared.Verdict.TheVariants.{Unlawful, Undecided}
 use Rattle.judging.proofs.Taken.{operation_count}
 use Rattle.judging.proofs.Shown as shown
 
 -- ---- what is said
 
-pub said_none_lem : (t : ℕ) → said_of (judged unlawful t []) ≡ said_none 0 t
+pub said_none_lem : (t : ℕ) → said_of (judged unlawful t []) ≡ said_none Unlawful t
 unfolding padded no_bytes
 said_none_lem t = refl
 
-pub said_undecided : (t : ℕ) → said_of (judged undecided t []) ≡ said_none 2 t
+pub said_undecided : (t : ℕ) → said_of (judged undecided t []) ≡ said_none Undecided t
 unfolding padded no_bytes
 said_undecided t = refl
 
@@ -89,7 +90,7 @@ or_miss unlawful r go e = refl
 or_miss undecided r go e = absurd (omega arith)
 
 module _ (s : List ℕ) (m : ℕ) (x : Place) (r : Ready s m x) where
-  pub at_none : (n i t : ℕ) → i ≡ n → said_none 0 t ≡ said_of (asked_at s m (n - i) x i t)
+  pub at_none : (n i t : ℕ) → i ≡ n → said_none Unlawful t ≡ said_of (asked_at s m (n - i) x i t)
   unfolding asked_at
   at_none n i t e = sym (ap said_of (none_left enough (operations_in s) (last_in s) m n (order_in x) (queue_in s x) i t e) ∙ said_none_lem t)
 

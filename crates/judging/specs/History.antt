@@ -100,3 +100,7 @@ sized s = both (leb 3 (length s)) (both (leb (count_in s) 16) (both (leb (first_
 -- 1, then by operation in turn 9, 13
 unfoldable pub history_answer : List ℕ → Answer
 history_answer s = check (not (sized s)) Length (check (ltb (first_odd s) (count_in s)) (fault_at s (first_odd s)) Taken)
+
+-- the part of it that is asked of a history with as many bytes as it says
+abbrev pub odd_answer : List ℕ → Answer
+odd_answer s = check (ltb (first_odd s) (count_in s)) (fault_at s (first_odd s)) Taken

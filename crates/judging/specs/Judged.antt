@@ -7,7 +7,7 @@ use Rattle.judging.specs.Search as S
 use Rattle.judging.specs.Search.{Judged, judged, enough, searched, asked, judged_of}
 use Rattle.judging.specs.Place.{no_bytes, padded, order_in, queue_in}
 use Rattle.judging.specs.declared.Place.{Place}
-use Rattle.judging.specs.declared.Said.{Said}
+use Rattle.judging.specs.declared.Judgement.{Judgement}
 use Rattle.judging.specs.declared.Verdict.{Verdict}
 use Rattle.judging.specs.declared.Verdict.TheVariants.{Lawful, Unlawful, Undecided}
 
@@ -22,16 +22,22 @@ number_of S.unlawful = 0
 number_of S.lawful = 1
 number_of S.undecided = 2
 
+-- the judge's verdict as the code has it
+abbrev pub verdict_in : S.Verdict → Verdict
+verdict_in S.unlawful = Unlawful
+verdict_in S.lawful = Lawful
+verdict_in S.undecided = Undecided
+
 -- a verdict with its order in sixteen places
-abbrev pub said_of : Judged → Said
-said_of r = record { verdict = number_of r.verdict; tries = r.tries; count = length r.order; order = padded r.order }
+abbrev pub said_of : Judged → Judgement
+said_of r = record { verdict = verdict_in r.verdict; tries = r.tries; count = length r.order; order = padded r.order }
 
 -- a verdict with no order, and one with the order of a place
-abbrev pub said_none : ℕ → ℕ → Said
+abbrev pub said_none : Verdict → ℕ → Judgement
 said_none v t = record { verdict = v; tries = t; count = 0; order = no_bytes }
 
-abbrev pub said_at : Place → ℕ → Said
-said_at x t = record { verdict = 1; tries = t; count = x.count; order = x.order }
+abbrev pub said_at : Place → ℕ → Judgement
+said_at x t = record { verdict = Lawful; tries = t; count = x.count; order = x.order }
 
 -- the search from a place on, m operations not yet taken; and where it is not finished there, k candidates from i on
 unfoldable pub searched_at : List ℕ → ℕ → Place → ℕ → Judged

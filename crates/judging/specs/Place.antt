@@ -1,6 +1,6 @@
 -- Where the search stands, as the code keeps it: the order so far, which operations are taken, the items appended and how many have been taken out again,
 -- and the least answer time of those that are answered and not taken. The order and the queue that a place shows are those of the search.
-use Rattle.std.specs.Prelude.{ℕ, zero, suc, ◌+◌, ◌-◌, ◌*◌, ◌≤◌, ◌<◌, ◌≡◌, Bool, true, false, not, List, ◌++◌, length, get_or, set, take, drop, replicate, eqb, ltb}
+use Rattle.std.specs.Prelude.{ℕ, zero, suc, ◌+◌, ◌-◌, ◌*◌, ◌≤◌, ◌<◌, ◌≡◌, Bool, true, false, not, List, ◌++◌, length, get_or, set, take, drop, replicate, eqb, ltb, Option, Some, None}
 use Rattle.lists.specs.Find.{pick, both, least, any}
 use Rattle.image.specs.Bytes.{at4}
 use Rattle.lawful.specs.Demand3.{Bytes}
@@ -79,6 +79,10 @@ is_eligible s x i =
     pick (eqb (get_or x.taken i 0) 0)
     (pick (ltb x.bar (began_at s i)) false (pick (eqb (kind_at s i) 1) true (gives s x (answer_at s i) (item_at s i))))
     false
+
+-- what a search below n found, or that it found none
+abbrev pub found : ℕ → ℕ → Option ℕ
+found n k = pick (ltb k n) (Some k) None
 
 -- the first eligible operation from i on
 unfoldable pub next_from : List ℕ → Place → ℕ → ℕ

@@ -1,131 +1,102 @@
 // What is asked of a place: whether an operation is eligible, and whether the search is finished.
 ghost use Rattle.std.specs.Prelude.{◌≡◌, ◌+◌, ◌≤◌, ◌<◌, length};
 ghost use Rattle.judging.specs.History.{count_in, first_count};
-ghost use Rattle.judging.specs.Place.{Whole, due, bar_with, bar_below, any_due, is_finished, gives, is_eligible, next_from};
+ghost use Rattle.judging.specs.Place.{due, bar_with, bar_below, any_due, is_finished, gives, is_eligible, next_from, found};
 
-use crate::Place;
-use crate::queues::{is_same, is_there, item_at};
-use crate::reading::{answer_of, began_at, ended_at, item_of, kind_of};
+use crate::reading::History;
+use crate::standing::Standing;
 
-// Whether operation j is answered and not taken.
-fn is_due(h: &[u8], taken: [u8; 16], j: usize) -> bool
-    requires { Whole h.now × (j < count_in h.now) }
-    ensures { result ≡ due h.now taken j }
-{
-    if taken[j] != 0 {
-        return false;
+impl History<'_> {
+    // Whether operation j is answered and not taken.
+    fn is_due(self, taken: [u8; 16], j: usize) -> bool
+        requires { j < count_in self.bytes.now }
+        ensures { result ≡ due self.entry.bytes.now taken j }
+    {
+        taken[j] == 0 && self.answer(j) != 0
     }
-    answer_of(h, j) != 0
-}
 
-// The lesser of a time and operation j's answer time, where that is due.
-fn bar_with(h: &[u8], taken: [u8; 16], j: usize, bar: u64) -> u64
-    requires { Whole h.now × (j < count_in h.now) }
-    ensures { result ≡ bar_with h.now taken j bar }
-{
-    if is_due(h, taken, j) {
-        let ended = ended_at(h, j);
-        if ended < bar {
-            return ended;
+    // The lesser of a time and operation j's answer time, where that is due.
+    #[tactic(auto, unfolding(crate::specs::Place::bar_with))]
+    fn bar_with(self, taken: [u8; 16], j: usize, bar: u64) -> u64
+        requires { j < count_in self.bytes.now }
+        ensures { result ≡ bar_with self.entry.bytes.now taken j bar }
+    {
+        if self.is_due(taken, j) && self.ended(j) < bar {
+            self.ended(j)
+        } else {
+            bar
         }
     }
-    bar
-}
 
-// The least answer time of those that are due.
-pub fn bar_of(h: &[u8], taken: [u8; 16]) -> u64
-    requires { Whole h.now }
-    ensures { result ≡ bar_below h.now taken (count_in h.now) }
-{
-    let n = h[0] as usize;
-    let mut bar = 18446744073709551615u64;
-    let mut j = 0;
-    while j < n {
-        let less = bar_with(h, taken, j, bar);
-        bar = less;
-        j += 1;
-    }
-    bar
-}
-
-fn any_due(h: &[u8], taken: [u8; 16]) -> bool
-    requires { Whole h.now }
-    ensures { result ≡ any_due h.now taken }
-{
-    let n = h[0] as usize;
-    let mut j = 0;
-    while j < n {
-        if is_due(h, taken, j) {
-            return true;
+    // The least answer time of those that are due.
+    #[tactic(auto, unfolding(crate::specs::Place::bar_below))]
+    pub fn bar(self, taken: [u8; 16]) -> u64
+        ensures { result ≡ bar_below self.entry.bytes.now taken (count_in self.entry.bytes.now) }
+    {
+        let mut bar = u64::MAX;
+        for j in 0..self.count() {
+            bar = self.bar_with(taken, j, bar);
         }
-        j += 1;
+        bar
     }
-    false
-}
 
-// Whether every answered operation is taken and the queue is the recovered one.
-pub fn is_finished(h: &[u8], x: Place) -> bool
-    requires { Whole h.now × (x.put ≤ 16) }
-    ensures { result ≡ is_finished h.now x }
-{
-    let taken = x.taken;
-    if any_due(h, taken) {
-        return false;
-    }
-    is_same(h, x)
-}
-
-// Whether a dequeue with answer a and item v fits the queue.
-fn is_given(h: &[u8], x: Place, a: u8, v: u32) -> bool
-    requires { Whole h.now × (x.put ≤ 16) }
-    ensures { result ≡ gives h.now x a v }
-{
-    if a == 0 {
-        return true;
-    }
-    if is_there(h, x) {
-        if a == 5 {
-            return false;
+    #[tactic(auto, using(lists::proofs::FindLaws::any_hit, lists::proofs::FindLaws::any_more), unfolding(lists::specs::Find::any, crate::specs::Place::any_due))]
+    fn any_due(self, taken: [u8; 16]) -> bool
+        ensures { result ≡ any_due self.entry.bytes.now taken }
+    {
+        for j in 0..self.count() {
+            if self.is_due(taken, j) {
+                return true;
+            }
         }
-        let from = x.from as usize;
-        return item_at(h, x, from) == v;
+        false
     }
-    a == 5
 }
 
-// Whether operation i is eligible.
-fn is_eligible(h: &[u8], x: Place, i: usize) -> bool
-    requires { Whole h.now × (x.put ≤ 16) × (i < count_in h.now) }
-    ensures { result ≡ is_eligible h.now x i }
-{
-    if x.taken[i] != 0 {
-        return false;
+impl Standing<'_> {
+    // Whether every answered operation is taken and the queue is the recovered one.
+    #[tactic(auto, unfolding(crate::specs::Place::is_finished))]
+    pub fn is_finished(self) -> bool
+        ensures { result ≡ is_finished self.entry.history.bytes.now self.entry.place }
+    {
+        !self.history.any_due(self.place.taken) && self.is_same()
     }
-    let began = began_at(h, i);
-    if x.bar < began {
-        return false;
-    }
-    let k = kind_of(h, i);
-    if k == 1 {
-        return true;
-    }
-    let a = answer_of(h, i);
-    let v = item_of(h, i);
-    is_given(h, x, a, v)
-}
 
-// The first eligible operation from i on; how many there are where none is.
-pub fn next_eligible(h: &[u8], x: Place, i: usize) -> usize
-    requires { Whole h.now × (x.put ≤ 16) × (i ≤ count_in h.now) }
-    ensures { result ≡ next_from h.now x i }
-{
-    let n = h[0] as usize;
-    let mut j = i;
-    while j < n {
-        if is_eligible(h, x, j) {
-            return j;
+    // Whether a dequeue with answer a and item v fits the queue.
+    #[tactic(auto, unfolding(crate::specs::Place::gives))]
+    fn is_given(self, a: u8, v: u32) -> bool
+        ensures { result ≡ gives self.entry.history.bytes.now self.entry.place a v }
+    {
+        match a {
+            0 => true,
+            5 => !self.is_there(),
+            _ => self.is_there() && self.item(self.place.from as usize) == v,
         }
-        j += 1;
     }
-    j
+
+    // Whether operation i is eligible.
+    #[tactic(auto, unfolding(crate::specs::Place::is_eligible))]
+    fn is_eligible(self, i: usize) -> bool
+        requires { i < count_in self.history.bytes.now }
+        ensures { result ≡ is_eligible self.entry.history.bytes.now self.entry.place i }
+    {
+        self.place.taken[i] == 0
+            && self.history.began(i) <= self.place.bar
+            && (self.history.kind(i) == 1
+                || self.is_given(self.history.answer(i), self.history.item(i)))
+    }
+
+    // The first eligible operation from i on.
+    #[tactic(auto, using(lists::proofs::FindLaws::least_next, crate::proofs::Found::found_at, crate::proofs::Found::found_end), unfolding(crate::specs::Place::next_from))]
+    pub fn next_eligible(self, i: usize) -> Option<usize>
+        requires { i ≤ count_in self.history.bytes.now }
+        ensures { result ≡ found (count_in self.entry.history.bytes.now) (next_from self.entry.history.bytes.now self.entry.place i) }
+    {
+        for j in i..self.history.count() {
+            if self.is_eligible(j) {
+                return Some(j);
+            }
+        }
+        None
+    }
 }

@@ -1,6 +1,6 @@
-// A history's bytes: its numbers, and the parts of an operation.
-ghost use Rattle.std.specs.Prelude.{◌≡◌, ◌+◌, ◌*◌, ◌≤◌, ◌<◌, length};
-ghost use Rattle.judging.specs.History.{count_in, operation_place, kind_at, began_at, ended_at, answer_at, item_at};
+// A history's bytes: its numbers, and the parts of an operation. Kind and answer stay bytes: `judge_history` refuses a wrong one with 9.
+ghost use Rattle.std.specs.Prelude.{◌≡◌, Bool, ◌+◌, ◌*◌, ◌≤◌, ◌<◌, length};
+ghost use Rattle.judging.specs.History.{count_in, first_count, last_count, operation_place, kind_at, began_at, ended_at, answer_at, item_at};
 ghost use Rattle.judging.specs.Place.{Whole};
 
 use codec::{long_at, word_at};
@@ -20,42 +20,53 @@ pub fn operation_at(h: &[u8], i: usize) -> usize
     place_of(h[1], h[2], i)
 }
 
-pub fn kind_of(h: &[u8], i: usize) -> u8
-    requires { Whole h.now × (i < count_in h.now) }
-    ensures { result ≡ kind_at h.now i }
-{
-    let at = operation_at(h, i);
-    h[at]
+// The bytes of a history, as many as its three counts say.
+#[derive(Clone, Copy)]
+pub struct History<'a> {
+    pub bytes: &'a [u8],
+    ghost whole: { Whole bytes.now },
 }
 
-pub fn began_at(h: &[u8], i: usize) -> u64
-    requires { Whole h.now × (i < count_in h.now) }
-    ensures { result ≡ began_at h.now i }
-{
-    let at = operation_at(h, i);
-    long_at(h, at + 1)
-}
+impl History<'_> {
+    // How many operations there are.
+    pub fn count(self) -> usize
+        ensures { result ≡ count_in self.entry.bytes.now }
+    {
+        self.bytes[0] as usize
+    }
 
-pub fn ended_at(h: &[u8], i: usize) -> u64
-    requires { Whole h.now × (i < count_in h.now) }
-    ensures { result ≡ ended_at h.now i }
-{
-    let at = operation_at(h, i);
-    long_at(h, at + 9)
-}
+    pub fn kind(self, i: usize) -> u8
+        requires { i < count_in self.bytes.now }
+        ensures { result ≡ kind_at self.entry.bytes.now i }
+    {
+        self.bytes[operation_at(self.bytes, i)]
+    }
 
-pub fn answer_of(h: &[u8], i: usize) -> u8
-    requires { Whole h.now × (i < count_in h.now) }
-    ensures { result ≡ answer_at h.now i }
-{
-    let at = operation_at(h, i);
-    h[at + 17]
-}
+    pub fn began(self, i: usize) -> u64
+        requires { i < count_in self.bytes.now }
+        ensures { result ≡ began_at self.entry.bytes.now i }
+    {
+        long_at(self.bytes, operation_at(self.bytes, i) + 1)
+    }
 
-pub fn item_of(h: &[u8], i: usize) -> u32
-    requires { Whole h.now × (i < count_in h.now) }
-    ensures { result ≡ item_at h.now i }
-{
-    let at = operation_at(h, i);
-    word_at(h, at + 18)
+    pub fn ended(self, i: usize) -> u64
+        requires { i < count_in self.bytes.now }
+        ensures { result ≡ ended_at self.entry.bytes.now i }
+    {
+        long_at(self.bytes, operation_at(self.bytes, i) + 9)
+    }
+
+    pub fn answer(self, i: usize) -> u8
+        requires { i < count_in self.bytes.now }
+        ensures { result ≡ answer_at self.entry.bytes.now i }
+    {
+        self.bytes[operation_at(self.bytes, i) + 17]
+    }
+
+    pub fn item(self, i: usize) -> u32
+        requires { i < count_in self.bytes.now }
+        ensures { result ≡ item_at self.entry.bytes.now i }
+    {
+        word_at(self.bytes, operation_at(self.bytes, i) + 18)
+    }
 }
