@@ -6,7 +6,7 @@ use mathlib.Core.List.{List}
 use mathlib.Core.Logic.{◌≢◌, ◌⊎◌, inl, inr}
 use native.Mathlib.Omega.{arith}
 use native.Mathlib.Nat.{add-mul, one-mul, mul-le-mul_right}
-use borrow.Author.Tests.{leb-true, eqb-true, eq-eqb, ne_eqb}
+use borrow.Author.Tests.{lt-ltb, le-ltb, leb-true, eqb-true, eq-eqb, ne_eqb}
 use lib.Dec.{leb, ltb, eqb}
 use lib.ListN.{get_or}
 use Rattle.lists.specs.Find.{pick, both, least, any}
@@ -15,8 +15,9 @@ use Rattle.image.specs.Form.{Form, plain, wide, pair, desks, form_of, known, wid
 use Rattle.image.specs.Form.{width_of, top_of, heads_at, node_size, head_lines, header_size, node_place, image_size, per_desk}
 use Rattle.image.specs.Bytes.{at1}
 use Rattle.image.specs.Layout.{content_at, image_shape, marked, form_in, is_image}
-use Rattle.image.specs.Recovered.{too_wide, head_too_wide, first_too_wide}
-use Rattle.image.specs.Refusals.{own_fit}
+use Rattle.image.specs.Recovered.{head_too_wide, first_too_wide}
+use Rattle.answer.specs.Answers.{Taken, Narrow}
+use Rattle.image.specs.Refusals.{own_fit, fitting}
 use Rattle.image.specs.declared.Image.{Image}
 use Rattle.image.specs.declared.Shape.{Shape}
 
@@ -26,9 +27,13 @@ pub top_long : (f : ℕ) → f ≡ 2 → top_of f ≡ 18446744073709551615
 unfolding top_of width_of
 top_long f e = rw e
 
-pub top_pair : (f : ℕ) → f ≡ 3 → top_of f ≡ 18446744073709551615
+pub top_wide : (f : ℕ) → 2 ≤ f → f < 4 → top_of f ≡ 18446744073709551615
 unfolding top_of width_of
-top_pair f e = rw e
+top_wide zero a b = absurd (omega arith)
+top_wide (suc zero) a b = absurd (omega arith)
+top_wide (suc (suc zero)) a b = refl
+top_wide (suc (suc (suc zero))) a b = refl
+top_wide (suc (suc (suc (suc f)))) a b = absurd (omega arith)
 
 pub top_short : (f : ℕ) → f ≢ 2 → f ≢ 3 → top_of f ≡ 4294967295
 unfolding top_of width_of
@@ -61,17 +66,20 @@ known_is f = by (eqb f 1) (eqb f 2) refl refl
     by false true e d h = inr (inl (eqb-true f 2 d))
     by false false e d h = inr (inr (eqb-true f 4 h))
 
-pub known_one : (f : ℕ) → f ≡ 1 → true ≡ known f
+pub known_low : (f : ℕ) → 1 ≤ f → f < 3 → true ≡ known f
 unfolding known
-known_one f e = rw e
+known_low zero a b = absurd (omega arith)
+known_low (suc zero) a b = refl
+known_low (suc (suc zero)) a b = refl
+known_low (suc (suc (suc f))) a b = absurd (omega arith)
 
-pub known_two : (f : ℕ) → f ≡ 2 → true ≡ known f
+pub known_four : (f : ℕ) → f ≡ 4 → true ≡ known f
 unfolding known
-known_two f e = rw e
+known_four f e = rw e
 
-pub known_other : (f : ℕ) → f ≢ 1 → f ≢ 2 → eqb f 4 ≡ known f
+pub known_none : (f : ℕ) → f ≢ 1 → f ≢ 2 → f ≢ 4 → false ≡ known f
 unfolding known
-known_other f a b = rw (ne_eqb f 1 a, ne_eqb f 2 b)
+known_none f a b d = rw (ne_eqb f 1 a, ne_eqb f 2 b, ne_eqb f 4 d)
 
 -- what is so of each of them
 pub by_form : (P : ℕ → Type 0) (f : ℕ) → known f ≡ true → P 1 → P 2 → P 4 → P f
@@ -216,13 +224,27 @@ place_within z i n h =
 
 -- ---- the searches
 
--- node i's index is above the largest
-unfoldable pub wide_at : Image → ℕ → Bool
-wide_at g i = too_wide g (content_at g.nodes i).index
+-- ---- 20
 
-pub too_wide_is : (g : Image) → first_too_wide g ≡ least (wide_at g) g.n 0
-unfolding first_too_wide wide_at
-too_wide_is g = refl
+-- the first index of a node that does not fit, by the largest that was read
+abbrev pub above : ℕ → Image → ℕ → Bool
+above top g i = ltb top (content_at g.nodes i).index
+
+pub too_wide_by : (g : Image) (top : ℕ) → top ≡ top_of g.form → least (above top g) g.n 0 ≡ first_too_wide g
+unfolding first_too_wide
+too_wide_by g top e = rw e refl
+
+pub fitting_head : (g : Image) → head_too_wide g ≡ true → Narrow g.n ≡ fitting g Taken
+unfolding fitting
+fitting_head g e = rw e
+
+pub fitting_node : (g : Image) (i : ℕ) → head_too_wide g ≡ false → first_too_wide g ≡ i → i < g.n → Narrow i ≡ fitting g Taken
+unfolding fitting
+fitting_node g i e f h = rw (e, f, lt-ltb i g.n h)
+
+pub fitting_all : (g : Image) → head_too_wide g ≡ false → g.n ≤ first_too_wide g → Taken ≡ fitting g Taken
+unfolding fitting
+fitting_all g e h = rw (e, le-ltb (first_too_wide g) g.n h)
 
 -- of the head lines, by the numbers that the code asks with
 pub head_wide_by : (g : Image) (top lines : ℕ) (r : Bool) → top ≡ top_of g.form → lines ≡ head_lines (image_shape g)

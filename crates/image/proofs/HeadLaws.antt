@@ -1,13 +1,15 @@
 -- Laws of the head lines' indices.
-use Prim.Native.Nat.{ℕ, zero, suc, ◌+◌, ◌≤◌, ◌<◌}
-use mathlib.Core.Path.{◌≡◌, refl, ap, ◌∙◌}
+use Prim.Native.Nat.{ℕ, zero, suc, ◌≤◌, ◌<◌, max}
+use mathlib.Core.Path.{◌≡◌, refl, sym, ap, ◌∙◌}
 use mathlib.Core.Logic.{◌≢◌}
 use native.Mathlib.Decide.{dec_lt, ℕ_discrete}
 use mathlib.Core.Bool.{true}
 use mathlib.Core.List.{List}
 use native.Mathlib.Omega.{arith}
 use native.Mathlib.Numerals.{add-one}
-use lib.ListN.{length, get_or}
+use lib.ListN.{length, get_or, take}
+use Rattle.std.specs.List.{fold}
+use Rattle.std.proofs.lemmas.List.Sums.{fold_more}
 use lib.Dec.{eqb, leb, ltb}
 use borrow.Author.Tests.{lt-ltb, le-ltb, leb-true, eq-eqb}
 use Rattle.lists.specs.Find.{pick}
@@ -109,13 +111,20 @@ heads_same z x y h = tabs.front_same x y (head_lines z) no_heads h
 
 -- ---- the largest
 
-pub largest_more : (l : List ℕ) (k r : ℕ) → r ≡ largest l k → r < get_or l k 0 → get_or l k 0 ≡ largest l (k + 1)
-unfolding largest
-largest_more l k r e h = rw (add-one, ← e, lt-ltb r (get_or l k 0) h)
+-- a fold over the first n of them
+max_pick : (r x : ℕ) → max r x ≡ pick (ltb r x) x r
+max_pick r x = by (dec_lt r x)
+  where
+    by : Dec (r < x) → max r x ≡ pick (ltb r x) x r
+    by (yes h) = rw (lt-ltb r x h) (omega arith)
+    by (no h) = rw (le-ltb r x (omega arith)) (omega arith)
 
-pub largest_still : (l : List ℕ) (k r : ℕ) → r ≡ largest l k → get_or l k 0 ≤ r → r ≡ largest l (k + 1)
+pub largest_fold : (l : List ℕ) (n : ℕ) → n ≤ length l → fold (λ r x. max r x) 0 (take n l) ≡ largest l n
 unfolding largest
-largest_still l k r e h = rw (add-one, ← e, le-ltb r (get_or l k 0) h)
+largest_fold l zero h = refl
+largest_fold l (suc n) h =
+    ap (λ (k : ℕ). fold (λ r x. max r x) 0 (take k l)) (sym (add-one n)) ∙ fold_more (λ r x. max r x) 0 l n 0 (omega arith)
+    ∙ ap (λ (r : ℕ). max r (get_or l n 0)) (largest_fold l n (omega arith)) ∙ max_pick (largest l n) (get_or l n 0)
 
 -- the largest of as many goes by those alone
 pub largest_same : (l m : List ℕ) (k : ℕ) → ((j : ℕ) → j < k → get_or l j 0 ≡ get_or m j 0) → largest l k ≡ largest m k

@@ -13,26 +13,17 @@ use answer::{Answer, Refusal, Reply};
 pub fn is_known(form: u8) -> bool
     ensures { result ≡ known form }
 {
-    if form == 1 {
-        return true;
-    }
-    if form == 2 {
-        return true;
-    }
-    form == 4
+    matches!(form, 1 | 2 | 4)
 }
 
 // The largest index.
 pub fn top_of(form: u8) -> u64
     ensures { result ≡ top_of form }
 {
-    if form == 2 {
-        return 18446744073709551615;
+    match form {
+        2 | 3 => u64::MAX,
+        _ => u32::MAX as u64,
     }
-    if form == 3 {
-        return 18446744073709551615;
-    }
-    4294967295
 }
 
 // How many bytes an index has.
@@ -40,23 +31,18 @@ pub fn width_of(form: u8) -> usize
     requires { known form ≡ true }
     ensures { result ≡ width_of form }
 {
-    if form == 2 {
-        return 8;
-    }
-    4
+    if form == 2 { 8 } else { 4 }
 }
 
 // How many head lines there are.
 pub fn head_lines(z: Shape) -> usize
     ensures { result ≡ head_lines z }
 {
-    if z.form == 4 {
-        return z.t as usize;
+    match z.form {
+        4 => z.t as usize,
+        3 => 2,
+        _ => 1,
     }
-    if z.form == 3 {
-        return 2;
-    }
-    1
 }
 
 // Where node i begins.
@@ -64,13 +50,11 @@ pub fn place_of(z: Shape, i: usize) -> usize
     requires { (known z.form ≡ true) × (i ≤ 255) }
     ensures { result ≡ node_place z i }
 {
-    if z.form == 2 {
-        return 14 + i * 13;
+    match z.form {
+        2 => 14 + i * 13,
+        4 => 7 + z.t as usize * 4 + i * 9,
+        _ => 10 + i * 9,
     }
-    if z.form == 4 {
-        return 7 + z.t as usize * 4 + i * 9;
-    }
-    10 + i * 9
 }
 
 // How many bytes an image of this shape has.
@@ -93,13 +77,8 @@ pub fn fitting_of(g: Image) -> Answer
         return Err(Refusal::Narrow(g.n as u32));
     }
     let n = g.n as usize;
-    let mut i = 0;
-    while i < n {
-        let v = g.nodes[i];
-        if top < v.index {
-            return Err(Refusal::Narrow(i as u32));
-        }
-        i += 1;
+    if let Some(i) = g.nodes[..n].iter().position(|v| top < v.index) {
+        return Err(Refusal::Narrow(i as u32));
     }
     Ok(Reply::Taken)
 }

@@ -12,17 +12,7 @@ pub fn largest_of(heads: [u64; 8], count: usize) -> u64
     requires { count ≤ 8 }
     ensures { result ≡ largest heads count }
 {
-    let mut r = 0;
-    let mut k = 0;
-    while k < count {
-        let x = heads[k];
-        k += 1;
-        if x <= r {
-            continue;
-        }
-        r = x;
-    }
-    r
+    heads[..count].iter().fold(0, |r, x| u64::max(r, *x))
 }
 
 // The largest of the head lines that there are.
@@ -30,8 +20,7 @@ pub fn head_of(heads: [u64; 8], z: Shape) -> u64
     requires { head_lines z ≤ 8 }
     ensures { result ≡ largest heads (head_lines z) }
 {
-    let count = head_lines(z);
-    largest_of(heads, count)
+    largest_of(heads, head_lines(z))
 }
 
 // Whether one of the first `count` indices is above `top`.
@@ -39,13 +28,5 @@ pub fn any_above(heads: [u64; 8], count: usize, top: u64) -> bool
     requires { count ≤ 8 }
     ensures { result ≡ any (λ k. ltb top (get_or heads k 0)) count }
 {
-    let mut k = 0;
-    while k < count {
-        let x = heads[k];
-        if top < x {
-            return true;
-        }
-        k += 1;
-    }
-    false
+    heads[..count].iter().any(|x| top < *x)
 }

@@ -11,20 +11,14 @@ use answer::{Answer, Refusal, Reply};
 pub fn nodes_fit(n: u8) -> bool
     ensures { result ≡ nodes_fit n }
 {
-    if 2 <= n {
-        return n <= 64;
-    }
-    false
+    (2..=64).contains(&n)
 }
 
 // 4: T is 1 to 8.
 pub fn threads_fit(t: u8) -> bool
     ensures { result ≡ threads_fit t }
 {
-    if 1 <= t {
-        return t <= 8;
-    }
-    false
+    (1..=8).contains(&t)
 }
 
 // 2, 3, and of an image that holds T 4, for its own and where it is not t.
@@ -37,13 +31,8 @@ pub fn shape_of(z: Shape, t: u8) -> Answer
     if !nodes_fit(z.n) {
         return Err(Refusal::Nodes);
     }
-    if z.form == 4 {
-        if !threads_fit(z.t) {
-            return Err(Refusal::Threads);
-        }
-        if z.t != t {
-            return Err(Refusal::Threads);
-        }
+    if z.form == 4 && (!threads_fit(z.t) || z.t != t) {
+        return Err(Refusal::Threads);
     }
     Ok(Reply::Taken)
 }

@@ -1,7 +1,8 @@
 -- What an iterator's `all`, `any` and `position` answer over the first n elements of a list is the definitions' search by number. Assumes nothing.
-use Rattle.std.specs.Prelude.{ℕ, zero, suc, ◌+◌, Option, ◌≤◌, Bool, true, false, not, cond, ◌&&◌, ◌||◌, ◌≡◌, List, [], ◌∷◌, length, get_or, take, Some, None}
+use Rattle.std.specs.Prelude.{ℕ, zero, suc, ◌+◌, Option, ◌≤◌, ◌<◌, Bool, true, false, not, cond, ◌&&◌, ◌||◌, ◌≡◌, List, [], ◌∷◌, length, get_or, take, Some, None}
 use Rattle.std.proofs.Common.{refl, sym, ap, ◌∙◌, arith}
-use lib.Dec.{ltb}
+use lib.Dec.{ltb, eqb}
+use native.Mathlib.Decide.{dec_lt}
 use lib.Seq.{length-take-le}
 use Rattle.std.specs.List.{FoldsTo, list_all, list_any, position, position_or_len}
 use Rattle.std.proofs.iter.Yields.{fronts}
@@ -12,11 +13,11 @@ use Rattle.std.specs.Iterator.{YieldsThen}
 use Rattle.std.specs.Option.{MatchOption, unwrap_or}
 use Rattle.std.specs.Slice.Iter.{iter_rest}
 use Rattle.std.proofs.Common.{Iter}
-use borrow.Author.Tests.{ltb-false}
+use borrow.Author.Tests.{ltb-false, ltb-true, eq-eqb, ne_eqb}
 use denote.Param.Members.{Mut}
 use denote.Ref.{Bor}
 use Rattle.lists.specs.Find.{pick, least, any}
-use Rattle.lists.proofs.FindLaws.{least_shift, least_le}
+use Rattle.lists.proofs.FindLaws.{least_shift, least_le, least_found, least_before, any_hit, any_none}
 
 -- the search from the front on
 any_front : (f : ℕ → Bool) (n : ℕ) → any f (suc n) ≡ pick (f 0) true (any (λ i. f (suc i)) n)
@@ -103,3 +104,25 @@ found_or f n = by (ltb (least f n 0) n) refl
     by : (b : Bool) → ltb (least f n 0) n ≡ b → unwrap_or (cond b (Some (least f n 0)) None) n ≡ least f n 0
     by true e = refl
     by false e = omega (arith, ltb-false _ _ e, least_le f n 0)
+
+-- the two outcomes of `position`, and of `all` by the search
+pub found_some : (f : ℕ → Bool) (n i : ℕ) → cond (ltb (least f n 0) n) (Some (least f n 0)) None ≡ Some i → (least f n 0 ≡ i) × (i < n)
+found_some f n i h = by (ltb (least f n 0) n) refl h
+  where
+    by : (b : Bool) → ltb (least f n 0) n ≡ b → cond b (Some (least f n 0)) None ≡ Some i → (least f n 0 ≡ i) × (i < n)
+    by true e k = let z : least f n 0 ≡ i = cc in (z, omega (arith, ltb-true _ _ e))
+    by false e k = absurd (cc)
+
+pub found_none : (f : ℕ → Bool) (n : ℕ) → cond (ltb (least f n 0) n) (Some (least f n 0)) None ≡ None → n ≤ least f n 0
+found_none f n h = by (ltb (least f n 0) n) refl h
+  where
+    by : (b : Bool) → ltb (least f n 0) n ≡ b → cond b (Some (least f n 0)) None ≡ None → n ≤ least f n 0
+    by true e k = absurd (cc)
+    by false e k = ltb-false _ _ e
+
+pub none_least : (f : ℕ → Bool) (n : ℕ) → not (any f n) ≡ eqb (least f n 0) n
+none_least f n = by (dec_lt (least f n 0) n)
+  where
+    by : Dec (least f n 0 < n) → not (any f n) ≡ eqb (least f n 0) n
+    by (yes h) = rw (any_hit f n (least f n 0) h (least_found f n 0 (omega arith)), ne_eqb (least f n 0) n (omega arith))
+    by (no h) = rw (any_none f n (λ i p. least_before f n 0 i (omega arith) (omega arith)), eq-eqb (least f n 0) n (omega (arith, least_le f n 0)))

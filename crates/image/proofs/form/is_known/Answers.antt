@@ -1,11 +1,15 @@
+use native.Mathlib.Omega.{arith}
 use Rattle.image.proofs.FormLaws as laws
 use Rattle.image.proofs.form.is_known.Goals as goal
 
-pub returns-then-form-eq1 : goal.returns-then-form-eq1
-returns-then-form-eq1 c = laws.known_one _ c.if-form-eq1.true
+pub returns-in_default : goal.returns-in_default
+returns-in_default c = laws.known_none _ (omega arith) (omega arith) (omega arith)
 
-pub returns-then-form-eq2 : goal.returns-then-form-eq2
-returns-then-form-eq2 c = laws.known_two _ c.if-form-eq2.true
+pub returns-in_default-2 : goal.returns-in_default-2
+returns-in_default-2 c = laws.known_none _ (omega arith) (omega arith) (omega arith)
 
-pub returns : goal.returns
-returns c = laws.known_other _ c.if-form-eq1.false c.if-form-eq2.false
+pub returns-in-1 : goal.returns-in-1
+returns-in-1 c = laws.known_four _ (omega arith)
+
+pub returns-in-1-2 : goal.returns-in-1-2
+returns-in-1-2 c = laws.known_low _ (omega arith) (omega arith)

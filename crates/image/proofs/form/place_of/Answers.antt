@@ -1,12 +1,13 @@
 use mathlib.Core.Path.{sym}
+use native.Mathlib.Omega.{arith}
 use Rattle.image.proofs.FormLaws as laws
 use Rattle.image.proofs.form.place_of.Goals as goal
 
-pub returns-then-z-eq2 : goal.returns-then-z-eq2
-returns-then-z-eq2 c = sym (laws.place_wide _ _ c.if-z-eq2.true)
+pub returns-in-2 : goal.returns-in-2
+returns-in-2 c = sym (laws.place_wide _ _ (omega arith))
 
-pub returns-then-z-eq4 : goal.returns-then-z-eq4
-returns-then-z-eq4 c = sym (laws.place_desks _ _ c.if-z-eq4.true)
+pub returns-in-4 : goal.returns-in-4
+returns-in-4 c = sym (laws.place_desks _ _ (omega arith))
 
-pub returns : goal.returns
-returns c = sym (laws.place_plain _ _ c.requires.0 c.if-z-eq2.false c.if-z-eq4.false)
+pub returns-in_default : goal.returns-in_default
+returns-in_default c = sym (laws.place_plain _ _ c.requires.0 (omega arith) (omega arith))

@@ -1,18 +1,16 @@
-use mathlib.Core.Path.{refl, ap, ◌∙◌}
+use Prim.Native.Nat.{ℕ, max}
+use mathlib.Core.Path.{◌≡◌, ◌∙◌}
 use native.Mathlib.Omega.{arith}
-use Rattle.image.specs.Recovered.{largest}
-use Rattle.image.proofs.HeadLaws as laws
+use lib.ListN.{length}
+use borrow.Author.Rules.{rules}
+use borrow.Author.Tests.{tests}
+use Rattle.std.proofs.lemmas.Iterator.{YieldsList-from_slice}
+use Rattle.std.proofs.lemmas.Iterator.Consumers.{fold_from_yields_List}
+use Rattle.image.proofs.HeadLaws.{largest_fold}
 use Rattle.image.proofs.heads.largest_of.Goals as goal
 
-pub loop-k-init : goal.loop-k-init
-unfolding largest
-loop-k-init c = (omega arith, refl)
-
-pub loop-k-preserved-then-x-r : goal.loop-k-preserved-then-x-r
-loop-k-preserved-then-x-r c = (omega arith, laws.largest_still c.args.heads c.loop-k.k c.loop-k.r c.loop-k.invariant.1 (omega arith))
-
-pub loop-k-preserved : goal.loop-k-preserved
-loop-k-preserved c = (omega arith, laws.largest_more c.args.heads c.loop-k.k c.loop-k.r c.loop-k.invariant.1 (omega arith))
-
 pub returns : goal.returns
-returns c = c.loop-k.invariant.1 ∙ ap (largest c.args.heads) (omega arith)
+returns c =
+    let all : length c.args.heads ≡ 8 = search rules in
+    fold_from_yields_List _ (λ (r x : ℕ). max r x) 0 c.fold.result c.fold.ensures.ran (YieldsList-from_slice _ c.iter.ensures.rest) (λ a x b q k. search (rules, tests))
+    ∙ largest_fold c.args.heads c.args.count (omega arith)

@@ -6,6 +6,6 @@ pub returns-then-c-eq1 : goal.returns-then-c-eq1
 unfolding recovered
 returns-then-c-eq1 c = rw (eq-eqb _ _ c.if-c-eq1.true)
 
-pub returns : goal.returns
+pub returns-else-c-eq1 : goal.returns-else-c-eq1
 unfolding recovered
-returns c = rw (ne_eqb _ _ c.if-c-eq1.false)
+returns-else-c-eq1 c = rw (ne_eqb _ _ c.if-c-eq1.false)
