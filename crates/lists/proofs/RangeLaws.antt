@@ -1,16 +1,20 @@
 -- A test of every number below n, as `(0..n).all(..)` and `(0..n).any(..)` make it, is the definitions' search. Assumes nothing.
-use Rattle.std.specs.Prelude.{ℕ, zero, suc, ◌+◌, Bool, true, false, not, ◌&&◌, ◌||◌, ◌≡◌, Option}
-use Rattle.std.proofs.Common.{refl, sym, ap, ◌∙◌, arith, List}
+use Rattle.std.specs.Prelude.{ℕ, zero, suc, ◌+◌, Bool, true, false, not, ◌&&◌, ◌||◌, ◌≡◌, Option, cond, filter, length}
+use Rattle.std.proofs.Common.{refl, sym, ap, ◌∙◌, arith, List, [], ◌∷◌}
 use Rattle.std.proofs.iter.Yields.{nat_range_steps}
 use Rattle.std.proofs.lemmas.Iterator.{YieldsList-from_range}
 use Rattle.std.proofs.lemmas.Iterator.Search.{all_from_yields_List, any_from_yields_List}
-use Rattle.std.specs.Fn.{Called}
-use Rattle.std.specs.Iterator.{YieldsThen}
+use Rattle.std.proofs.lemmas.Iterator.Consumers.{count_from_yields_List, YieldsList-from_filter}
+use Rattle.std.specs.Fn.{Called, CalledAt}
+use Rattle.std.specs.Iterator.{YieldsThen, Drains}
+use Rattle.std.specs.Iterator.Adapters.{filter_source, filter_callee, filter_steps}
 use Rattle.std.specs.List.{FoldsTo, list_all, list_any, range_with_len}
 use Rattle.std.specs.Option.{MatchOption}
 use Rattle.std.specs.declared.ops.Range.{Range}
+use Rattle.std.specs.declared.iter.Filter.{Filter}
 use denote.Param.Members.{Mut}
-use Rattle.lists.specs.Find.{pick, any}
+use denote.Ref.{Bor}
+use Rattle.lists.specs.Find.{pick, any, count}
 
 and_assoc : (a b c : Bool) → a && (b && c) ≡ (a && b) && c
 and_assoc true b c = refl
@@ -83,3 +87,27 @@ module _ {F : Type 0} {g : Mut F (ℕ × Unit {0}) Bool} (test : ℕ → Bool) (
       → s ≡ record { start = 0; end = n } → ((x : ℕ) (b : Bool) (q : F) → Called g f (x, tt) b q → (q ≡ f) × (b ≡ test x)) → r ≡ any test n
   any_ranged ran e each =
       any_from_yields_List test u f r ran (YieldsList-from_range 0 n n e (omega arith)) each ∙ any_below test n
+
+kept_length : (b : Bool) (x : ℕ) (xs : List ℕ) → length (cond b (x ∷ xs) xs) ≡ pick b 1 0 + length xs
+kept_length true x xs = omega arith
+kept_length false x xs = omega arith
+
+filter_more : (test : ℕ → Bool) (a n : ℕ) → length (filter test (range_with_len a (suc n))) ≡ pick (test (a + n)) 1 0 + length (filter test (range_with_len a n))
+filter_more test a zero = let e : a ≡ a + 0 = omega arith in kept_length (test a) a [] ∙ ap (λ k. pick (test k) 1 0 + 0) e
+filter_more test a (suc n) =
+    let e : a + 1 + n ≡ a + suc n = omega arith in
+    let z = filter_more test (a + 1) n in
+    kept_length (test a) a _ ∙ rw (z, kept_length (test a) a (filter test (range_with_len (a + 1) n)), e) (omega arith)
+
+filter_below : (test : ℕ → Bool) (n : ℕ) → length (filter test (range_with_len 0 n)) ≡ count test n
+unfolding count
+filter_below test zero = refl
+filter_below test (suc n) =
+    let e : 0 + n ≡ n = omega arith in
+    filter_more test 0 n ∙ ap (λ k. pick (test k) 1 0 + length (filter test (range_with_len 0 n))) e ∙ ap (λ c. pick (test n) 1 0 + c) (filter_below test n)
+
+-- and of `(0..n).filter(..).count()`
+pub counted_ranged : {F : Type 0} {g : Mut F (Bor ℕ × Unit {0}) Bool} (test : ℕ → Bool) (n : ℕ) (s : Filter (Range ℕ) F) (f : F) (r : ℕ) → (xs : List ℕ) × Drains (filter_steps nat_range_steps g) s xs × (r ≡ length xs)
+    → filter_source s ≡ record { start = 0; end = n } → filter_callee s ≡ f → ((x : ℕ) (b : Bool) (q : F) → CalledAt g f x b q → (q ≡ f) × (b ≡ test x)) → r ≡ count test n
+counted_ranged {F} {g} test n s f r ran e c each =
+    count_from_yields_List s r ran (YieldsList-from_filter g test (YieldsList-from_range 0 n n e (omega arith)) c each) ∙ filter_below test n

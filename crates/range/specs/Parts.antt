@@ -1,18 +1,15 @@
 -- The parts of the test for 18 and of the six counts, as the code takes them: over numbers and elements, and up to a place.
-use Rattle.std.specs.Prelude.{ℕ, ◌+◌, ◌^◌, Bool, true, not, List, get_or, eqb, ltb, leb}
-use Rattle.lists.specs.Find.{pick, both, any, count}
+use Rattle.std.specs.Prelude.{ℕ, ◌^◌, Bool, true, not, List, get_or, eqb, ltb, leb}
+use Rattle.lists.specs.Find.{pick, both}
 use Rattle.image.specs.Form.{per_desk}
 use Rattle.image.specs.Layout.{no_content}
 use Rattle.image.specs.declared.Content.{Content}
 use Rattle.image.specs.Refusals.{nodes_fit, threads_fit}
 use Rattle.machine.specs.Record.{none, thread}
-use Rattle.machine.specs.Stage.{D7, S6, F6, number, own, t, the_head, the_next, uses, stage, stage_of, enqueue_owns, dequeue_owns}
+use Rattle.machine.specs.Stage.{D7, S6, F6, number, own, t, the_head, the_next, uses, stage_of, enqueue_owns, dequeue_owns}
 use Rattle.machine.specs.Range.{is_flag, node_fits, thread_fits, is_index, head_fits, index_fits}
-use Rattle.machine.specs.Place.{in_queue, is_waiting, is_held, in_enqueue, in_dequeue}
 use Rattle.machine.specs.declared.Machine.{Machine}
 use Rattle.machine.specs.declared.Node.{Node}
-use Rattle.machine.specs.declared.Places.{Places}
-use Rattle.range.specs.declared.Hands.{Hands}
 use Rattle.range.specs.declared.Used.{Used}
 
 -- ---- 18
@@ -78,51 +75,3 @@ bad_flush x k fs ws i = not (flush_in x k (get_or fs i no_content) (get_or ws i 
 -- a set that is not one of k threads
 unfoldable pub bad_set : ℕ → List ℕ → ℕ → Bool
 bad_set k ws i = not (ltb (get_or ws i 0) (2 ^ k))
-
--- ---- the six places
-
--- thread k holds node i, owns it by an enqueue, owns it by a dequeue
-unfoldable pub holds : Machine → ℕ → ℕ → Bool
-holds m i k = eqb (thread m k).held i
-
-unfoldable pub enqueues : Machine → ℕ → ℕ → Bool
-enqueues m i k = both (enqueue_owns (stage m k)) (eqb (thread m k).node i)
-
-unfoldable pub dequeues : Machine → ℕ → ℕ → Bool
-dequeues m i k = both (dequeue_owns (stage m k)) (eqb (thread m k).head i)
-
--- whether some thread below c does
-abbrev pub hands_to : Machine → ℕ → ℕ → Hands
-hands_to m i c = record { held = any (holds m i) c; enqueue = any (enqueues m i) c; dequeue = any (dequeues m i) c }
-
-abbrev pub hands_also : Machine → ℕ → ℕ → Hands → Hands
-hands_also m i k h = record {
-  held = pick (holds m i k) true h.held;
-  enqueue = pick (enqueues m i k) true h.enqueue;
-  dequeue = pick (dequeues m i k) true h.dequeue;
-}
-
-abbrev pub hands_of : Machine → ℕ → Hands
-hands_of m i = record { held = is_held m i; enqueue = in_enqueue m i; dequeue = in_dequeue m i }
-
--- the counts over the nodes below c, with the free total f
-abbrev pub places_to : Machine → ℕ → ℕ → Places
-places_to m f c = record {
-  queue = count (in_queue m) c;
-  free = f;
-  waiting = count (is_waiting m) c;
-  held = count (is_held m) c;
-  enqueue = count (in_enqueue m) c;
-  dequeue = count (in_dequeue m) c;
-}
-
--- node i besides
-abbrev pub places_also : Machine → ℕ → Places → Places
-places_also m i p = record {
-  queue = pick (in_queue m i) 1 0 + p.queue;
-  free = p.free;
-  waiting = pick (is_waiting m i) 1 0 + p.waiting;
-  held = pick (is_held m i) 1 0 + p.held;
-  enqueue = pick (in_enqueue m i) 1 0 + p.enqueue;
-  dequeue = pick (in_dequeue m i) 1 0 + p.dequeue;
-}

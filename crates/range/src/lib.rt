@@ -3,13 +3,13 @@
 
 #![tactic(auto)]
 
-ghost use Rattle.std.specs.Prelude.{◌≡◌, Bool, true, false, not, ◌≤◌, ◌<◌, ◌^◌, ltb};
+ghost use Rattle.std.specs.Prelude.{◌≡◌, Bool, true, false, not, ◌≤◌, ◌<◌, ◌^◌, ltb, eqb};
 ghost use Rattle.lists.specs.Find.{any};
-ghost use Rattle.machine.specs.Range.{ranges_fit, in_range, thread_fits};
+ghost use Rattle.machine.specs.Range.{ranges_fit, in_range, thread_fits, next_fits};
 ghost use Rattle.range.specs.Parts.{bad_node, bad_thread, sizes_in, ends_in, link_in, read_in, node_in, step_in, used_by};
 
 use image::Content;
-use machine::{Machine, Node};
+use machine::{Machine, Node, Thread};
 
 mod flushes;
 mod indices;
@@ -30,55 +30,32 @@ pub struct Used {
     pub dequeue: bool,
 }
 
-// Whether some thread holds a node, owns it by an enqueue, owns it by a dequeue.
-#[derive(Clone, Copy)]
-pub struct Hands {
-    pub held: bool,
-    pub enqueue: bool,
-    pub dequeue: bool,
-}
-
 // N is 2 to 64, T is 1 to 8.
 fn sizes_fit(n: u8, t: u8) -> bool
     ensures { result ≡ sizes_in n t }
 {
-    if !image::nodes_fit(n) {
-        return false;
-    }
-    image::threads_fit(t)
+    image::nodes_fit(n) && image::threads_fit(t)
 }
 
 // Head, Tail and the one last handed out are nodes.
 fn ends_fit(n: u8, head: u8, tail: u8, last: u8) -> bool
     ensures { result ≡ ends_in n head tail last }
 {
-    if n <= head {
-        return false;
-    }
-    if n <= tail {
-        return false;
-    }
-    last < n
+    head < n && tail < n && last < n
 }
 
 // A node number, or none.
 fn is_link(n: u8, x: u8) -> bool
     ensures { result ≡ link_in n x }
 {
-    if x == 255 {
-        return true;
-    }
-    x < n
+    x == 255 || x < n
 }
 
 // What a step uses is a node; what it does not may be none.
 fn read_fits(n: u8, used: bool, x: u8) -> bool
     ensures { result ≡ read_in n used x }
 {
-    if used {
-        return x < n;
-    }
-    is_link(n, x)
+    if used { x < n } else { is_link(n, x) }
 }
 
 // The set x has numbers below n only: 2 to the 64th does not fit a word, so that one stands apart.
@@ -86,88 +63,118 @@ fn set_fits(x: u64, n: u8) -> bool
     requires { n ≤ 64 }
     ensures { result ≡ ltb x (2 ^ n) }
 {
-    if n == 64 {
-        return true;
-    }
-    x < (1u64 << n)
+    n == 64 || x < (1u64 << n)
 }
 
 fn node_fits(n: u8, t: u8, v: Node, p: Content) -> bool
     requires { t ≤ 8 }
     ensures { result ≡ node_in n t v p }
 {
-    if !is_link(n, v.next) {
-        return false;
-    }
-    if 1 < v.linked {
-        return false;
-    }
-    if 1 < p.linked {
-        return false;
-    }
-    set_fits(v.waits as u64, t)
+    is_link(n, v.next) && v.linked <= 1 && p.linked <= 1 && set_fits(v.waits as u64, t)
 }
 
 fn nodes_fit(m: Machine) -> bool
     requires { (m.n ≤ 64) × (m.t ≤ 8) }
     ensures { result ≡ not (any (bad_node m) m.n) }
 {
-    let n = m.n as usize;
-    let mut i = 0;
-    while i < n {
-        if !node_fits(m.n, m.t, m.nodes[i], m.kept[i]) {
-            return false;
-        }
-        i += 1;
-    }
-    true
+    (0..m.n as usize).all(|i| node_fits(m.n, m.t, m.nodes[i], m.kept[i]))
 }
 
-// The step number decides. The columns: the step uses the thread's own node, t, the head read, the next read;
-// its enqueue owns the node (before its A8), its dequeue owns the head read (between D4 and D7). 20 and 21 are S3 and S6, 22 to 24 F10, F3 and F6.
+// A step that uses none of the four, of an operation that owns no node.
+const NOTHING: Used = Used {
+    own: false,
+    tail: false,
+    head: false,
+    next: false,
+    enqueue: false,
+    dequeue: false,
+};
+
+// The step number decides: which of the thread's own node, t, the head read and the next read the step uses;
+// its enqueue owns the node (before its A8), its dequeue owns the head read (between D4 and D7).
 pub fn used_by(s: u8) -> Used
     ensures { result ≡ used_by s }
 {
     match s {
-        0 => uses(false, false, false, false, false, false),
-        1 => uses(false, false, false, false, false, false),
-        2 => uses(true, false, false, false, true, false),
-        3 => uses(true, false, false, false, true, false),
-        4 => uses(true, false, false, false, true, false),
-        5 => uses(false, false, false, false, true, false),
-        6 => uses(false, true, false, false, true, false),
-        7 => uses(true, true, false, false, true, false),
-        8 => uses(true, true, false, false, true, false),
-        9 => uses(true, false, false, false, false, false),
-        10 => uses(true, false, false, false, false, false),
-        11 => uses(true, true, false, false, false, false),
-        12 => uses(false, true, false, false, true, false),
-        13 => uses(false, false, false, false, false, false),
-        14 => uses(false, false, true, false, false, false),
-        15 => uses(false, false, false, false, false, false),
-        16 => uses(false, false, true, true, false, false),
-        17 => uses(false, false, false, true, false, true),
-        18 => uses(false, false, false, false, false, true),
-        19 => uses(false, false, true, false, false, true),
-        20 => uses(false, false, true, false, false, false),
-        21 => uses(false, false, false, true, false, true),
-        22 => uses(true, false, false, false, false, false),
-        23 => uses(false, false, false, false, false, false),
-        24 => uses(false, false, false, false, false, true),
-        25..=255 => uses(false, false, false, false, false, false),
-    }
-}
-
-fn uses(own: bool, tail: bool, head: bool, next: bool, enqueue: bool, dequeue: bool) -> Used
-    ensures { result ≡ record { own = own; tail = tail; head = head; next = next; enqueue = enqueue; dequeue = dequeue } }
-{
-    Used {
-        own,
-        tail,
-        head,
-        next,
-        enqueue,
-        dequeue,
+        0 | Machine::A1 => NOTHING,
+        Machine::A2 | Machine::A3 | Machine::A4 => Used {
+            own: true,
+            enqueue: true,
+            ..NOTHING
+        },
+        Machine::A5 => Used {
+            enqueue: true,
+            ..NOTHING
+        },
+        Machine::A6 => Used {
+            tail: true,
+            enqueue: true,
+            ..NOTHING
+        },
+        Machine::A7 | Machine::A8 => Used {
+            own: true,
+            tail: true,
+            enqueue: true,
+            ..NOTHING
+        },
+        Machine::A9 | Machine::A10 => Used {
+            own: true,
+            ..NOTHING
+        },
+        Machine::A11 => Used {
+            own: true,
+            tail: true,
+            ..NOTHING
+        },
+        Machine::A12 => Used {
+            tail: true,
+            enqueue: true,
+            ..NOTHING
+        },
+        Machine::F10 => Used {
+            own: true,
+            ..NOTHING
+        },
+        Machine::D1 => NOTHING,
+        Machine::D2 => Used {
+            head: true,
+            ..NOTHING
+        },
+        Machine::S3 => Used {
+            head: true,
+            ..NOTHING
+        },
+        Machine::D3 => NOTHING,
+        Machine::F3 => NOTHING,
+        Machine::D4 => Used {
+            head: true,
+            next: true,
+            ..NOTHING
+        },
+        Machine::D5 => Used {
+            next: true,
+            dequeue: true,
+            ..NOTHING
+        },
+        Machine::S6 => Used {
+            next: true,
+            dequeue: true,
+            ..NOTHING
+        },
+        Machine::D6 => Used {
+            dequeue: true,
+            ..NOTHING
+        },
+        Machine::F6 => Used {
+            dequeue: true,
+            ..NOTHING
+        },
+        Machine::D7 => Used {
+            head: true,
+            dequeue: true,
+            ..NOTHING
+        },
+        _ => NOTHING,
     }
 }
 
@@ -176,91 +183,58 @@ fn is_step(form: u8, s: u8) -> bool
     ensures { result ≡ step_in form s }
 {
     if s <= Machine::D7 {
-        return true;
+        true
+    } else if s <= Machine::S6 {
+        form == 4
+    } else {
+        s <= Machine::F6
     }
-    if s <= Machine::S6 {
-        return form == 4;
-    }
-    s <= Machine::F6
+}
+
+// At A12 t's next is a node.
+fn after_fits(m: Machine, v: Thread) -> bool
+    requires { (m.n ≤ 64) × (v.step ≡ 12 → v.tail < m.n) }
+    ensures { result ≡ next_fits m (eqb v.step 12) v.tail }
+{
+    v.step != Machine::A12 || m.nodes[v.tail as usize].next != 255
 }
 
 fn thread_fits(m: Machine, k: usize) -> bool
     requires { (k < 8) × (m.n ≤ 64) }
     ensures { result ≡ thread_fits m k }
 {
-    let threads = m.threads;
-    let v = threads[k];
+    let v = m.threads[k];
     let u = used_by(v.step);
-    if !is_step(m.form, v.step) {
-        return false;
-    }
-    if !read_fits(m.n, u.own, v.node) {
-        return false;
-    }
-    if !read_fits(m.n, u.tail, v.tail) {
-        return false;
-    }
-    if !read_fits(m.n, u.head, v.head) {
-        return false;
-    }
-    if !read_fits(m.n, u.next, v.next) {
-        return false;
-    }
-    if !is_link(m.n, v.held) {
-        return false;
-    }
-    if v.step == 12 {
-        let t = v.tail as usize;
-        let nodes = m.nodes;
-        let w = nodes[t];
-        return w.next != 255;
-    }
-    true
+    is_step(m.form, v.step)
+        && read_fits(m.n, u.own, v.node)
+        && read_fits(m.n, u.tail, v.tail)
+        && read_fits(m.n, u.head, v.head)
+        && read_fits(m.n, u.next, v.next)
+        && is_link(m.n, v.held)
+        && after_fits(m, v)
 }
 
 fn threads_fit(m: Machine) -> bool
     requires { (m.n ≤ 64) × (m.t ≤ 8) }
     ensures { result ≡ not (any (bad_thread m) m.t) }
 {
-    let t = m.t as usize;
-    let mut k = 0;
-    while k < t {
-        if !thread_fits(m, k) {
-            return false;
-        }
-        k += 1;
-    }
-    true
+    (0..m.t as usize).all(|k| thread_fits(m, k))
 }
 
 // N, T, every node, thread and step number and every set is in range, and each thread's next step has the nodes it uses.
 fn ranges_fit(m: Machine) -> bool
     ensures { result ≡ ranges_fit m }
 {
-    if !sizes_fit(m.n, m.t) {
-        return false;
-    }
-    if !ends_fit(m.n, m.head, m.tail, m.last) {
-        return false;
-    }
-    if !set_fits(m.free, m.n) {
-        return false;
-    }
-    if !nodes_fit(m) {
-        return false;
-    }
-    threads_fit(m)
+    sizes_fit(m.n, m.t)
+        && ends_fit(m.n, m.head, m.tail, m.last)
+        && set_fits(m.free, m.n)
+        && nodes_fit(m)
+        && threads_fit(m)
 }
 
 // 18: all of that, a form that is read, every index within its width, and what is known of flushes.
 pub fn in_range(m: Machine) -> bool
     ensures { result ≡ in_range m }
 {
-    if !ranges_fit(m) {
-        return false;
-    }
-    if !form_fits(m) {
-        return false;
-    }
-    flushes_fit(m)
+    ranges_fit(m) && form_fits(m) && flushes_fit(m)
 }

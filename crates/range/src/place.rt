@@ -1,40 +1,10 @@
 // The six places of a node, and how many nodes are in each.
-ghost use Rattle.std.specs.Prelude.{◌≡◌, Bool, true, false, not, ◌+◌, ◌≤◌, ◌<◌};
-ghost use Rattle.lists.specs.Find.{pick, both};
+ghost use Rattle.std.specs.Prelude.{◌≡◌, true, ◌≤◌};
 ghost use Rattle.machine.specs.Range.{in_range};
-ghost use Rattle.machine.specs.Place.{in_queue, places_of};
-ghost use Rattle.range.specs.Parts.{hands_of, hands_also, places_to, places_also};
+ghost use Rattle.machine.specs.Place.{in_queue, is_waiting, is_held, in_enqueue, in_dequeue, placed, places_of};
 
-use crate::{Hands, used_by};
+use crate::used_by;
 use machine::{Machine, Places};
-
-fn more(x: u8, yes: bool) -> u8
-    requires { x < 255 }
-    ensures { result ≡ pick yes 1 0 + x }
-{
-    if yes {
-        return x + 1;
-    }
-    x
-}
-
-fn either(a: bool, b: bool) -> bool
-    ensures { result ≡ pick a true b }
-{
-    if a {
-        return true;
-    }
-    b
-}
-
-fn together(a: bool, b: bool) -> bool
-    ensures { result ≡ both a b }
-{
-    if a {
-        return b;
-    }
-    false
-}
 
 // Along the links from Head's node, N moves at most.
 fn in_queue(m: Machine, i: usize) -> bool
@@ -57,65 +27,62 @@ fn in_queue(m: Machine, i: usize) -> bool
     x == i
 }
 
-// What is known of the threads before k, and thread k besides.
-fn hands_also(m: Machine, i: usize, k: usize, h: Hands) -> Hands
-    requires { k < 8 }
-    ensures { result ≡ hands_also m i k h }
-{
-    let v = m.threads[k];
-    let u = used_by(v.step);
-    let held = either(v.held as usize == i, h.held);
-    let e = together(u.enqueue, v.node as usize == i);
-    let enqueue = either(e, h.enqueue);
-    let d = together(u.dequeue, v.head as usize == i);
-    let dequeue = either(d, h.dequeue);
-    Hands {
-        held,
-        enqueue,
-        dequeue,
-    }
-}
-
-fn hands_of(m: Machine, i: usize) -> Hands
+// Some thread holds node i, owns it by an enqueue, owns it by a dequeue.
+fn is_held(m: Machine, i: usize) -> bool
     requires { m.t ≤ 8 }
-    ensures { result ≡ hands_of m i }
+    ensures { result ≡ is_held m i }
 {
-    let t = m.t as usize;
-    let mut h = Hands {
-        held: false,
-        enqueue: false,
-        dequeue: false,
-    };
-    let mut k = 0;
-    while k < t {
-        let g = hands_also(m, i, k, h);
-        h = g;
-        k += 1;
-    }
-    h
+    (0..m.t as usize).any(|k| m.threads[k].held as usize == i)
 }
 
-// The counts up to node i, and node i besides.
-fn placed_also(m: Machine, i: usize, p: Places) -> Places
-    requires { (in_range m ≡ true) × ((i < m.n) × (p ≡ places_to m p.free i)) }
-    ensures { result ≡ places_also m i p }
+fn in_enqueue(m: Machine, i: usize) -> bool
+    requires { m.t ≤ 8 }
+    ensures { result ≡ in_enqueue m i }
 {
-    let h = hands_of(m, i);
-    let q = in_queue(m, i);
-    let v = m.nodes[i];
-    let queue = more(p.queue, q);
-    let waiting = more(p.waiting, v.waits != 0);
-    let held = more(p.held, h.held);
-    let enqueue = more(p.enqueue, h.enqueue);
-    let dequeue = more(p.dequeue, h.dequeue);
-    Places {
-        queue,
-        free: p.free,
-        waiting,
-        held,
-        enqueue,
-        dequeue,
-    }
+    (0..m.t as usize).any(|k| used_by(m.threads[k].step).enqueue && m.threads[k].node as usize == i)
+}
+
+fn in_dequeue(m: Machine, i: usize) -> bool
+    requires { m.t ≤ 8 }
+    ensures { result ≡ in_dequeue m i }
+{
+    (0..m.t as usize).any(|k| used_by(m.threads[k].step).dequeue && m.threads[k].head as usize == i)
+}
+
+// How many nodes wait for some thread, are held, owned by an enqueue, owned by a dequeue.
+fn waiting(m: Machine) -> usize
+    requires { m.n ≤ 64 }
+    ensures { result ≡ placed is_waiting m }
+{
+    (0..m.n as usize).filter(|i| m.nodes[*i].waits != 0).count()
+}
+
+fn held(m: Machine) -> usize
+    requires { m.t ≤ 8 }
+    ensures { result ≡ placed is_held m }
+{
+    (0..m.n as usize).filter(|i| is_held(m, *i)).count()
+}
+
+fn enqueued(m: Machine) -> usize
+    requires { m.t ≤ 8 }
+    ensures { result ≡ placed in_enqueue m }
+{
+    (0..m.n as usize).filter(|i| in_enqueue(m, *i)).count()
+}
+
+fn dequeued(m: Machine) -> usize
+    requires { m.t ≤ 8 }
+    ensures { result ≡ placed in_dequeue m }
+{
+    (0..m.n as usize).filter(|i| in_dequeue(m, *i)).count()
+}
+
+fn queued(m: Machine) -> usize
+    requires { in_range m ≡ true }
+    ensures { result ≡ placed in_queue m }
+{
+    (0..m.n as usize).filter(|i| in_queue(m, *i)).count()
 }
 
 // The free total is the count of ones; the other five are counted node by node.
@@ -123,21 +90,12 @@ pub fn places_of(m: Machine) -> Places
     requires { in_range m ≡ true }
     ensures { result ≡ places_of m }
 {
-    let n = m.n as usize;
-    let free = bits::total(m.free) as u8;
-    let mut p = Places {
-        queue: 0,
-        free,
-        waiting: 0,
-        held: 0,
-        enqueue: 0,
-        dequeue: 0,
-    };
-    let mut i = 0;
-    while i < n {
-        let q = placed_also(m, i, p);
-        p = q;
-        i += 1;
+    Places {
+        queue: queued(m) as u8,
+        free: bits::total(m.free) as u8,
+        waiting: waiting(m) as u8,
+        held: held(m) as u8,
+        enqueue: enqueued(m) as u8,
+        dequeue: dequeued(m) as u8,
     }
-    p
 }

@@ -1,15 +1,12 @@
-use borrow.Author.Tests.{le-leb, lt-leb}
+use Rattle.std.proofs.Common.{arith}
+use Rattle.std.proofs.lemmas.Grind.{common_steps}
 use Rattle.range.specs.Parts.{flush_in}
 use Rattle.range.proofs.flushes.flush_fits.Goals as goal
 
-pub returns-then-c-gt1 : goal.returns-then-c-gt1
+pub returns-then-c-top : goal.returns-then-c-top
 unfolding flush_in
-returns-then-c-gt1 c = rw (lt-leb _ _ c.if-c-gt1.true)
+returns-then-c-top c = grind (arith, common_steps)
 
-pub returns-then-top-c : goal.returns-then-top-c
+pub returns-else-c-top : goal.returns-else-c-top
 unfolding flush_in
-returns-then-top-c c = rw (le-leb _ _ c.if-c-gt1.false, lt-leb _ _ c.if-top-c.true)
-
-pub returns : goal.returns
-unfolding flush_in
-returns c = rw (le-leb _ _ c.if-c-gt1.false, le-leb _ _ c.if-top-c.false) c.set_fits.ensures
+returns-else-c-top c = grind (arith, common_steps)

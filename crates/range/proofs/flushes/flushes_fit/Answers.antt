@@ -1,16 +1,23 @@
-use borrow.Author.Tests.{not-true, not-false}
+use Rattle.std.proofs.Common.{arith, ◌≤◌, length}
+use Rattle.std.proofs.lemmas.Grind.{common_steps}
+use Rattle.image.specs.Form.{head_lines}
 use Rattle.image.proofs.HeadLaws.{lines_few}
-use Rattle.range.proofs.Narrow as laws
+use Rattle.machine.specs.Line.{shape_of}
+use Rattle.range.proofs.Narrow.{flushes_by, sets_by}
 use Rattle.range.proofs.flushes.flushes_fit.Goals as goal
 
-pub returns-then-not-threads_flushed : goal.returns-then-not-threads_flushed
-returns-then-not-threads_flushed c = rw (laws.flushes_by c.args.m, ← c.top_of-top.ensures, ← c.threads_flushed.ensures, not-true c.threads_flushed.result c.if-not-threads_flushed.true-raw)
+pub shared_ref_as_front-sets_fit : goal.shared_ref_as_front-sets_fit
+shared_ref_as_front-sets_fit c = rw (c.head_lines-lines.ensures, c.shape.ensures) (lines_few _ c.requires.1)
 
-pub heads_over-requires : goal.heads_over-requires
-heads_over-requires c = let p = c.requires in (rw c.head_lines-lines.ensures (lines_few _ p.1), p.1)
+pub returns-then-sets_fit : goal.returns-then-sets_fit
+returns-then-sets_fit c =
+    let m = c.args.m in
+    let heads : head_lines (shape_of m) ≤ length m.over_heads = omega (arith, lines_few (shape_of m) c.requires.1) in
+    let nodes : m.n ≤ length m.over = omega (arith, c.requires.0) in
+    rw (flushes_by m, ← sets_by m.t (head_lines (shape_of m)) m.over_heads heads, ← sets_by m.t m.n m.over nodes) (grind (arith, common_steps))
 
-pub returns-then-not-heads_over : goal.returns-then-not-heads_over
-returns-then-not-heads_over c = rw (laws.flushes_by c.args.m, ← c.top_of-top.ensures, ← c.threads_flushed.ensures, not-false c.threads_flushed.result c.if-not-threads_flushed.false-raw, ← c.head_lines-lines.ensures, ← c.heads_over.ensures, not-true c.heads_over.result c.if-not-heads_over.true-raw)
-
-pub returns : goal.returns
-returns c = rw (laws.flushes_by c.args.m, ← c.top_of-top.ensures, ← c.threads_flushed.ensures, not-false c.threads_flushed.result c.if-not-threads_flushed.false-raw, ← c.head_lines-lines.ensures, ← c.heads_over.ensures, not-false c.heads_over.result c.if-not-heads_over.false-raw) c.nodes_over.ensures
+pub returns-else-sets_fit : goal.returns-else-sets_fit
+returns-else-sets_fit c =
+    let m = c.args.m in
+    let heads : head_lines (shape_of m) ≤ length m.over_heads = omega (arith, lines_few (shape_of m) c.requires.1) in
+    rw (flushes_by m, ← sets_by m.t (head_lines (shape_of m)) m.over_heads heads) (grind (arith, common_steps))

@@ -1,33 +1,44 @@
-use Prim.Native.Nat.{ℕ}
-use mathlib.Core.Path.{◌≡◌, sym, ap, ◌∙◌}
-use native.Mathlib.Omega.{arith}
-use Rattle.machine.specs.declared.Places.{Places}
+use Rattle.std.proofs.Common.{arith}
 use Rattle.lists.specs.Word.{has}
-use Rattle.range.specs.Parts.{places_to, places_also}
-use Rattle.range.proofs.InRange as range
-use Rattle.range.proofs.Counts as laws
+use Rattle.lists.proofs.WordLaws as words
+use Rattle.machine.specs.Place.{is_waiting, is_held, in_enqueue, in_dequeue, in_queue, places_of}
+use Rattle.range.proofs.InRange.{in_range_lem}
+use Rattle.range.proofs.Counts.{count_le}
 use Rattle.range.proofs.place.places_of.Goals as goal
 
-pub overflow_cast-free : goal.overflow_cast-free
-overflow_cast-free c = omega (arith, c.total-free.ensures, laws.count_le (has c.args.m.free) 64)
+pub overflow_cast-result : goal.overflow_cast-result
+overflow_cast-result c = omega (arith, c.queued.ensures, count_le (in_queue c.args.m) c.args.m.n, (in_range_lem _ c.requires).sizes.nodes_high)
 
-pub loop-i-init : goal.loop-i-init
-loop-i-init c = (omega arith, sym (laws.places_none c.args.m _))
+pub overflow_cast-result-2 : goal.overflow_cast-result-2
+overflow_cast-result-2 c = omega (arith, c.total.ensures, count_le (has c.args.m.free) 64)
 
-pub placed_also-q-requires : goal.placed_also-q-requires
-placed_also-q-requires c =
-    let m = c.args.m in
-    let f = sym (ap (λ (x : Places). x.free) c.loop-i.invariant.1) in
-    (c.requires, (omega arith, c.loop-i.invariant.1 ∙ ap (λ (x : ℕ). places_to m x c.loop-i.i) f))
+pub waiting-requires : goal.waiting-requires
+waiting-requires c = (in_range_lem _ c.requires).sizes.nodes_high
 
-pub loop-i-preserved : goal.loop-i-preserved
-loop-i-preserved c =
-    let m = c.args.m in
-    (omega arith, c.placed_also-q.ensures ∙ ap (places_also m c.loop-i.i) c.loop-i.invariant.1 ∙ sym (laws.places_next m _ c.loop-i.i))
+pub overflow_cast-result-3 : goal.overflow_cast-result-3
+overflow_cast-result-3 c = omega (arith, c.waiting.ensures, count_le (is_waiting c.args.m) c.args.m.n, (in_range_lem _ c.requires).sizes.nodes_high)
+
+pub held-requires : goal.held-requires
+held-requires c = (in_range_lem _ c.requires).sizes.threads_high
+
+pub overflow_cast-result-4 : goal.overflow_cast-result-4
+overflow_cast-result-4 c = omega (arith, c.held.ensures, count_le (is_held c.args.m) c.args.m.n, (in_range_lem _ c.requires).sizes.nodes_high)
+
+pub enqueued-requires : goal.enqueued-requires
+enqueued-requires c = (in_range_lem _ c.requires).sizes.threads_high
+
+pub overflow_cast-result-5 : goal.overflow_cast-result-5
+overflow_cast-result-5 c = omega (arith, c.enqueued.ensures, count_le (in_enqueue c.args.m) c.args.m.n, (in_range_lem _ c.requires).sizes.nodes_high)
+
+pub dequeued-requires : goal.dequeued-requires
+dequeued-requires c = (in_range_lem _ c.requires).sizes.threads_high
+
+pub overflow_cast-result-6 : goal.overflow_cast-result-6
+overflow_cast-result-6 c = omega (arith, c.dequeued.ensures, count_le (in_dequeue c.args.m) c.args.m.n, (in_range_lem _ c.requires).sizes.nodes_high)
 
 pub returns : goal.returns
+unfolding places_of
 returns c =
     let m = c.args.m in
-    let f = range.in_range_lem m c.requires in
-    let e : c.loop-i.i ≡ m.n = omega arith in
-    c.loop-i.invariant.1 ∙ ap (places_to m _) e ∙ ap (λ (x : ℕ). places_to m x m.n) c.total-free.ensures ∙ laws.places_all m f.sizes.nodes_high f.free
+    let f = in_range_lem m c.requires in
+    rw (c.queued.ensures, c.waiting.ensures, c.held.ensures, c.enqueued.ensures, c.dequeued.ensures, c.total.ensures, words.count_narrow m.n 64 m.free f.free f.sizes.nodes_high)
