@@ -5,15 +5,13 @@
 fn main(rt: HostRuntime) {
     // The longest schedule has 25,430 bytes: what is longer than this is refused as its first part is.
     let mut s = [0u8; 32768];
-    let got = stream::fill(&mut rt.stdin(), &mut s);
-    if got.failed {
+    let Ok(bytes) = stream::fill(&mut rt.stdin(), &mut s) else {
         let _ = eprintln!(rt;
             "endings: standard input could not be read to its end, no page is printed"
         );
         return;
-    }
+    };
     let mut b = [0u8; 65536];
-    let bytes = got.bytes;
     let printed = printer::print_page(&mut rt.stdout(), &s[..bytes], &mut b);
     if !printed.whole {
         let _ = eprintln!(rt; "endings: standard output took no more, the page is not whole");

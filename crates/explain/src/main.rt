@@ -246,16 +246,14 @@ fn main(rt: HostRuntime) {
     }
     // The longest schedule has 25,430 bytes: what is longer than this is refused as its first part is.
     let mut s = [0u8; 32768];
-    let got = stream::fill(&mut rt.stdin(), &mut s);
-    if got.failed {
+    let Ok(bytes) = stream::fill(&mut rt.stdin(), &mut s) else {
         let _ = eprintln!(rt;
             "explain: standard input could not be read to its end, nothing is printed"
         );
         return;
-    }
+    };
     let mut out = Output::new(rt.stdout());
     let mut book = [0u64; 10328];
-    let bytes = got.bytes;
     let at = explained(&mut out, how, &mut book, &s[..bytes]);
     finish(&out, at);
 }

@@ -10,58 +10,34 @@ ghost use Rattle.std.specs.Prelude.{◌≤◌, length};
 use printer::print_page;
 use progress::{say, tell_done, tell_end};
 use std::io::{Read, Write};
-use stream::next_item;
+use stream::{Cut, next_item};
 
-// Whether a page was printed whole, and how many refusals there are with it.
-#[derive(Clone, Copy)]
-struct Turn {
-    more: bool,
-    refused: u64,
-}
-
-fn one_more(refused: u64, more: bool) -> u64 {
-    if !more {
-        return refused;
-    }
-    if refused == u64::MAX {
-        return refused;
-    }
-    refused + 1
-}
-
-// The page of the next schedule.
+// The page of the next schedule; whether it is a refusal, none where no page was printed whole.
 fn print_next(
     rt: &impl Eprint,
     input: &mut impl Read,
     out: &mut impl Write,
     s: &mut [u8],
     b: &mut [u8],
-    refused: u64,
-) -> Turn
+) -> Option<bool>
     requires { (731 ≤ length b.old) × (length b.old ≤ 65536) }
 {
-    let next = next_item(input, s);
-    if !next.there {
-        if next.cut {
+    let kept = match next_item(input, s) {
+        Ok(item) => item?,
+        Err(Cut) => {
             say(
                 rt,
                 "many: the input ends within a schedule, or a read failed\n",
             );
+            return None;
         }
-        return Turn {
-            more: false,
-            refused,
-        };
-    }
-    let kept = next.kept;
+    };
     let printed = print_page(out, &s[..kept], b);
     if !printed.whole {
         say(rt, "many: standard output took no more\n");
+        return None;
     }
-    Turn {
-        more: printed.whole,
-        refused: one_more(refused, printed.refused),
-    }
+    Some(printed.refused)
 }
 
 // How many pages were printed, and how many of them are refusals.
@@ -81,18 +57,18 @@ fn print_all(
 ) -> Totals
     requires { (731 ≤ length b.old) × (length b.old ≤ 65536) }
 {
-    let mut done: u64 = 0;
-    let mut refused: u64 = 0;
-    while done < u64::MAX {
-        let turn = print_next(rt, input, out, s, b, refused);
-        if !turn.more {
-            return Totals { done, refused };
+    let mut refused = 0;
+    for done in 0..u64::MAX {
+        match print_next(rt, input, out, s, b) {
+            Some(is_refusal) => refused += u64::from(is_refusal),
+            None => return Totals { done, refused },
         }
-        refused = turn.refused;
-        done += 1;
-        tell_done(rt, done);
+        tell_done(rt, done + 1);
     }
-    Totals { done, refused }
+    Totals {
+        done: u64::MAX,
+        refused,
+    }
 }
 
 fn main(rt: HostRuntime) {

@@ -30,16 +30,14 @@ fn print_plain(rt: &(impl Print + Eprint), s: &[u8], b: &mut [u8]) -> bool {
 fn main(rt: HostRuntime) {
     // The longest schedule has 25,430 bytes: what is longer than this is refused as its first part is.
     let mut s = [0u8; 32768];
-    let got = stream::fill(&mut rt.stdin(), &mut s);
-    if got.failed {
+    let Ok(bytes) = stream::fill(&mut rt.stdin(), &mut s) else {
         let _ = eprintln!(rt;
             "plain: standard input could not be read to its end, no page is printed"
         );
         return;
-    }
+    };
     // Twelve events give at most 972 images of 51 bytes, or 576 of 66: all of them fit.
     let mut b = [0u8; 65536];
-    let bytes = got.bytes;
     if !print_plain(&rt, &s[..bytes], &mut b) {
         let _ = eprintln!(rt; "plain: standard output took no more, the page is not whole");
     }

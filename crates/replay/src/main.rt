@@ -5,13 +5,11 @@
 fn main(rt: HostRuntime) {
     // The longest probe file has 50,006 bytes: what is longer than this is refused as its first part is.
     let mut s = [0u8; 65536];
-    let got = stream::fill(&mut rt.stdin(), &mut s);
-    if got.failed {
+    let Ok(bytes) = stream::fill(&mut rt.stdin(), &mut s) else {
         let _ = eprintln!(rt;
             "replay: standard input could not be read to its end, nothing is replayed"
         );
         return;
-    }
-    let n = got.bytes;
-    replayed::print_file(&rt, &s[..n]);
+    };
+    replayed::print_file(&rt, &s[..bytes]);
 }

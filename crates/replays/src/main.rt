@@ -4,32 +4,21 @@
 #![tactic(auto)]
 
 use std::io::Read;
-use stream::next_item;
+use stream::{Cut, next_item};
 
-// The line of the next file; whether there was one.
-fn print_next(rt: &(impl Print + Eprint), input: &mut impl Read, s: &mut [u8]) -> bool {
-    let next = next_item(input, s);
-    if !next.there {
-        if next.cut {
-            let _ = eprintln!(rt; "replays: the input ends within a file, or a read failed");
-        }
-        return false;
-    }
-    let kept = next.kept;
-    replayed::print_file(rt, &s[..kept]);
-    true
-}
-
-// Nothing says that the input ends, so the files are counted up to a number that no run reaches.
+// A line for each file; how many there were. Nothing says that the input ends, so they are counted up to a number that no run reaches.
 fn print_all(rt: &(impl Print + Eprint), input: &mut impl Read, s: &mut [u8]) -> u64 {
-    let mut done: u64 = 0;
-    while done < u64::MAX {
-        if !print_next(rt, input, s) {
-            return done;
+    for done in 0..u64::MAX {
+        match next_item(input, s) {
+            Ok(Some(kept)) => replayed::print_file(rt, &s[..kept]),
+            Ok(None) => return done,
+            Err(Cut) => {
+                let _ = eprintln!(rt; "replays: the input ends within a file, or a read failed");
+                return done;
+            }
         }
-        done += 1;
     }
-    done
+    u64::MAX
 }
 
 fn main(rt: HostRuntime) {

@@ -2,175 +2,130 @@
 
 #![tactic(auto)]
 
-ghost use Rattle.std.specs.Prelude.{◌+◌, ◌≤◌, ◌≡◌, length};
+ghost use Rattle.std.specs.Prelude.{◌+◌, ◌≤◌, ◌≡◌, length, IfOk, IfErr, IfSome};
 
+use std::io;
 use std::io::Read;
+
+// The bytes from a place on, 0 beyond the end.
+fn bytes_at<const N: usize>(s: &[u8], at: usize) -> [u8; N] {
+    let mut bytes = [0; N];
+    for (x, y) in bytes.iter_mut().zip(s.get(at..).unwrap_or(&[])) {
+        *x = *y;
+    }
+    bytes
+}
 
 // The byte at a place, 0 beyond the end.
 pub fn byte(s: &[u8], i: usize) -> u8 {
-    if i < s.len() {
-        return s[i];
-    }
-    0
+    s.get(i).copied().unwrap_or(0)
 }
 
 // A number of 16 bits.
-pub fn half(s: &[u8], at: usize) -> u16
-    requires { at ≤ 1000000 }
-{
-    let low = byte(s, at) as u16;
-    let high = byte(s, at + 1) as u16;
-    low + high * 256
+pub fn half(s: &[u8], at: usize) -> u16 {
+    u16::from_le_bytes(bytes_at(s, at))
 }
 
 // A number of 32 bits.
-pub fn word(s: &[u8], at: usize) -> u32
-    requires { at ≤ 900000 }
-{
-    let low = half(s, at) as u32;
-    let high = half(s, at + 2) as u32;
-    low + high * 65536
+pub fn word(s: &[u8], at: usize) -> u32 {
+    u32::from_le_bytes(bytes_at(s, at))
 }
 
-// What came of reading: how many bytes were put at the buffer's front, and whether a read failed. Fewer bytes than asked for and no failure: the input ended.
-#[derive(Clone, Copy)]
-pub struct Got {
+// A number of 64 bits.
+pub fn long(s: &[u8], at: usize) -> u64 {
+    u64::from_le_bytes(bytes_at(s, at))
+}
+
+// A read failed. Before it so many bytes were put at the buffer's front.
+#[derive(Clone, Copy, Debug, PartialEq, Eq)]
+pub struct ReadFailed {
     pub bytes: usize,
-    pub failed: bool,
 }
 
-// One read into the buffer from index `at` on; no bytes and no failure is the end of the input.
-fn read_once(input: &mut impl Read, buffer: &mut [u8], at: usize) -> Got
-    requires { at ≤ length buffer.old }
-    ensures { at + result.bytes ≤ length buffer.old }
+// Fills the buffer: how many bytes were put at its front. Fewer than there is room for: the input ended. One read that finds nothing is the end,
+// and no further read asks for it again.
+pub fn fill(input: &mut impl Read, buffer: &mut [u8]) -> Result<usize, ReadFailed>
+    ensures ok { IfOk result (λ n. n ≤ length buffer.new) }
+    ensures err { IfErr result (λ e. e.bytes ≤ length buffer.new) }
 {
-    match input.read(&mut buffer[at..]) {
-        Ok(bytes) => Got {
-            bytes,
-            failed: false,
-        },
-        Err(_) => Got {
-            bytes: 0,
-            failed: true,
-        },
-    }
-}
-
-// Reads until the buffer is full, a read fails, or one finds nothing: that is the end, and no further read asks for it again. `room` is the buffer's length.
-fn read_all(input: &mut impl Read, buffer: &mut [u8], room: usize) -> Got
-    requires { room ≡ length buffer.old }
-    ensures { result.bytes ≤ room }
-{
-    let mut done = 0;
-    while done < room {
-        let got = read_once(input, buffer, done);
-        if got.bytes == 0 {
-            return Got {
-                bytes: done,
-                failed: got.failed,
-            };
+    let mut bytes = 0;
+    while bytes < buffer.len() {
+        match input.read(&mut buffer[bytes..]) {
+            Ok(0) => break,
+            Ok(n) => bytes += n,
+            Err(_) => return Err(ReadFailed { bytes }),
         }
-        done += got.bytes;
     }
-    Got {
-        bytes: done,
-        failed: false,
-    }
-}
-
-// The whole buffer.
-pub fn fill(input: &mut impl Read, buffer: &mut [u8]) -> Got
-    ensures { result.bytes ≤ length buffer.new }
-{
-    let room = buffer.len();
-    read_all(input, buffer, room)
-}
-
-// Reads up to n bytes into the buffer's front.
-fn read_some(input: &mut impl Read, buffer: &mut [u8], n: usize) -> usize
-    requires { n ≤ length buffer.old }
-    ensures { result ≤ n }
-{
-    let got = read_all(input, &mut buffer[..n], n);
-    got.bytes
-}
-
-fn pass_some(input: &mut impl Read, n: usize) -> usize
-    requires { n ≤ 4096 }
-{
-    let mut nowhere = [0u8; 4096];
-    read_some(input, &mut nowhere, n)
-}
-
-// Passes over bytes of the input; whether they were all there.
-fn pass_over(input: &mut impl Read, count: usize) -> bool {
-    let mut left = count;
-    while left > 4096 {
-        let got = pass_some(input, 4096);
-        if got < 4096 {
-            return false;
-        }
-        left -= 4096;
-    }
-    let got = pass_some(input, left);
-    got == left
-}
-
-fn lesser(a: usize, b: usize) -> usize
-    ensures { (result ≤ a) × (result ≤ b) }
-{
-    if a <= b {
-        return a;
-    }
-    b
+    Ok(bytes)
 }
 
 // Whether the input is at its end. A read that fails says that it is not, and so does one that finds a byte.
 pub fn at_end(input: &mut impl Read) -> bool {
-    let mut one = [0u8; 1];
+    let mut one = [0; 1];
     matches!(input.read(&mut one), Ok(0))
 }
 
-// What came of reading an item: whether there was a whole one, whether the input ended within one or a read failed, how many of its bytes were kept.
-#[derive(Clone, Copy)]
-pub struct Next {
-    pub there: bool,
-    pub cut: bool,
-    pub kept: usize,
+// The whole input at the buffer's front: how many bytes. Of one that is longer than the buffer the first part; none where it could not be read to
+// its end, which is asked for once more.
+pub fn whole(input: &mut impl Read, buffer: &mut [u8]) -> Option<usize>
+    ensures { IfSome result (λ n. n ≤ length buffer.new) }
+{
+    let bytes = fill(input, buffer).unwrap_or_else(|e| e.bytes);
+    if bytes < buffer.len() && !at_end(input) {
+        return None;
+    }
+    Some(bytes)
 }
 
-fn ended(cut: bool) -> Next
-    ensures { result.kept ≤ 0 }
-{
-    Next {
-        there: false,
-        cut,
-        kept: 0,
+// The input ended within an item, or a read failed.
+#[derive(Clone, Copy, Debug, PartialEq, Eq)]
+pub struct Cut;
+
+impl From<ReadFailed> for Cut {
+    fn from(_e: ReadFailed) -> Cut {
+        Cut
     }
 }
 
-// The next item into the buffer. Of one that is longer than the buffer the first part is kept and the rest passed over.
-pub fn next_item(input: &mut impl Read, buffer: &mut [u8]) -> Next
-    ensures { result.kept ≤ length buffer.new }
+impl From<io::Error> for Cut {
+    fn from(_e: io::Error) -> Cut {
+        Cut
+    }
+}
+
+// Passes over bytes of the input, which are all there.
+fn pass_over(input: &mut impl Read, count: usize) -> io::Result<()> {
+    let mut nowhere = [0; 4096];
+    for _ in 0..count / 4096 {
+        input.read_exact(&mut nowhere)?;
+    }
+    input.read_exact(&mut nowhere[..count % 4096])
+}
+
+// The next item at the buffer's front: how many of its bytes were kept. Of one that is longer than the buffer the first part is kept and the rest passed
+// over. None where the input ends before it.
+pub fn next_item(input: &mut impl Read, buffer: &mut [u8]) -> Result<Option<usize>, Cut>
+    ensures { IfOk result (λ item. IfSome item (λ kept. kept ≤ length buffer.new)) }
 {
-    let mut head = [0u8; 4];
-    let got = fill(input, &mut head);
-    if got.bytes < 4 {
-        return ended(got.bytes != 0 || got.failed);
+    let mut head = [0; 4];
+    let got = fill(input, &mut head)?;
+    if got == 0 {
+        return Ok(None);
     }
-    let long = word(&head, 0) as usize;
-    let room = buffer.len();
-    let first = lesser(long, room);
-    let kept = read_some(input, buffer, first);
-    if kept < first {
-        return ended(true);
+    if got < 4 {
+        return Err(Cut);
     }
-    if !pass_over(input, long - first) {
-        return ended(true);
+    let all = u32::from_le_bytes(head) as usize;
+    let kept = all.min(buffer.len());
+    input.read_exact(&mut buffer[..kept])?;
+    pass_over(input, all - kept)?;
+    Ok(Some(kept))
+}
+
+// The number that a word of one to six digits is. There are at most 65,536 endings.
+pub fn decimal(s: &[u8]) -> Option<u32> {
+    if s.len() > 6 || !s.iter().all(u8::is_ascii_digit) {
+        return None;
     }
-    Next {
-        there: true,
-        cut: false,
-        kept,
-    }
+    str::from_utf8(s).ok()?.parse().ok()
 }

@@ -65,12 +65,11 @@ fn answer_front(rt: &(impl Print + Eprint), t: &[u8], n: usize) {
 }
 
 fn read_and_answer(rt: &(impl Print + Eprint), input: &mut impl Read, t: &mut [u8]) {
-    let got = stream::fill(input, t);
-    if got.failed {
+    let Ok(bytes) = stream::fill(input, t) else {
         let _ = eprintln!(rt; "unwords: standard input could not be read to its end");
         return;
-    }
-    answer_front(rt, t, got.bytes);
+    };
+    answer_front(rt, t, bytes);
 }
 
 fn main(rt: HostRuntime) {

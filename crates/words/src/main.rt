@@ -25,14 +25,12 @@ fn print(rt: &(impl Print + Eprint), b: &[u8], n: usize) {
 fn main(rt: HostRuntime) {
     // The longest schedule has 25,430 bytes: what is longer than this is refused as its first part is.
     let mut s = [0u8; 32768];
-    let mut input = rt.stdin();
-    let got = stream::fill(&mut input, &mut s).bytes;
-    if got < 32768 && !stream::at_end(&mut input) {
+    let Some(got) = stream::whole(&mut rt.stdin(), &mut s) else {
         let _ = eprintln!(rt;
             "words: standard input could not be read to its end, no words are printed"
         );
         return;
-    }
+    };
     // 4,170 entries of at most 64 bytes: there is room for the whole text.
     let mut b = [0u8; 266880];
     let w = desk::spell_lines(&s[..got], 0, &mut b);

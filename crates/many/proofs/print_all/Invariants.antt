@@ -1,5 +1,5 @@
-use Rattle.std.proofs.Common.{◌-◌}
+use Rattle.std.proofs.Common.{◌≤◌, ◌≡◌, ◌×◌, length}
 use Rattle.many.proofs.print_all.Given as goal
 
-abbrev pub decreases-loop-done : goal.decreases-loop-done
-decreases-loop-done g l = 18446744073709551615 - l.done
+abbrev pub invariant-loop-done : goal.invariant-loop-done
+invariant-loop-done g l = l.refused ≤ l.done
