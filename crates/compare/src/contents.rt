@@ -3,89 +3,61 @@
 ghost use Rattle.std.specs.Prelude.{◌≤◌};
 
 use image::{Content, Image};
-use stream::{byte, word};
+use std::array;
+use stream::{byte, long, word};
 
-fn content_of(s: &[u8], at: usize) -> Content
-    requires { at ≤ 10000 }
-{
-    let linked = byte(s, at);
-    let index = word(s, at + 1);
-    let item = word(s, at + 5);
-    Content {
-        index: index as u64,
-        item,
-        linked,
+// An index, of 4 bytes or 8, stands at the front of the bytes from a place on.
+fn index_at(s: &[u8], at: usize, wide: bool) -> u64 {
+    if wide {
+        long(s, at)
+    } else {
+        u64::from(word(s, at))
     }
 }
 
-pub fn contents_of(s: &[u8]) -> Image {
-    let none = Content {
-        index: 0,
-        item: 0,
-        linked: 0,
-    };
-    let mut nodes = [none; 64];
-    let mut i = 0;
-    while i < 64 {
-        let v = content_of(s, 5 + i * 9);
-        nodes[i] = v;
-        i += 1;
-    }
-    let n = byte(s, 0);
+// The bytes from `at` on are N, the head index and the nodes.
+fn contents_at(s: &[u8], at: usize, form: u8, wide: bool) -> Image
+    requires { at ≤ 1 }
+{
+    let width = if wide { 8 } else { 4 };
+    let nodes = array::from_fn(|i| {
+        let place = at + 1 + width + i * (width + 5);
+        Content {
+            index: index_at(s, place + 1, wide),
+            item: word(s, place + 1 + width),
+            linked: byte(s, place),
+        }
+    });
     let mut heads = [0; 8];
-    heads[0] = word(s, 1) as u64;
-    Image {
-        heads,
-        nodes,
-        form: 1,
-        n,
-        t: 0,
-    }
-}
-
-fn long(s: &[u8], at: usize) -> u64
-    requires { at ≤ 800000 }
-{
-    let low = word(s, at) as u64;
-    let high = word(s, at + 4) as u64;
-    low + high * 4294967296
-}
-
-fn wide_content_of(s: &[u8], at: usize) -> Content
-    requires { at ≤ 10000 }
-{
-    let linked = byte(s, at);
-    let index = long(s, at + 1);
-    let item = word(s, at + 9);
-    Content {
-        index,
-        item,
-        linked,
-    }
-}
-
-pub fn wide_contents_of(s: &[u8]) -> Image {
-    let none = Content {
-        index: 0,
-        item: 0,
-        linked: 0,
-    };
-    let mut nodes = [none; 64];
-    let mut i = 0;
-    while i < 64 {
-        let v = wide_content_of(s, 10 + i * 13);
-        nodes[i] = v;
-        i += 1;
-    }
-    let form = byte(s, 0);
-    let n = byte(s, 1);
-    let mut heads = [0; 8];
-    heads[0] = long(s, 2);
+    heads[0] = index_at(s, at + 1, wide);
     Image {
         heads,
         nodes,
         form,
-        n,
+        n: byte(s, at),
         t: 0,
     }
+}
+
+pub fn contents_of(s: &[u8]) -> Image {
+    contents_at(s, 0, 1, false)
+}
+
+pub fn wide_contents_of(s: &[u8]) -> Image {
+    contents_at(s, 1, byte(s, 0), true)
+}
+
+// How many bytes an image has that a schedule carries. One that is taken has the last letter of its image's mark at byte 10, the version at byte 11
+// and N at byte 13, behind "UQP" T at byte 14.
+pub fn size_in(s: &[u8]) -> usize
+    ensures { (1 ≤ result) × (result ≤ 3329) }
+{
+    let n = usize::from(byte(s, 13));
+    if byte(s, 10) == b'P' {
+        return 7 + usize::from(byte(s, 14)) * 4 + n * 9;
+    }
+    if byte(s, 11) == 2 {
+        return 14 + n * 13;
+    }
+    10 + n * 9
 }

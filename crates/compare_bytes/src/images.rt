@@ -1,38 +1,34 @@
 // Images read, and written again.
-use answer::told_of;
-use compare::text::{Output, put, put_front, put_refusal};
+use compare::output::{Hex, Output, front, refused};
 use image::Image;
+use std::io;
+use std::io::Write;
 
 fn size_of(form: u8, n: u8, t: u8) -> usize {
     if form == 2 {
-        return 14 + (n as usize) * 13;
+        return 14 + usize::from(n) * 13;
     }
     if form == 4 {
-        return 7 + (t as usize) * 4 + (n as usize) * 9;
+        return 7 + usize::from(t) * 4 + usize::from(n) * 9;
     }
-    10 + (n as usize) * 9
+    10 + usize::from(n) * 9
 }
 
 // The image as write_image writes it, in hex.
-pub(crate) fn put_image(out: &mut Output, at: usize, g: Image) -> usize {
+pub(crate) fn put_image(out: &mut Output, g: Image) -> io::Result<()> {
     let mut bytes = [0u8; 846];
-    let a = codec::write_image(g, &mut bytes);
-    let t = told_of(a);
-    if t.number != 0 {
-        return put_refusal(out, at, t);
+    if let Err(e) = codec::write_image(g, &mut bytes) {
+        return refused(out, e);
     }
-    let size = size_of(g.form, g.n, g.t);
-    put_front(out, at, &bytes, size)
+    write!(out, "{}", Hex(front(&bytes, size_of(g.form, g.n, g.t))))
 }
 
-pub(crate) fn answer_image(s: &[u8], out: &mut Output, at: usize) -> usize {
-    let r = codec::read_image(s);
-    let a = r.answer;
-    let t = told_of(a);
-    if t.number != 0 {
-        return put_refusal(out, at, t);
+pub(crate) fn answer_image(s: &[u8], out: &mut Output) -> io::Result<()> {
+    match codec::read_image(s) {
+        Ok(g) => {
+            put_image(out, g)?;
+            writeln!(out)
+        }
+        Err(e) => refused(out, e),
     }
-    let g = r.image;
-    let first = put_image(out, at, g);
-    put(out, first, b'\n')
 }

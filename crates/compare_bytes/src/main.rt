@@ -12,62 +12,35 @@
 
 #![tactic(auto)]
 
-mod contents;
-mod conversions;
-mod desks;
 mod images;
+mod lent;
 mod mended;
 mod schedules;
 
-use compare::text::{Output, finish};
-use contents::{answer_contents, answer_wide_contents};
-use conversions::answer_converted;
-use desks::{answer_exported, answer_imported};
+use compare::items::{answer_all, mode_of};
+use compare::output::Output;
+use converting::{import_desks, narrow, widen};
 use images::answer_image;
+use lent::{answer_contents, answer_converted, answer_exported, answer_wide_contents};
 use mended::answer_mended;
 use schedules::answer_schedule;
-use std::io::Read;
-use stream::next_item;
-
-fn answer_one(mode: u8, s: &[u8], out: &mut Output, at: usize) -> usize {
-    match mode {
-        b'i' => answer_image(s, out, at),
-        b's' => answer_schedule(s, out, at),
-        b'c' => answer_contents(s, out, at),
-        b'd' => answer_wide_contents(s, out, at),
-        b'w' => answer_converted(s, out, at, true),
-        b'v' => answer_converted(s, out, at, false),
-        b'j' => answer_imported(s, out, at),
-        b'x' => answer_exported(s, out, at),
-        b'm' => answer_mended(s, out, at),
-        _ => at,
-    }
-}
-
-// Nothing says that the input ends, so the turns are counted down from a number that no run uses up.
-fn answer_all(input: &mut impl Read, mode: u8, item: &mut [u8], out: &mut Output) -> usize {
-    let mut at = 0;
-    let mut turns = u64::MAX;
-    while turns > 0 {
-        let next = next_item(input, item);
-        if !next.there {
-            break;
-        }
-        let kept = next.kept;
-        let after = answer_one(mode, &item[..kept], out, at);
-        at = after;
-        turns -= 1;
-    }
-    at
-}
+use std::io;
 
 fn main(rt: HostRuntime) {
     let mut input = rt.stdin();
-    let mut mode = [0u8; 1];
-    stream::fill(&mut input, &mut mode);
+    let answer: fn(&[u8], &mut Output) -> io::Result<()> = match mode_of(&mut input) {
+        b'i' => answer_image,
+        b's' => answer_schedule,
+        b'm' => answer_mended,
+        b'c' => answer_contents,
+        b'd' => answer_wide_contents,
+        b'w' => |s, out| answer_converted(s, out, |s, b| widen(s, b)),
+        b'v' => |s, out| answer_converted(s, out, |s, b| narrow(s, b)),
+        b'j' => |s, out| answer_converted(s, out, |s, b| import_desks(s, b)),
+        b'x' => answer_exported,
+        _ => return,
+    };
     // Longer than any image or schedule; what is longer still is refused as its first part is.
     let mut item = [0u8; 40000];
-    let mut out = Output::new(rt.stdout());
-    let at = answer_all(&mut input, mode[0], &mut item, &mut out);
-    finish(&out, at);
+    answer_all(&mut input, &mut item, Output::new(rt.stdout()), answer);
 }

@@ -25,59 +25,37 @@ mod soak;
 mod starts;
 mod traces;
 
-use compare::text::{Output, finish};
+use compare::items::{answer_all, mode_of};
+use compare::output::Output;
+use events::on_event;
+use kept::kept_event;
 use listing::answer_list;
 use probes::answer_probe;
 use records::{answer_places, answer_record, answer_saved};
 use soak::answer_soak;
 use starts::{answer_fresh, answer_start, answer_wide_start};
-use std::io::Read;
-use stream::next_item;
+use std::io;
 use traces::answer_trace;
-
-fn answer_one(mode: u8, s: &[u8], out: &mut Output, at: usize) -> usize {
-    match mode {
-        b't' => answer_trace(s, out, at, false),
-        b'u' => answer_trace(s, out, at, true),
-        b'r' => answer_record(s, out, at, false),
-        b'a' => answer_record(s, out, at, true),
-        b'p' => answer_places(s, out, at),
-        b'k' => answer_saved(s, out, at),
-        b'b' => answer_start(s, out, at),
-        b'e' => answer_wide_start(s, out, at),
-        b'f' => answer_fresh(s, out, at),
-        b'v' => answer_soak(s, out, at, false),
-        b'w' => answer_soak(s, out, at, true),
-        b'q' => answer_probe(s, out, at),
-        b'l' => answer_list(s, out, at),
-        _ => at,
-    }
-}
-
-// Nothing says that the input ends, so the turns are counted down from a number that no run uses up.
-fn answer_all(input: &mut impl Read, mode: u8, item: &mut [u8], out: &mut Output) -> usize {
-    let mut at = 0;
-    let mut turns = u64::MAX;
-    while turns > 0 {
-        let next = next_item(input, item);
-        if !next.there {
-            break;
-        }
-        let kept = next.kept;
-        let after = answer_one(mode, &item[..kept], out, at);
-        at = after;
-        turns -= 1;
-    }
-    at
-}
 
 fn main(rt: HostRuntime) {
     let mut input = rt.stdin();
-    let mut mode = [0u8; 1];
-    stream::fill(&mut input, &mut mode);
+    let answer: fn(&[u8], &mut Output) -> io::Result<()> = match mode_of(&mut input) {
+        b't' => |s, out| answer_trace(s, out, |m, e| on_event(m, e)),
+        b'u' => |s, out| answer_trace(s, out, kept_event),
+        b'r' => |s, out| answer_record(s, out, |m, e| on_event(m, e)),
+        b'a' => |s, out| answer_record(s, out, kept_event),
+        b'p' => answer_places,
+        b'k' => answer_saved,
+        b'b' => answer_start,
+        b'e' => answer_wide_start,
+        b'f' => answer_fresh,
+        b'v' => |s, out| answer_soak(s, out, |m, e| on_event(m, e)),
+        b'w' => |s, out| answer_soak(s, out, kept_event),
+        b'l' => answer_list,
+        b'q' => answer_probe,
+        _ => return,
+    };
     // Longer than any schedule or probe file; what is longer still is refused as its first part is.
     let mut item = [0u8; 65536];
-    let mut out = Output::new(rt.stdout());
-    let at = answer_all(&mut input, mode[0], &mut item, &mut out);
-    finish(&out, at);
+    answer_all(&mut input, &mut item, Output::new(rt.stdout()), answer);
 }

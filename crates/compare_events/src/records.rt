@@ -1,108 +1,83 @@
 // Records that are handed in. An item is a record and an event (6 bytes).
-ghost use Rattle.std.specs.Prelude.{◌≤◌, length};
-
 use crate::instants::put_moment;
-use crate::kept::event_by;
-use answer::{Told, told_of};
-use compare::text::{Output, put, put_front, put_pair};
+use answer::{Refusal, Reply, told_of};
+use compare::output::{Hex, Output, front};
+use events::{count_places, save};
 use machine::{Event, Machine, Out, Places};
-use record::SIZE;
+use record::{SIZE, read_record};
+use std::io;
+use std::io::Write;
 use stream::{byte, half, word};
 
 // The record in front of the item, or what is wrong with its bytes.
-fn record_of(s: &[u8]) -> Out {
-    if s.len() < SIZE {
-        return record::read_record(s);
+fn record_in(s: &[u8]) -> Result<Machine, Refusal> {
+    read_record(front(s, SIZE))
+}
+
+fn event_in(s: &[u8]) -> Event {
+    Event {
+        kind: byte(s, SIZE),
+        number: byte(s, SIZE + 1),
+        item: word(s, SIZE + 2),
     }
-    record::read_record(&s[..SIZE])
 }
 
-fn event_of(s: &[u8]) -> Event {
-    let kind = byte(s, SIZE);
-    let number = byte(s, SIZE + 1);
-    let item = word(s, SIZE + 2);
-    Event { kind, number, item }
-}
-
-// `N P` with a blank behind
-fn put_verdict(out: &mut Output, at: usize, t: Told) -> usize {
-    let first = put_pair(out, at, t.number as u64, t.place as u64);
-    put(out, first, b' ')
-}
-
-// Bytes that are no record: they stay, with no reply.
-fn put_unread(out: &mut Output, at: usize, t: Told, s: &[u8]) -> usize {
-    let first = put_verdict(out, at, t);
-    let second = put_pair(out, first, 0, 0);
-    let third = put(out, second, b' ');
-    let fourth = put_front(out, third, s, SIZE);
-    put(out, fourth, b'\n')
-}
-
-pub(crate) fn answer_record(s: &[u8], out: &mut Output, at: usize, kept: bool) -> usize {
-    let o = record_of(s);
-    let b = o.answer;
-    let u = told_of(b);
-    if u.number != 0 {
-        return put_unread(out, at, u, s);
-    }
-    let m = o.machine;
-    let e = event_of(s);
-    let r = event_by(kept, m, e);
-    let a = r.answer;
-    let t = told_of(a);
-    let after = r.machine;
-    let first = put_verdict(out, at, t);
-    put_moment(out, first, t, after)
-}
-
-fn put_places(out: &mut Output, at: usize, t: Told, c: Places) -> usize {
-    let first = put_verdict(out, at, t);
-    let second = put_pair(out, first, c.queue as u64, c.free as u64);
-    let third = put(out, second, b' ');
-    let fourth = put_pair(out, third, c.waiting as u64, c.held as u64);
-    let fifth = put(out, fourth, b' ');
-    let sixth = put_pair(out, fifth, c.enqueue as u64, c.dequeue as u64);
-    put(out, sixth, b'\n')
-}
-
-pub(crate) fn answer_places(s: &[u8], out: &mut Output, at: usize) -> usize {
-    let o = record_of(s);
-    let b = o.answer;
-    let u = told_of(b);
-    let m = o.machine;
-    let r = events::count_places(m);
-    let a = r.answer;
-    let t = told_of(a);
-    let c = r.places;
-    if u.number != 0 {
-        return put_places(out, at, u, c);
-    }
-    put_places(out, at, t, c)
-}
-
-// Lends the buffer's front, and puts number, place and the whole of what was lent.
-fn put_saved(out: &mut Output, at: usize, m: Machine, lent: &mut [u8], room: usize) -> usize
-    requires { room ≤ length lent.old }
+// Bytes that are no record stay, with no reply.
+pub(crate) fn answer_record<F: Fn(Machine, Event) -> Out>(
+    s: &[u8],
+    out: &mut Output,
+    by: F,
+) -> io::Result<()>
+    requires { F.IsAlwaysCallable by }
 {
-    let a = events::save(m, &mut lent[..room]);
-    let t = told_of(a);
-    let first = put_verdict(out, at, t);
-    let second = put_front(out, first, lent, room);
-    put(out, second, b'\n')
+    match record_in(s) {
+        Ok(m) => {
+            let happened = by(m, event_in(s));
+            let told = told_of(happened.answer);
+            write!(out, "{} {} ", told.number, told.place)?;
+            put_moment(
+                out,
+                happened.answer.unwrap_or(Reply::Taken),
+                happened.machine,
+            )
+        }
+        Err(e) => {
+            let told = told_of(Err(e));
+            let stays = Hex(front(s, SIZE));
+            writeln!(out, "{} {} 0 0 {stays}", told.number, told.place)
+        }
+    }
 }
 
-pub(crate) fn answer_saved(s: &[u8], out: &mut Output, at: usize) -> usize {
-    let o = record_of(s);
-    let b = o.answer;
-    let u = told_of(b);
-    let room = half(s, SIZE);
-    let mut lent = [0xaau8; 65536];
-    if u.number != 0 {
-        let first = put_verdict(out, at, u);
-        let second = put_front(out, first, &lent, room as usize);
-        return put(out, second, b'\n');
+pub(crate) fn answer_places(s: &[u8], out: &mut Output) -> io::Result<()> {
+    match record_in(s).and_then(|m| count_places(m)) {
+        Ok(
+            Places {
+                queue,
+                free,
+                waiting,
+                held,
+                enqueue,
+                dequeue,
+            },
+        ) => writeln!(
+            out,
+            "0 0 {queue} {free} {waiting} {held} {enqueue} {dequeue}"
+        ),
+        Err(e) => {
+            let told = told_of(Err(e));
+            writeln!(out, "{} {} 0 0 0 0 0 0", told.number, told.place)
+        }
     }
-    let m = o.machine;
-    put_saved(out, at, m, &mut lent, room as usize)
+}
+
+// Number, place and the whole of what was lent.
+pub(crate) fn answer_saved(s: &[u8], out: &mut Output) -> io::Result<()> {
+    let mut buffer = [0xaa; 65536];
+    let lent = &mut buffer[..usize::from(half(s, SIZE))];
+    let told = match record_in(s) {
+        Ok(m) => told_of(save(m, lent)),
+        Err(e) => told_of(Err(e)),
+    };
+    writeln!(out, "{} {} {}", told.number, told.place, Hex(lent))
 }

@@ -1,70 +1,51 @@
 // A schedule, moment by moment.
 use crate::instants::put_moment_sum;
-use crate::kept::event_by;
-use answer::{Told, told_of};
-use compare::text::{Output, put_refusal};
-use machine::Machine;
+use answer::{Reply, told_of};
+use compare::output::{Output, refused};
+use machine::{Event, Machine, Out, start_from};
+use schedule::Schedule;
+use std::io;
+use std::io::Write;
 
-// The refusal of a run names the event's number, where that of a single event names 0.
-fn put_refused(out: &mut Output, at: usize, t: Told, i: usize) -> usize {
-    let place = (i % 65536) as u32;
-    put_refusal(
-        out,
-        at,
-        Told {
-            number: t.number,
-            place,
-            reply: 0,
-            item: 0,
-        },
-    )
-}
-
-fn put_events(
+// The start and each event by the given call. The refusal of a run names the event's number, where that of a single event names 0.
+fn put_run<F: Fn(Machine, Event) -> Out>(
     out: &mut Output,
-    at: usize,
     s: &[u8],
+    d: Schedule,
     start: Machine,
-    count: usize,
-    kept: bool,
-) -> usize {
-    let mut place = at;
+    by: F,
+) -> io::Result<()>
+    requires { F.IsAlwaysCallable by }
+{
+    put_moment_sum(out, Reply::Taken, start)?;
     let mut m = start;
-    let mut i = 0;
-    while i < count {
-        let found = codec::event_of(s, i);
-        let e = found.event;
-        let r = event_by(kept, m, e);
-        let a = r.answer;
-        let t = told_of(a);
-        if t.number != 0 {
-            return put_refused(out, place, t, i);
+    for i in 0..d.count {
+        let Ok(e) = codec::event_of(s, usize::from(i)) else {
+            break;
+        };
+        let happened = by(m, e);
+        match happened.answer {
+            Ok(r) => put_moment_sum(out, r, happened.machine)?,
+            Err(e) => return writeln!(out, "refused {} at {i}", told_of(Err(e)).number),
         }
-        let after = r.machine;
-        let next = put_moment_sum(out, place, t, after);
-        m = after;
-        place = next;
-        i += 1;
+        m = happened.machine;
     }
-    place
+    Ok(())
 }
 
-pub(crate) fn answer_trace(s: &[u8], out: &mut Output, at: usize, kept: bool) -> usize {
-    let o = codec::read_schedule(s);
-    let a = o.answer;
-    let t = told_of(a);
-    if t.number != 0 {
-        return put_refusal(out, at, t);
+pub(crate) fn answer_trace<F: Fn(Machine, Event) -> Out>(
+    s: &[u8],
+    out: &mut Output,
+    by: F,
+) -> io::Result<()>
+    requires { F.IsAlwaysCallable by }
+{
+    let d = match codec::read_schedule(s) {
+        Ok(d) => d,
+        Err(e) => return refused(out, e),
+    };
+    match start_from(d.image, d.t) {
+        Ok(m) => put_run(out, s, d, m, by),
+        Err(e) => refused(out, e),
     }
-    let d = o.schedule;
-    let g = d.image;
-    let r = machine::start_from(g, d.t);
-    let b = r.answer;
-    let u = told_of(b);
-    if u.number != 0 {
-        return put_refusal(out, at, u);
-    }
-    let m = r.machine;
-    let first = put_moment_sum(out, at, u, m);
-    put_events(out, first, s, m, d.count as usize, kept)
 }

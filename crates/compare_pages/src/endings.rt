@@ -1,115 +1,50 @@
 // What the public calls say of a schedule's endings.
-ghost use Rattle.std.specs.Prelude.{◌≤◌, length};
-
 use crate::paged::sum_endings;
-use crate::sums::{START, put_sum_line, sum_front};
-use answer::{Told, told_of};
-use compare::text::{Output, put, put_all, put_decimal, put_front, put_refusal};
-use stream::byte;
+use compare::contents::size_in;
+use compare::output::{Hex, Output, refused};
+use compare::sums::Sum;
+use pages::calls::{count_endings, ending_of};
+use std::io;
+use std::io::Write;
 
-// Ending k into the buffer's front of `room` bytes.
-fn lend(s: &[u8], k: u64, lent: &mut [u8], room: usize) -> Told
-    requires { room ≤ length lent.old }
-{
-    let a = pages::ending_of(s, k, &mut lent[..room]);
-    told_of(a)
-}
-
-// The line of ending k: `whole` bytes, which are left in the buffer, or its refusal.
-fn put_ending(out: &mut Output, at: usize, s: &[u8], k: u64, lent: &mut [u8], whole: usize) -> usize
-    requires { whole ≤ length lent.old }
-{
-    let t = lend(s, k, lent, whole);
-    if t.number != 0 {
-        return put_refusal(out, at, t);
+// The lines of the first `count` endings, each of which fills what is lent, then their sum.
+fn put_endings(out: &mut Output, s: &[u8], count: u32, lent: &mut [u8]) -> io::Result<()> {
+    let mut sum = Sum::new();
+    for k in 0..count {
+        match ending_of(s, u64::from(k), lent) {
+            Ok(_) => writeln!(out, "{}", Hex(lent))?,
+            Err(e) => refused(out, e)?,
+        }
+        sum = sum.with(lent);
     }
-    let first = put_front(out, at, lent, whole);
-    put(out, first, b'\n')
+    writeln!(out, "sum {sum}")
 }
 
-// The lines of all endings, then their sum.
-fn put_endings(
-    out: &mut Output,
-    at: usize,
-    s: &[u8],
-    count: u32,
-    lent: &mut [u8],
-    whole: usize,
-) -> usize
-    requires { whole ≤ length lent.old }
-{
-    let mut place = at;
-    let mut sum = START;
-    let mut k = 0;
-    while k < count {
-        let next = put_ending(out, place, s, k as u64, lent, whole);
-        let more = sum_front(sum, lent, whole);
-        place = next;
-        sum = more;
-        k += 1;
+// What is answered for ending k in this buffer; it is to be refused.
+fn put_refused(out: &mut Output, s: &[u8], k: u32, lent: &mut [u8]) -> io::Result<()> {
+    match ending_of(s, u64::from(k), lent) {
+        Ok(_) => writeln!(out, "refused 0 at 0"),
+        Err(e) => refused(out, e),
     }
-    put_sum_line(out, place, sum)
 }
 
-// What is given back for ending k in a buffer of `room` bytes; it is to be refused.
-fn put_refused(out: &mut Output, at: usize, s: &[u8], k: u64, lent: &mut [u8], room: usize) -> usize
-    requires { room ≤ length lent.old }
-{
-    let t = lend(s, k, lent, room);
-    put_refusal(out, at, t)
-}
-
-fn put_all_endings(
-    out: &mut Output,
-    at: usize,
-    s: &[u8],
-    count: u32,
-    lent: &mut [u8],
-    whole: usize,
-) -> usize
-    requires { whole ≤ length lent.old }
-{
+// A schedule that is taken. It has at least one ending.
+fn put_taken(out: &mut Output, s: &[u8], count: u32) -> io::Result<()> {
+    let whole = size_in(s);
+    let mut lent = [0xaa; 3329];
+    writeln!(out, "endings {count}")?;
     if count <= 32 {
-        return put_endings(out, at, s, count, lent, whole);
+        put_endings(out, s, count, &mut lent[..whole])?;
+    } else {
+        writeln!(out, "sum {}", sum_endings(s, count))?;
     }
-    let sum = sum_endings(s, count);
-    put_sum_line(out, at, sum)
+    put_refused(out, s, count, &mut lent[..0])?;
+    put_refused(out, s, count.saturating_sub(1), &mut lent[..whole - 1])
 }
 
-// A schedule that is taken has the last letter of its image's mark at byte 10, the version at byte 11 and N at byte 13, behind "UQP" T
-// at byte 14.
-fn size_of(s: &[u8]) -> usize
-    ensures { (1 ≤ result) × (result ≤ 3329) }
-{
-    let n = byte(s, 13) as usize;
-    if byte(s, 10) == b'P' {
-        return 7 + byte(s, 14) as usize * 4 + n * 9;
+pub(crate) fn answer_schedule(s: &[u8], out: &mut Output) -> io::Result<()> {
+    match count_endings(s) {
+        Ok(count) => put_taken(out, s, count),
+        Err(e) => refused(out, e),
     }
-    if byte(s, 11) == 2 {
-        return 14 + n * 13;
-    }
-    10 + n * 9
-}
-
-// It has at least one ending.
-fn put_taken(out: &mut Output, at: usize, s: &[u8], count: u32) -> usize {
-    let whole = size_of(s);
-    let last = if count == 0 { 0 } else { count - 1 };
-    let mut lent = [0xaau8; 3329];
-    let first = put_all(out, at, b"endings ");
-    let second = put_decimal(out, first, count as u64);
-    let third = put(out, second, b'\n');
-    let fourth = put_all_endings(out, third, s, count, &mut lent, whole);
-    let fifth = put_refused(out, fourth, s, count as u64, &mut lent, 0);
-    put_refused(out, fifth, s, last as u64, &mut lent, whole - 1)
-}
-
-pub(crate) fn answer_schedule(s: &[u8], out: &mut Output, at: usize) -> usize {
-    let c = pages::count_endings(s);
-    let a = c.answer;
-    let t = told_of(a);
-    if t.number != 0 {
-        return put_refusal(out, at, t);
-    }
-    put_taken(out, at, s, c.count)
 }

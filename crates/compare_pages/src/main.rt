@@ -10,35 +10,18 @@
 
 mod endings;
 mod paged;
-mod sums;
 
-use compare::text::{Output, finish};
+use compare::items::answer_all;
+use compare::output::Output;
 use endings::answer_schedule;
-use std::io::Read;
-use stream::next_item;
-
-// Nothing says that the input ends, so the turns are counted down from a number that no run uses up.
-fn answer_all(input: &mut impl Read, item: &mut [u8], out: &mut Output) -> usize {
-    let mut at = 0;
-    let mut turns = u64::MAX;
-    while turns > 0 {
-        let next = next_item(input, item);
-        if !next.there {
-            break;
-        }
-        let kept = next.kept;
-        let after = answer_schedule(&item[..kept], out, at);
-        at = after;
-        turns -= 1;
-    }
-    at
-}
 
 fn main(rt: HostRuntime) {
-    let mut input = rt.stdin();
     // Longer than any schedule; what is longer still is refused as its first part is.
     let mut item = [0u8; 40000];
-    let mut out = Output::new(rt.stdout());
-    let at = answer_all(&mut input, &mut item, &mut out);
-    finish(&out, at);
+    answer_all(
+        &mut rt.stdin(),
+        &mut item,
+        Output::new(rt.stdout()),
+        answer_schedule,
+    );
 }

@@ -6,36 +6,42 @@
 
 #![tactic(auto)]
 
-mod images;
+use compare::items::answer_all;
+use compare::output::{Output, front, refused};
+use compare::sums::Sum;
+use plainway::plain_page;
+use std::io;
+use std::io::Write;
 
-use compare::text::{Output, finish};
-use images::answer_schedule;
-use std::io::Read;
-use stream::next_item;
-
-// Nothing says that the input ends, so the turns are counted down from a number that no run uses up.
-fn answer_all(input: &mut impl Read, item: &mut [u8], lent: &mut [u8], out: &mut Output) -> usize {
-    let mut at = 0;
-    let mut turns = u64::MAX;
-    while turns > 0 {
-        let next = next_item(input, item);
-        if !next.there {
-            break;
-        }
-        let kept = next.kept;
-        let after = answer_schedule(&item[..kept], lent, out, at);
-        at = after;
-        turns -= 1;
+// The images of a schedule that is taken, and the call once more, where there is an image, with a buffer that is one byte short.
+fn put_taken(out: &mut Output, s: &[u8], lent: &mut [u8], count: u32) -> io::Result<()> {
+    let all = count as usize * compare::contents::size_in(s);
+    writeln!(out, "endings {count}")?;
+    writeln!(out, "sum {}", Sum::new().with(front(lent, all)))?;
+    if all == 0 || lent.len() < all {
+        return Ok(());
     }
-    at
+    match plain_page(s, &mut lent[..all - 1]) {
+        Ok(_) => writeln!(out, "refused 0 at 0"),
+        Err(e) => refused(out, e),
+    }
+}
+
+fn answer_schedule(s: &[u8], lent: &mut [u8], out: &mut Output) -> io::Result<()> {
+    match plain_page(s, lent) {
+        Ok(count) => put_taken(out, s, lent, count),
+        Err(e) => refused(out, e),
+    }
 }
 
 fn main(rt: HostRuntime) {
-    let mut input = rt.stdin();
     // Longer than any schedule; what is longer still is refused as its first part is.
     let mut item = [0u8; 40000];
     let mut lent = [0xaau8; 65536];
-    let mut out = Output::new(rt.stdout());
-    let at = answer_all(&mut input, &mut item, &mut lent, &mut out);
-    finish(&out, at);
+    answer_all(
+        &mut rt.stdin(),
+        &mut item,
+        Output::new(rt.stdout()),
+        |s, out| answer_schedule(s, &mut lent, out),
+    );
 }

@@ -6,116 +6,61 @@
 
 #![tactic(auto)]
 
-ghost use Rattle.std.specs.Prelude.{◌≤◌, length};
-
 use answer::told_of;
-use compare::text::{Output, finish, put, put_all, put_front, put_pair, put_refusal};
-use spelling::{Said, Spelled};
-use std::io::Read;
-use stream::{half, next_item};
+use compare::items::{answer_all, mode_of};
+use compare::output::{Hex, Output, front, refused};
+use desk::{read_words, spell_lines};
+use spelling::Misread;
+use std::io;
+use std::io::Write;
+use stream::half;
 
-// The first n bytes, or all where there are fewer.
-fn put_part(out: &mut Output, at: usize, s: &[u8], n: usize) -> usize {
-    if n < s.len() {
-        return put_all(out, at, &s[..n]);
-    }
-    put_all(out, at, s)
-}
-
-fn answer_words(s: &[u8], out: &mut Output, at: usize) -> usize {
+fn answer_words(s: &[u8], out: &mut Output) -> io::Result<()> {
     let mut lent = [0u8; 266880];
-    let w = desk::spell_lines(s, 0, &mut lent);
-    let a = w.answer;
-    let t = told_of(a);
-    if t.number != 0 {
-        return put_refusal(out, at, t);
-    }
-    put_part(out, at, &lent, w.bytes)
-}
-
-fn put_said(out: &mut Output, at: usize, a: Said) -> usize {
-    match a {
-        Said::Taken => put_pair(out, at, 0, 0),
-        Said::Strange(i) => put_pair(out, at, 1, i),
-        Said::Large(i) => put_pair(out, at, 2, i),
-        Said::Many(i) => put_pair(out, at, 3, i),
-        Said::Room => put_pair(out, at, 4, 0),
+    match spell_lines(s, 0, &mut lent) {
+        Ok(spelled) => out.write_all(front(&lent, spelled.bytes)),
+        Err(e) => refused(out, e),
     }
 }
 
-fn answer_text(s: &[u8], out: &mut Output, at: usize) -> usize {
+fn answer_text(s: &[u8], out: &mut Output) -> io::Result<()> {
     let mut lent = [0u8; 396547];
-    let r = desk::read_words(s, &mut lent);
-    let a = r.answer;
-    let first = put_said(out, at, a);
-    let second = put(out, first, b' ');
-    let third = put_front(out, second, &lent, r.bytes);
-    put(out, third, b'\n')
-}
-
-// The buffer's front lent.
-fn spell_front(s: &[u8], k: u64, lent: &mut [u8], room: usize) -> Spelled
-    requires { room ≤ length lent.old }
-{
-    desk::spell_lines(s, k, &mut lent[..room])
-}
-
-fn put_spelled(out: &mut Output, at: usize, w: Spelled) -> usize {
-    let a = w.answer;
-    let t = told_of(a);
-    let first = put_pair(out, at, t.number as u64, t.place as u64);
-    let second = put(out, first, b' ');
-    put_pair(out, second, w.entries as u64, w.bytes as u64)
+    match read_words(s, &mut lent) {
+        Ok(bytes) => writeln!(out, "0 0 {}", Hex(front(&lent, bytes))),
+        Err(Misread::Strange(line)) => writeln!(out, "1 {line} "),
+        Err(Misread::Large(line)) => writeln!(out, "2 {line} "),
+        Err(Misread::Many(line)) => writeln!(out, "3 {line} "),
+        Err(Misread::Room) => writeln!(out, "4 0 "),
+    }
 }
 
 // What was answered, and the whole of what was lent.
-fn answer_piece(s: &[u8], out: &mut Output, at: usize) -> usize {
+fn answer_piece(s: &[u8], out: &mut Output) -> io::Result<()> {
     if s.len() < 4 {
-        return at;
+        return Ok(());
     }
     let k = half(s, 0);
-    let room = half(s, 2) as usize;
-    let mut lent = [0xaau8; 65536];
-    let w = spell_front(&s[4..], k as u64, &mut lent, room);
-    let first = put_spelled(out, at, w);
-    let second = put(out, first, b' ');
-    let third = put_front(out, second, &lent, room);
-    put(out, third, b'\n')
-}
-
-fn answer_one(mode: u8, s: &[u8], out: &mut Output, at: usize) -> usize {
-    match mode {
-        b'w' => answer_words(s, out, at),
-        b'u' => answer_text(s, out, at),
-        b'p' => answer_piece(s, out, at),
-        _ => at,
-    }
-}
-
-// Nothing says that the input ends, so the turns are counted down from a number that no run uses up.
-fn answer_all(input: &mut impl Read, mode: u8, item: &mut [u8], out: &mut Output) -> usize {
-    let mut at = 0;
-    let mut turns = u64::MAX;
-    while turns > 0 {
-        let next = next_item(input, item);
-        if !next.there {
-            break;
+    let mut buffer = [0xaa; 65536];
+    let lent = &mut buffer[..usize::from(half(s, 2))];
+    match spell_lines(&s[4..], u64::from(k), lent) {
+        Ok(spelled) => write!(out, "0 0 {} {}", spelled.entries, spelled.bytes)?,
+        Err(e) => {
+            let told = told_of(Err(e));
+            write!(out, "{} {} 0 0", told.number, told.place)?;
         }
-        let kept = next.kept;
-        let after = answer_one(mode, &item[..kept], out, at);
-        at = after;
-        turns -= 1;
     }
-    at
+    writeln!(out, " {}", Hex(lent))
 }
 
 fn main(rt: HostRuntime) {
     let mut input = rt.stdin();
-    let mut mode = [0u8; 1];
-    stream::fill(&mut input, &mut mode);
+    let answer: fn(&[u8], &mut Output) -> io::Result<()> = match mode_of(&mut input) {
+        b'w' => answer_words,
+        b'u' => answer_text,
+        b'p' => answer_piece,
+        _ => return,
+    };
     // Longer than any schedule and than the texts that are compared.
     let mut item = [0u8; 131072];
-    let mut out = Output::new(rt.stdout());
-    let at = answer_all(&mut input, mode[0], &mut item, &mut out);
-    finish(&out, at);
+    answer_all(&mut input, &mut item, Output::new(rt.stdout()), answer);
 }
