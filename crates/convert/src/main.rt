@@ -3,143 +3,85 @@
 
 #![tactic(auto)]
 
-ghost use Rattle.std.specs.Prelude.{◌≤◌, length};
-
-use answer::{Answer, Told};
-use std::io::Read;
+use answer::{Answer, told_of};
+use image::{Shape, size_of};
 use std::rt::Env;
 
-// What was not done, and why.
-fn complain(rt: &impl Eprint, why: &str) {
-    let _ = eprintln!(rt; "convert: {why}");
+// What is asked for; an export is for T desks.
+#[derive(Clone, Copy)]
+enum Change {
+    Wide,
+    Narrow,
+    Import,
+    Export(u8),
 }
 
-fn refused(rt: &(impl Print + Eprint), t: Told) {
-    if println!(rt; "refused {} at {}", t.number, t.place).is_err() {
-        complain(rt, "standard output took no more, the line is not whole");
-    }
-}
-
-fn is_word(a: &[u8], b: &[u8]) -> bool {
-    if a.len() != b.len() {
-        return false;
-    }
-    let mut i = 0;
-    while i < a.len() {
-        if a[i] != b[i] {
-            return false;
+impl Change {
+    fn convert(self, s: &[u8], b: &mut [u8]) -> Answer {
+        match self {
+            Change::Wide => converting::widen(s, b),
+            Change::Narrow => converting::narrow(s, b),
+            Change::Import => converting::import_desks(s, b),
+            Change::Export(t) => converting::export_desks(s, t, b),
         }
-        i += 1;
     }
-    true
-}
 
-// By the form that is written, as docs/DECISIONS.md numbers them; 3 stands for an import.
-fn converted(s: &[u8], b: &mut [u8], to: u8, t: u8) -> Answer {
-    if to == 2 {
-        return converting::widen(s, b);
-    }
-    if to == 3 {
-        return converting::import_desks(s, b);
-    }
-    if to == 4 {
-        return converting::export_desks(s, t, b);
-    }
-    converting::narrow(s, b)
-}
-
-// How many bytes the image of n nodes has that is written.
-fn size_of(n: u8, to: u8, t: u8) -> usize {
-    if to == 2 {
-        return 14 + (n as usize) * 13;
-    }
-    if to == 4 {
-        return 7 + (t as usize) * 4 + (n as usize) * 9;
-    }
-    10 + (n as usize) * 9
-}
-
-// The argument of a number in the buffer's front, and how many bytes it has; 0 where there is none, or it is longer than the buffer.
-fn argument(rt: &impl Env, i: usize, word: &mut [u8]) -> usize
-    ensures { result ≤ length word.new }
-{
-    match rt.arg(i, word) {
-        Ok(n) => n,
-        Err(_) => 0,
+    // How many bytes the image of n nodes has that is written.
+    #[tactic(auto, unfolding(image::specs::Form::known))]
+    fn size(self, n: u8) -> usize {
+        match self {
+            Change::Wide => size_of(Shape { form: 2, n, t: 0 }),
+            Change::Narrow | Change::Import => size_of(Shape { form: 1, n, t: 0 }),
+            Change::Export(t) => size_of(Shape { form: 4, n, t }),
+        }
     }
 }
 
 // A second argument of one digit; of anything else 0, which is refused by 4.
 fn threads(rt: &impl Env) -> u8 {
-    let mut word = [0u8; 8];
-    let n = argument(rt, 2, &mut word);
-    if n != 1 {
-        return 0;
+    let mut word = [0; 8];
+    match rt.arg(2, &mut word) {
+        Ok(1) if word[0].is_ascii_digit() => word[0] - b'0',
+        _ => 0,
     }
-    let digit = word[0];
-    if digit < b'0' {
-        return 0;
-    }
-    if digit > b'9' {
-        return 0;
-    }
-    digit - b'0'
 }
 
-// The first n bytes, or all where there are fewer.
-fn print(rt: &impl Print, b: &[u8], n: usize) -> bool {
-    if n < b.len() {
-        return rt.write_all(&b[..n]).is_ok();
+// By the first argument. One that is longer than the buffer is none of these words, and so is a missing one.
+fn asked(rt: &impl Env) -> Option<Change> {
+    let mut word = [0; 8];
+    let n = rt.arg(1, &mut word).unwrap_or(0);
+    match &word[..n] {
+        b"wide" => Some(Change::Wide),
+        b"narrow" => Some(Change::Narrow),
+        b"import" => Some(Change::Import),
+        b"export" => Some(Change::Export(threads(rt))),
+        _ => None,
     }
-    rt.write_all(b).is_ok()
 }
 
-fn convert(rt: &(impl Print + Eprint), input: &mut impl Read, to: u8, t: u8) {
+// The converted image, or the line of the refusal; the error is what was not done, and why.
+fn convert(rt: &HostRuntime) -> Result<(), &'static str> {
+    let change = asked(rt).ok_or("the argument is `wide`, `narrow`, `import`, or `export` and T")?;
     // The longest image has 846 bytes: what is longer than this is refused as its first part is.
-    let mut s = [0u8; 1024];
-    let got = stream::fill(input, &mut s).bytes;
-    if got < 1024 && !stream::at_end(input) {
-        complain(
-            rt,
-            "standard input could not be read to its end, no image is written",
+    let mut s = [0; 1024];
+    let got = stream::whole(&mut rt.stdin(), &mut s).ok_or(
+        "standard input could not be read to its end, no image is written",
+    )?;
+    let mut b = [0; 846];
+    let a = change.convert(&s[..got], &mut b);
+    if a.is_err() {
+        let told = told_of(a);
+        return println!(rt; "refused {} at {}", told.number, told.place).map_err(
+            |_| "standard output took no more, the line is not whole",
         );
-        return;
     }
-    let mut b = [0u8; 846];
-    let a = converted(&s[..got], &mut b, to, t);
-    if !answer::is_taken(a) {
-        refused(rt, answer::told_of(a));
-        return;
-    }
-    let size = size_of(s[5], to, t);
-    if !print(rt, &b, size) {
-        complain(rt, "standard output took no more, the image is not whole");
-    }
+    let size = change.size(s[5]);
+    rt.write_all(b.get(..size).unwrap_or(&b))
+        .map_err(|_| "standard output took no more, the image is not whole")
 }
 
 fn main(rt: HostRuntime) {
-    let mut input = rt.stdin();
-    let mut word = [0u8; 8];
-    let n = argument(&rt, 1, &mut word);
-    if is_word(&word[..n], b"wide") {
-        convert(&rt, &mut input, 2, 0);
-        return;
+    if let Err(why) = convert(&rt) {
+        let _ = eprintln!(rt; "convert: {why}");
     }
-    if is_word(&word[..n], b"narrow") {
-        convert(&rt, &mut input, 1, 0);
-        return;
-    }
-    if is_word(&word[..n], b"import") {
-        convert(&rt, &mut input, 3, 0);
-        return;
-    }
-    if is_word(&word[..n], b"export") {
-        let t = threads(&rt);
-        convert(&rt, &mut input, 4, t);
-        return;
-    }
-    complain(
-        &rt,
-        "the argument is `wide`, `narrow`, `import`, or `export` and T",
-    );
 }

@@ -8,6 +8,7 @@ mod placing;
 mod reading;
 mod refusing;
 mod searching;
+mod showing;
 mod standing;
 
 ghost use Rattle.std.specs.Prelude.{◌≡◌, ◌≤◌, length};

@@ -3,50 +3,56 @@
 
 #![tactic(auto)]
 
-use replaying::Replayed;
-use std::io;
+use answer::told_of;
+use replaying::replay;
+use std::{fmt, io};
 
-// The line's end; that standard output did not take the line is told.
-fn end_line(rt: &(impl Print + Eprint), line: io::Result<()>) {
-    if line.is_err() || println!(rt; "").is_err() {
+// An answer by its number in a probe file, with its item.
+#[derive(Clone, Copy)]
+struct Answered {
+    number: u8,
+    item: u32,
+}
+
+// In words.
+impl fmt::Display for Answered {
+    fn fmt<W: fmt::Write>(&self, f: &mut fmt::Formatter<W>) -> fmt::Result {
+        match self.number {
+            0 => write!(f, "no answer"),
+            1 => write!(f, "Done"),
+            2 => write!(f, "Full"),
+            3 => write!(f, "Worn out"),
+            4 => write!(f, "item {}", self.item),
+            5..=255 => write!(f, "Empty"),
+        }
+    }
+}
+
+fn print_replayed(rt: &impl Print, s: &[u8]) -> io::Result<()> {
+    match replay(s) {
+        Ok(None) => println!(rt; "all agree"),
+        Ok(Some(d)) => {
+            let event = d.event;
+            let seen = Answered {
+                number: d.seen,
+                item: d.seen_item,
+            };
+            let given = Answered {
+                number: d.given,
+                item: d.given_item,
+            };
+            println!(rt; "event {event}: recorded {seen}, the machine gives {given}")
+        }
+        Err(e) => {
+            let told = told_of(Err(e));
+            println!(rt; "refused {} at {}", told.number, told.place)
+        }
+    }
+}
+
+// The line of the file that the bytes are. That standard output did not take it is told.
+pub fn print_file(rt: &(impl Print + Eprint), s: &[u8]) {
+    if print_replayed(rt, s).is_err() {
         let _ = eprintln!(rt; "replay: standard output took no more, the line is not whole");
     }
-}
-
-fn print_item(rt: &impl Print, item: u32) -> io::Result<()> {
-    print!(rt; "item {item}")
-}
-
-// An answer in words.
-fn print_answer(rt: &impl Print, k: u8, item: u32) -> io::Result<()> {
-    match k {
-        0 => print!(rt; "no answer"),
-        1 => print!(rt; "Done"),
-        2 => print!(rt; "Full"),
-        3 => print!(rt; "Worn out"),
-        4 => print_item(rt, item),
-        5..=255 => print!(rt; "Empty"),
-    }
-}
-
-fn print_replayed(rt: &impl Print, r: Replayed) -> io::Result<()> {
-    if !r.differs {
-        return print!(rt; "all agree");
-    }
-    print!(rt; "event {}: recorded ", r.event)?;
-    print_answer(rt, r.seen, r.seen_item)?;
-    print!(rt; ", the machine gives ")?;
-    print_answer(rt, r.given, r.given_item)
-}
-
-// The line of the file that the bytes are.
-pub fn print_file(rt: &(impl Print + Eprint), s: &[u8]) {
-    let r = replaying::replay(s);
-    let a = r.answer;
-    if !answer::is_taken(a) {
-        let t = answer::told_of(a);
-        end_line(rt, print!(rt; "refused {} at {}", t.number, t.place));
-        return;
-    }
-    end_line(rt, print_replayed(rt, r));
 }
