@@ -1,119 +1,48 @@
 // The tests of an image where its bytes lie: unclear linked bytes (6), twins (7), the dummy (8). Nothing is copied.
-// Where a node's bytes are is known to `linked_at` and `index_at` alone; z is the shape of the image that lies in the bytes.
-ghost use Rattle.std.specs.Prelude.{◌≡◌, ◌<◌};
+// Where a node's bytes are is known to `Lying` alone.
+ghost use Rattle.std.specs.Prelude.{◌≡◌};
 ghost use Rattle.answer.specs.Answers.{Taken};
-ghost use Rattle.image.specs.Layout.{content_at, image_in};
-ghost use Rattle.image.specs.Recovered.{head_of, recovered_at, twins, first_unclear, first_twin, dummy_of};
+ghost use Rattle.image.specs.Layout.{image_in};
 ghost use Rattle.image.specs.Refusals.{sound};
 ghost use Rattle.codec.specs.Parts.{Lies};
 
 use crate::bytes::index_in;
 use crate::lines::heads_in;
-use answer::{Answer, Refusal, Reply};
+use answer::Answer;
+use image::nodes::{Nodes, sound};
 use image::{Shape, head_of, place_of};
 
-// Node i's linked byte.
-pub fn linked_at(s: &[u8], z: Shape, i: usize) -> u8
-    requires { (i < z.n) × Lies s.now z }
-    ensures { result ≡ (content_at (image_in s.now).nodes i).linked }
-{
-    let at = place_of(z, i);
-    s[at]
+// An image that lies in bytes, with its shape.
+#[derive(Clone, Copy)]
+pub struct Lying<'a> {
+    pub bytes: &'a [u8],
+    pub shape: Shape,
+    pub ghost lies: { Lies bytes.now shape },
 }
 
-// Node i's index.
-pub fn index_at(s: &[u8], z: Shape, i: usize) -> u64
-    requires { (i < z.n) × Lies s.now z }
-    ensures { result ≡ (content_at (image_in s.now).nodes i).index }
-{
-    let at = place_of(z, i);
-    index_in(s, z.form, at + 1)
-}
+impl<'a> Nodes for Lying<'a> {
+    ghost image = { λ w. image_in w.bytes.now };
 
-// The head index that a start takes.
-pub fn head_at(s: &[u8], z: Shape) -> u64
-    requires { Lies s.now z }
-    ensures { result ≡ head_of (image_in s.now) }
-{
-    let heads = heads_in(s, z);
-    head_of(heads, z)
-}
+    ghost fits = { λ w. Unit };
 
-// Node i is recovered: h is the head index.
-fn recovered_at(s: &[u8], z: Shape, i: usize, h: u64) -> bool
-    requires { (i < z.n) × (Lies s.now z × (h ≡ head_of (image_in s.now))) }
-    ensures { result ≡ recovered_at (image_in s.now) i }
-{
-    if linked_at(s, z, i) == 1 {
-        let x = index_at(s, z, i);
-        return h < x;
+    fn count(&self) -> u8 {
+        self.shape.n
     }
-    false
-}
 
-// Nodes i and j are recovered, with one index.
-pub fn twins_at(s: &[u8], z: Shape, i: usize, j: usize, h: u64) -> bool
-    requires { (i < z.n) × ((j < z.n) × (Lies s.now z × (h ≡ head_of (image_in s.now)))) }
-    ensures { result ≡ twins (image_in s.now) i j }
-{
-    if recovered_at(s, z, i, h) {
-        if recovered_at(s, z, j, h) {
-            let x = index_at(s, z, i);
-            let y = index_at(s, z, j);
-            return x == y;
-        }
-        return false;
+    fn linked(&self, i: usize) -> u8 {
+        let at = place_of(self.shape, i);
+        self.bytes[at]
     }
-    false
-}
 
-// The first node whose linked byte is above 1, and N where none is.
-fn first_unclear_at(s: &[u8], z: Shape, n: usize) -> usize
-    requires { (n ≡ z.n) × Lies s.now z }
-    ensures { result ≡ first_unclear (image_in s.now) }
-{
-    let mut i = 0;
-    while i < n {
-        if linked_at(s, z, i) > 1 {
-            return i;
-        }
-        i += 1;
+    fn index(&self, i: usize) -> u64 {
+        let at = place_of(self.shape, i);
+        index_in(self.bytes, self.shape.form, at + 1)
     }
-    i
-}
 
-// The smallest node number that has a lower-numbered twin, and N where none has.
-pub fn first_twin_at(s: &[u8], z: Shape, n: usize, h: u64) -> usize
-    requires { (n ≡ z.n) × (Lies s.now z × (h ≡ head_of (image_in s.now))) }
-    ensures { result ≡ first_twin (image_in s.now) }
-{
-    let mut i = 0;
-    'pairs: while i < n {
-        let mut j = 0;
-        while j < i {
-            if twins_at(s, z, i, j, h) {
-                break 'pairs;
-            }
-            j += 1;
-        }
-        i += 1;
+    fn head(&self) -> u64 {
+        let heads = heads_in(self.bytes, self.shape);
+        head_of(heads, self.shape)
     }
-    i
-}
-
-// The lowest-numbered node that is not recovered, and N where every node is.
-pub fn dummy_at(s: &[u8], z: Shape, n: usize, h: u64) -> usize
-    requires { (n ≡ z.n) × (Lies s.now z × (h ≡ head_of (image_in s.now))) }
-    ensures { result ≡ dummy_of (image_in s.now) }
-{
-    let mut i = 0;
-    while i < n {
-        if !recovered_at(s, z, i, h) {
-            return i;
-        }
-        i += 1;
-    }
-    i
 }
 
 // 6, 7, 8.
@@ -121,18 +50,5 @@ pub fn sound_at(s: &[u8], z: Shape) -> Answer
     requires { Lies s.now z }
     ensures { result ≡ sound (image_in s.now) Taken }
 {
-    let n = z.n as usize;
-    let i = first_unclear_at(s, z, n);
-    if i < n {
-        return Err(Refusal::Linked(i as u32));
-    }
-    let h = head_at(s, z);
-    let j = first_twin_at(s, z, n, h);
-    if j < n {
-        return Err(Refusal::Twin(j as u32));
-    }
-    if dummy_at(s, z, n, h) == n {
-        return Err(Refusal::NoDummy);
-    }
-    Ok(Reply::Taken)
+    sound(&Lying { bytes: s, shape: z })
 }

@@ -8,6 +8,7 @@ ghost use Rattle.image.specs.Layout.{head_content, image_shape};
 pub mod blank;
 pub mod form;
 pub mod heads;
+pub mod nodes;
 pub mod recovered;
 pub mod same;
 pub mod shapes;
