@@ -8,7 +8,10 @@ use borrow.Author.Tests.{lt-ltb, le-ltb}
 use lib.ListN.{length}
 use lib.Dec.{ltb}
 use Rattle.lists.specs.Tab.{over}
-use Rattle.answer.specs.Answers.{told, check, accepted, Answer, Taken, Length, Mark, Room}
+use Rattle.std.specs.Prelude.{Result, Ok, Err}
+use Rattle.answer.specs.declared.Refusal.{Refusal}
+use Rattle.answer.proofs.Results.{came_back}
+use Rattle.answer.specs.Answers.{check, accepted, given, Answer, Taken, Length, Mark, Room}
 use Rattle.image.specs.Form.{known, head_lines, image_size, per_desk}
 use Rattle.image.specs.Layout.{form_in, image_shape, shape_in, image_in}
 use Rattle.image.specs.declared.Shape.{Shape}
@@ -72,19 +75,21 @@ module _ (s : List ℕ) (room listed : ℕ) where
       let z = (acc.shape_taken 0 0 s (mendshape_is s h)).size in
       mendshape_then s (roomed s room listed) h ∙ rw (le-ltb room (image_size (shape_in s)) (omega arith), le-ltb listed (mend_changed s * 2) m)
 
--- what the contract asks, of an answer a, a number k of changed nodes, and the bytes that are left
-abbrev pub Given : List ℕ → List ℕ → List ℕ → Answer → ℕ → List ℕ → List ℕ → Type 0
-Given s b l a k b' l' =
-    (told a ≡ told (mend_answer s (length b) (length l))) × ((k ≡ mend_count s (length b) (length l)) × ((b' ≡ mend_written s b l) × (l' ≡ list_written s b l)))
+-- what the contract asks, of what is given, r, and the bytes that are left
+abbrev pub Given : List ℕ → List ℕ → List ℕ → Result ℕ Refusal → List ℕ → List ℕ → Type 0
+Given s b l r b' l' =
+    (r ≡ given (mend_answer s (length b) (length l)) (mend_count s (length b) (length l))) × ((b' ≡ mend_written s b l) × (l' ≡ list_written s b l))
 
 module _ (s b l : List ℕ) where
-  pub given_refused : (a : Answer) → mend_answer s (length b) (length l) ≡ a → accepted a ≡ false → Given s b l a 0 b l
+  pub given_refused : (r : Result ℕ Refusal) (w : Refusal) → r ≡ Err w → mend_answer s (length b) (length l) ≡ Err w → Given s b l r b l
   unfolding mend_count mend_written list_written
-  given_refused a e h = rw (e, h) (refl, (refl, (refl, refl)))
+  given_refused r w is e =
+      let h : accepted (mend_answer s (length b) (length l)) ≡ false = came_back refl e in
+      (is ∙ ap (λ (a : Answer). given a (mend_count s (length b) (length l))) (sym e), (rw h, rw h))
 
-  pub given_taken : mend_answer s (length b) (length l) ≡ Taken → Given s b l Taken (mend_changed s) (over b 0 (mend_bytes s)) (over l 0 (mend_list s))
+  pub given_taken : mend_answer s (length b) (length l) ≡ Taken → Given s b l (Ok (mend_changed s)) (over b 0 (mend_bytes s)) (over l 0 (mend_list s))
   unfolding mend_count mend_written list_written
-  given_taken e = rw e (refl, (refl, (refl, refl)))
+  given_taken e = rw e (refl, (refl, refl))
 
 -- the mended image can be written where there is room for the bytes that it came as
 pub put_fits : (s : List ℕ) (room : ℕ) → accepted (mend_shape s Taken) ≡ true → length s ≤ room

@@ -1,6 +1,7 @@
 pub mod ClearLaws
 pub mod MendLaws
 pub mod Plain
+pub mod ReasonLaws
 pub mod Turns
 pub mod Answers
 pub mod ListLaws

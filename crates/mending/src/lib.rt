@@ -10,9 +10,9 @@ ghost use Rattle.std.specs.Prelude.{◌≡◌, length};
 ghost use Rattle.answer.specs.Answers.{given, Taken};
 ghost use Rattle.mending.specs.Bytes.{mend_shape, mend_answer, mend_count, mend_written, list_written};
 
-use crate::reasons::{changed_of, spare_at};
-use crate::writing::{mended_of, put_changes};
 use answer::{Answer, Refusal};
+use codec::sound::Lying;
+use reasons::{Damaged, spare_at};
 
 // 1, 2, 3, 1: what is wrong with the image before its nodes are looked at. "UQP" has no mender.
 fn shape_at(s: &[u8]) -> Answer
@@ -39,14 +39,15 @@ pub fn mend_image(s: &[u8], b: &mut [u8], l: &mut [u8]) -> Result<u8, Refusal>
         return Err(Refusal::Room);
     }
     let z = codec::shape_in(s);
-    let n = z.n as usize;
-    let spare = spare_at(s, z, n);
-    let count = changed_of(s, z, n, spare);
+    let lying = Lying { bytes: s, shape: z };
+    let spare = spare_at(&lying);
+    let d = Damaged { lying, spare };
+    let count = d.changed();
     if l.len() < count * 2 {
         return Err(Refusal::Room);
     }
-    let g = mended_of(s, z, n, spare);
+    let g = d.mended();
     codec::put_image(b, g);
-    put_changes(s, z, n, spare, l);
+    d.put_changes(l);
     Ok(count as u8)
 }

@@ -1,21 +1,40 @@
 // Why a node is changed, read off the bytes as they came.
-ghost use Rattle.std.specs.Prelude.{◌≡◌, not, ◌<◌, eqb};
-ghost use Rattle.lists.specs.Find.{pick};
+ghost use Rattle.std.specs.Prelude.{◌≡◌, ◌<◌};
 ghost use Rattle.image.specs.Layout.{image_in};
-ghost use Rattle.image.specs.Recovered.{has_twin};
-ghost use Rattle.codec.specs.Parts.{Lies};
 ghost use Rattle.mending.specs.Mended.{larger_at, largest_at, spare_of, reason_at, changed};
+ghost use Rattle.mending.specs.Reasons.{number_of, why_number};
 
-use codec::sound::{dummy_at, first_twin_at, head_at, index_at, linked_at, twins_at};
-use image::Shape;
+use codec::sound::Lying;
+use image::nodes::{Nodes, dummy, first_twin, has_twin};
+
+// Why a node is changed: its linked byte is above 1 (6), a lower-numbered node is recovered with its index (7),
+// or every node is recovered and its index is the largest (8).
+#[derive(Clone, Copy, Debug, PartialEq, Eq)]
+pub enum Reason {
+    Unclear,
+    Twin,
+    Spare,
+}
+
+impl From<Reason> for u8 {
+    ghost from_gives = { λ r n. n ≡ number_of r };
+
+    fn from(r: Reason) -> u8 {
+        match r {
+            Reason::Unclear => 6,
+            Reason::Twin => 7,
+            Reason::Spare => 8,
+        }
+    }
+}
 
 // Of nodes r and k the one with the larger index, r where the two are equal.
-fn larger_at(s: &[u8], z: Shape, r: usize, k: usize) -> usize
-    requires { (r < z.n) × ((k < z.n) × Lies s.now z) }
-    ensures { result ≡ larger_at (image_in s.now) r k }
+fn larger_at(w: &Lying<'_>, r: usize, k: usize) -> usize
+    requires { (r < (image_in w.now.bytes.now).n) × (k < (image_in w.now.bytes.now).n) }
+    ensures { result ≡ larger_at (image_in w.now.bytes.now) r k }
 {
-    let x = index_at(s, z, r);
-    let y = index_at(s, z, k);
+    let x = w.index(r);
+    let y = w.index(k);
     if x < y {
         return k;
     }
@@ -23,87 +42,68 @@ fn larger_at(s: &[u8], z: Shape, r: usize, k: usize) -> usize
 }
 
 // The node with the largest index.
-fn largest_at(s: &[u8], z: Shape, n: usize) -> usize
-    requires { (n ≡ z.n) × Lies s.now z }
-    ensures { result ≡ largest_at (image_in s.now) n }
+fn largest_at(w: &Lying<'_>) -> usize
+    ensures { result ≡ largest_at (image_in w.now.bytes.now) (image_in w.now.bytes.now).n }
 {
+    let n = w.count() as usize;
     let mut r = 0;
-    let mut k = 0;
-    while k < n {
-        r = larger_at(s, z, r, k);
-        k += 1;
+    for k in 0..n {
+        r = larger_at(w, r, k);
     }
     r
 }
 
 // The node cleared for 8, and N where there is none.
-pub fn spare_at(s: &[u8], z: Shape, n: usize) -> usize
-    requires { (n ≡ z.n) × Lies s.now z }
-    ensures { result ≡ spare_of (image_in s.now) }
+pub fn spare_at(w: &Lying<'_>) -> usize
+    ensures { result ≡ spare_of (image_in w.now.bytes.now) }
 {
-    let h = head_at(s, z);
-    if first_twin_at(s, z, n, h) != n {
+    let n = w.count() as usize;
+    let h = w.head();
+    if first_twin(w, h) != n || dummy(w, h) != n {
         return n;
     }
-    if dummy_at(s, z, n, h) != n {
-        return n;
-    }
-    largest_at(s, z, n)
+    largest_at(w)
 }
 
-// Node i has a lower-numbered twin.
-fn has_twin_at(s: &[u8], z: Shape, i: usize) -> bool
-    requires { (i < z.n) × Lies s.now z }
-    ensures { result ≡ has_twin (image_in s.now) i }
-{
-    let h = head_at(s, z);
-    let mut j = 0;
-    while j < i {
-        if twins_at(s, z, i, j, h) {
-            return true;
+// An image that lies in bytes, and the node of it that is cleared for 8: N where there is none.
+#[derive(Clone, Copy)]
+pub struct Damaged<'a> {
+    pub lying: Lying<'a>,
+    pub spare: usize,
+    pub ghost chosen: { spare ≡ spare_of (image_in lying.bytes.now) },
+}
+
+impl<'a> Damaged<'a> {
+    // Why node i is changed.
+    pub fn reason(&self, i: usize) -> Option<Reason>
+        requires { i < (image_in self.now.lying.bytes.now).n }
+        ensures { why_number result ≡ reason_at (image_in self.now.lying.bytes.now) i }
+    {
+        if self.lying.linked(i) > 1 {
+            return Some(Reason::Unclear);
         }
-        j += 1;
+        let h = self.lying.head();
+        if has_twin(&self.lying, i, h) {
+            return Some(Reason::Twin);
+        }
+        if i == self.spare {
+            return Some(Reason::Spare);
+        }
+        None
     }
-    false
-}
 
-// Why node i is changed: 6, 7 or 8; 0 where it is not.
-pub fn reason_at(s: &[u8], z: Shape, i: usize, spare: usize) -> u8
-    requires { (i < z.n) × (Lies s.now z × (spare ≡ spare_of (image_in s.now))) }
-    ensures { result ≡ reason_at (image_in s.now) i }
-{
-    if linked_at(s, z, i) > 1 {
-        return 6;
+    // How many nodes are changed.
+    pub fn changed(&self) -> usize
+        ensures { result ≡ changed (image_in self.now.lying.bytes.now) (image_in self.now.lying.bytes.now).n }
+    {
+        let n = self.lying.count() as usize;
+        let mut count = 0;
+        for i in 0..n {
+            if self.reason(i).is_none() {
+                continue;
+            }
+            count += 1;
+        }
+        count
     }
-    if has_twin_at(s, z, i) {
-        return 7;
-    }
-    if i == spare {
-        return 8;
-    }
-    0
-}
-
-fn one_where(why: u8) -> usize
-    ensures { result ≡ pick (not (eqb why 0)) 1 0 }
-{
-    if why == 0 {
-        return 0;
-    }
-    1
-}
-
-// How many nodes are changed.
-pub fn changed_of(s: &[u8], z: Shape, n: usize, spare: usize) -> usize
-    requires { (n ≡ z.n) × (Lies s.now z × (spare ≡ spare_of (image_in s.now))) }
-    ensures { result ≡ changed (image_in s.now) n }
-{
-    let mut count = 0;
-    let mut i = 0;
-    while i < n {
-        let why = reason_at(s, z, i, spare);
-        count += one_where(why);
-        i += 1;
-    }
-    count
 }

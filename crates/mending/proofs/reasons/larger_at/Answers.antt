@@ -4,8 +4,8 @@ use Rattle.mending.proofs.reasons.larger_at.Goals as goal
 
 pub returns-then-x-y : goal.returns-then-x-y
 unfolding larger_at
-returns-then-x-y c = rw (← c.index_at-x.ensures, ← c.index_at-y.ensures, lt-ltb _ _ c.if-x-y.true)
+returns-then-x-y c = rw (← c.index-x.ensures, ← c.index-y.ensures, lt-ltb _ _ c.if-x-y.true)
 
 pub returns : goal.returns
 unfolding larger_at
-returns c = rw (← c.index_at-x.ensures, ← c.index_at-y.ensures, le-ltb _ _ c.if-x-y.false)
+returns c = rw (← c.index-x.ensures, ← c.index-y.ensures, le-ltb _ _ c.if-x-y.false)

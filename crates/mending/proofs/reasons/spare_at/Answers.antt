@@ -1,30 +1,26 @@
-use mathlib.Core.Path.{refl, sym, ◌∙◌}
 use borrow.Author.Tests.{eq-eqb, ne_eqb}
 use Rattle.image.specs.Layout.{image_in}
 use Rattle.image.specs.Recovered.{dummy_of}
-use Rattle.codec.proofs.Lying.{nodes_in_lem}
+use mathlib.Core.Path.{refl, ◌∙◌, ap}
+use Rattle.mending.specs.Mended.{largest_at}
 use Rattle.mending.proofs.Turns as turns
 use Rattle.mending.proofs.reasons.spare_at.Goals as goal
+use Rattle.mending.proofs.reasons.spare_at.Goals.{then-first_twin-n-via-then-first_twin-n, then-first_twin-n-via-else-first_twin-n+then-dummy-n}
 
-pub returns-then-first_twin_at-n : goal.returns-then-first_twin_at-n
-returns-then-first_twin_at-n c =
-    let g = image_in c.args.s.now in
-    rw (← turns.spare_by g c.args.n c.first_twin_at.result (dummy_of g) (c.requires.0 ∙ sym (nodes_in_lem c.args.s.now c.args.z c.requires.1)) c.first_twin_at.ensures refl, ne_eqb _ _ c.if-first_twin_at-n.true)
-
-pub returns-then-dummy_at-n : goal.returns-then-dummy_at-n
-returns-then-dummy_at-n c =
-    let g = image_in c.args.s.now in
-    rw (
-      ← turns.spare_by g c.args.n c.first_twin_at.result c.dummy_at.result (c.requires.0 ∙ sym (nodes_in_lem c.args.s.now c.args.z c.requires.1)) c.first_twin_at.ensures c.dummy_at.ensures,
-      eq-eqb _ _ c.if-first_twin_at-n.false,
-      ne_eqb _ _ c.if-dummy_at-n.true,
-    )
+pub returns-then-first_twin-n : goal.returns-then-first_twin-n
+returns-then-first_twin-n c =
+    let g = image_in c.args.w.now.bytes.now in
+    elim c.then-first_twin-n.branch [
+      | then-first_twin-n-via-then-first_twin-n w ↦ rw (← turns.spare_by g c.count-n.result c.first_twin.result (dummy_of g) c.count-n.ensures c.first_twin.ensures refl, ne_eqb _ _ w.if-first_twin-n.true)
+      | then-first_twin-n-via-else-first_twin-n+then-dummy-n w ↦ rw (← turns.spare_by g c.count-n.result c.first_twin.result w.dummy.result c.count-n.ensures c.first_twin.ensures w.dummy.ensures, eq-eqb _ _ w.if-first_twin-n.false, ne_eqb _ _ w.if-dummy-n.true)
+    ]
 
 pub returns : goal.returns
 returns c =
-    let g = image_in c.args.s.now in
+    let g = image_in c.args.w.now.bytes.now in
     rw (
-      ← turns.spare_by g c.args.n c.first_twin_at.result c.dummy_at.result (c.requires.0 ∙ sym (nodes_in_lem c.args.s.now c.args.z c.requires.1)) c.first_twin_at.ensures c.dummy_at.ensures,
-      eq-eqb _ _ c.if-first_twin_at-n.false,
-      eq-eqb _ _ c.if-dummy_at-n.false,
+      ← turns.spare_by g c.count-n.result c.first_twin.result c.dummy.result c.count-n.ensures c.first_twin.ensures c.dummy.ensures,
+      eq-eqb _ _ c.if-first_twin-n.false,
+      eq-eqb _ _ c.if-dummy-n.false,
+      c.count-n.ensures,
     ) c.largest_at.ensures

@@ -1,21 +1,12 @@
-use mathlib.Core.Path.{refl}
-use native.Mathlib.Omega.{arith}
 use native.Mathlib.Numerals.{add-one}
-use borrow.Author.Tests.{eq-eqb, ne_eqb}
-use lib.ListN.{length-set}
 use Rattle.lists.specs.Tab.{over}
+use Rattle.mending.proofs.ReasonLaws.{not_zero}
 use Rattle.mending.proofs.writing.put_entry.Goals as goal
 
-pub returns-then-why-eq0 : goal.returns-then-why-eq0
+pub returns-in-None-clause-bytes : goal.returns-in-None-clause-bytes
 unfolding over
-returns-then-why-eq0 c = record { next = rw (eq-eqb _ _ c.if-why-eq0.true) (omega arith); bytes = rw (eq-eqb _ _ c.if-why-eq0.true) (refl) }
+returns-in-None-clause-bytes c = rw c.in-None.is
 
-pub bounds-l-at : goal.bounds-l-at
-bounds-l-at c = let p = rw (ne_eqb _ _ c.if-why-eq0.false) at c.requires in omega arith
-
-pub bounds-l-at-2 : goal.bounds-l-at-2
-bounds-l-at-2 c = let p = rw (ne_eqb _ _ c.if-why-eq0.false) at c.requires in simp length-set (omega arith)
-
-pub returns : goal.returns
+pub returns-in-Some-clause-bytes : goal.returns-in-Some-clause-bytes
 unfolding over
-returns c = record { next = rw (ne_eqb _ _ c.if-why-eq0.false) (refl); bytes = rw (ne_eqb _ _ c.if-why-eq0.false) (simp add-one) }
+returns-in-Some-clause-bytes c = rw (c.in-Some.is, c.from.ensures, not_zero c.in-Some.reason) (simp add-one)
