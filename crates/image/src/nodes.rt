@@ -92,13 +92,12 @@ pub fn first_unclear<S: Nodes>(s: &S) -> usize
     requires { S.fits s.now }
     ensures { result ≡ first_unclear (S.image s.now) }
 {
-    let n = s.count() as usize;
-    for i in 0..n {
+    for i in 0..s.count() as usize {
         if s.linked(i) > 1 {
             return i;
         }
     }
-    n
+    s.count() as usize
 }
 
 // The smallest node number that has a lower-numbered twin, and N where none has.
