@@ -23,7 +23,7 @@ use Rattle.schedule.specs.Layout.{schedule_in}
 use Rattle.schedule.specs.Run.{bench_at}
 use Rattle.replaying.specs.Probe.{probe_answer, asked, odd}
 use Rattle.replaying.specs.Replay.{refused_at, odd_at, first_refused, events_answer, replay_answer, first_odd, nothing_odd, odd_in, replay_of}
-use Rattle.replaying.specs.declared.Replayed.{Replayed}
+use Rattle.replaying.specs.Replay.{Replayed}
 
 -- N = 2, T = 1, the all-zero image, so many events
 unfoldable pub probe : ℕ → List ℕ → List ℕ

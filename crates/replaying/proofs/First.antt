@@ -20,7 +20,7 @@ use Rattle.onward.proofs.Come.{Come, Answers, come_none, come_next, answers_none
 use Rattle.replaying.specs.Probe.{probe_answer, probed_in, probed_event, odd}
 use Rattle.replaying.specs.Replay.{machine_reply, file_reply, refused_at, odd_at, first_refused, events_answer, replay_answer, first_odd, nothing_odd, odd_by, odd_in, replay_of}
 use Rattle.replaying.specs.declared.Probed.{Probed}
-use Rattle.replaying.specs.declared.Replayed.{Replayed}
+use Rattle.replaying.specs.Replay.{Replayed}
 use Rattle.replaying.proofs.ReplayLaws as laws
 
 -- ---- a search passes over no number that the test holds of

@@ -6,6 +6,7 @@ use mathlib.Core.List.{List}
 use native.Mathlib.Omega.{arith}
 use native.Mathlib.Numerals.{add-one}
 use borrow.Author.Tests.{lt-ltb, le-ltb, not-true, not-false}
+use Rattle.std.specs.Prelude.{Option, Some, None}
 use lib.ListN.{get_or, length}
 use lib.Dec.{eqb, ltb}
 use Rattle.lists.specs.Find.{pick, least}
@@ -31,9 +32,28 @@ use Rattle.codec.proofs.Accepted as codec
 use Rattle.tied.proofs.Schedules as schedules
 use Rattle.onward.proofs.Come.{Come, come_none, come_next, next_machine}
 use Rattle.replaying.specs.Probe.{probe_answer, probed_from, probed_in, probed_event, wrong_zero, asked, odd}
-use Rattle.replaying.specs.Replay.{machine_at, machine_reply, file_reply, refused_at, odd_at, first_refused, events_answer, replay_answer, first_odd, nothing_odd, odd_by, odd_in, replay_of, noted}
+use Rattle.replaying.specs.Replay.{machine_at, machine_reply, file_reply, refused_at, odd_at, first_refused, events_answer, replay_answer, first_odd, nothing_odd, odd_by, odd_in, replay_of, noted, Replayed, difference_of, difference_in, noted_difference}
 use Rattle.replaying.specs.declared.Probed.{Probed}
-use Rattle.replaying.specs.declared.Replayed.{Replayed}
+use Rattle.replaying.specs.declared.Difference.{Difference}
+
+-- ---- what the code knows of differences, as the definitions have it
+
+abbrev pub replayed_by : Option Difference → Replayed
+replayed_by None = nothing_odd Taken
+replayed_by (Some d) = record { answer = Taken; differs = true; event = d.event; seen = d.seen; seen_item = d.seen_item; given = d.given; given_item = d.given_item }
+
+pub difference_back : (o : Option Difference) → o ≡ difference_in (replayed_by o)
+difference_back None = refl
+difference_back (Some d) = refl
+
+pub noted_by : (o : Option Difference) (i : ℕ) (x : Probed) (a : Answer) → replayed_by (noted_difference o i x a) ≡ noted (replayed_by o) i x a
+unfolding noted noted_difference
+noted_by (Some d) i x a = refl
+noted_by None i x a = by (odd x a)
+  where
+    by : (b : Bool) → replayed_by (pick b (Some (difference_of (odd_by i x a))) None) ≡ pick b (odd_by i x a) (nothing_odd Taken)
+    by true = refl
+    by false = refl
 
 -- an event that is taken as the file has it is taken by the machine
 pub asked_taken : (p : ℕ) (x : Probed) (a : Answer) → accepted (asked p x a) ≡ true → accepted a ≡ true
@@ -157,13 +177,9 @@ module _ (s : List ℕ) where
       subst (λ (x : Schedule). (x.image.n ≤ 64) × (head_lines (image_shape x.image) ≤ 8)) (sym e)
       (shaped_lines (threads_in s) (shape_in (image_part s)) (probe_taken a).part.shape)
 
-  pub opened_answer : (o : Opened) → o ≡ read_by (file_answer 82 12 s) s → o.answer ≡ probe_answer s
+  pub read_taken : accepted (probe_answer s) ≡ true → (read_by (file_answer 82 12 s) s).schedule ≡ schedule_in s
   unfolding probe_answer
-  opened_answer o e = ap (λ (x : Opened). x.answer) e
-
-  pub opened_schedule : (o : Opened) → o ≡ read_by (file_answer 82 12 s) s → accepted (probe_answer s) ≡ true → o.schedule ≡ schedule_in s
-  unfolding probe_answer
-  opened_schedule o e a = ap (λ (x : Opened). x.schedule) e ∙ ap (λ (t : Bool). pick t (schedule_in s) blank_schedule) a
+  read_taken a = ap (λ (t : Bool). pick t (schedule_in s) blank_schedule) a
 
   -- ---- the loop
 
@@ -197,17 +213,17 @@ module _ (s : List ℕ) where
 
   -- at the code's terms: event i, what the machine answered, what it is answered as the file has it, and whether that is taken
   module _ (i : ℕ) (m : Machine) (r : Replayed) (u : Under i m r) (h : i < n) (x : Probed) (xe : x ≡ probed_in s i) (o : Acted) (oe : o ≡ event_at i m x.event)
-      (b : Answer) (be : b ≡ asked i x o.answer) (t : Bool) (te : t ≡ accepted b) where
+      (b : Answer) (be : b ≡ asked i x o.answer) where
     acted : o ≡ event_at i (machine_at s i) (probed_event s i)
     acted = oe ∙ ap₂ (λ (m : Machine) (x : Probed). event_at i m x.event) u.machine xe
 
     reply : b ≡ file_reply s i
     reply = be ∙ ap₂ (λ (x : Probed) (o : Acted). asked i x o.answer) xe acted
 
-    pub under_next : not t ≡ false → (q : Replayed) → q ≡ noted r i x o.answer → Under (i + 1) o.machine q
+    pub under_next : accepted b ≡ true → (q : Replayed) → q ≡ noted r i x o.answer → Under (i + 1) o.machine q
     unfolding refused_at
     under_next k q qe =
-        let a : accepted (file_reply s i) ≡ true = sym (ap accepted reply) ∙ sym te ∙ not-false t k in
+        let a : accepted (file_reply s i) ≡ true = sym (ap accepted reply) ∙ k in
         let c = asked_taken i (probed_in s i) (machine_reply s i) a in
         record {
           within = omega arith;
@@ -218,17 +234,17 @@ module _ (s : List ℕ) where
         }
 
     -- a refused event refuses the file
-    pub under_stop : accepted (probe_answer s) ≡ true → not t ≡ true → (q : Replayed) → q ≡ nothing_odd b → q ≡ replay_of s
+    pub under_stop : accepted (probe_answer s) ≡ true → accepted b ≡ false → b ≡ replay_answer s
     unfolding refused_at
-    under_stop p k q qe =
-        let a : accepted (file_reply s i) ≡ false = sym (ap accepted reply) ∙ sym te ∙ not-true t k in
-        let e : replay_answer s ≡ file_reply s i = answer_then p ∙ events_stop i (u.clear ∙ least_hit (refused_at s) n i h (ap not a)) h in
-        qe ∙ ap nothing_odd (reply ∙ sym e) ∙ sym (replay_else (ap accepted e ∙ a))
+    under_stop p k =
+        let a : accepted (file_reply s i) ≡ false = sym (ap accepted reply) ∙ k in
+        reply ∙ sym (answer_then p ∙ events_stop i (u.clear ∙ least_hit (refused_at s) n i h (ap not a)) h)
 
-  pub under_end : accepted (probe_answer s) ≡ true → (i : ℕ) (m : Machine) (r : Replayed) → Under i m r → n ≤ i → r ≡ replay_of s
+  -- all events are taken
+  pub under_end : accepted (probe_answer s) ≡ true → (i : ℕ) (m : Machine) (r : Replayed) → Under i m r → n ≤ i → (replay_answer s ≡ Taken) × (r ≡ replay_of s)
   under_end p i m r u h =
       let e : replay_answer s ≡ Taken = answer_then p ∙ events_end i (u.clear ∙ least_end (refused_at s) n i h) h in
-      found_end r i h u.found ∙ sym (replay_then (ap accepted e))
+      (e, found_end r i h u.found ∙ sym (replay_then (ap accepted e)))
 
   pub file_refused : accepted (probe_answer s) ≡ false → (q : Replayed) → q ≡ nothing_odd (probe_answer s) → q ≡ replay_of s
   file_refused a q qe = qe ∙ ap nothing_odd (sym (answer_else a)) ∙ sym (replay_else (ap accepted (answer_else a) ∙ a))

@@ -1,5 +1,5 @@
 -- A probe file replayed: its refusal, or the first event whose answer differs from the machine's, with both, or that all agree.
-use Rattle.std.specs.Prelude.{ℕ, Bool, true, false, not, List, ltb}
+use Rattle.std.specs.Prelude.{ℕ, Bool, true, false, not, List, ltb, Option, Some, None}
 use Rattle.lists.specs.Find.{pick, least}
 use Rattle.answer.specs.Answers.{told, accepted, Answer, Taken}
 use Rattle.machine.specs.Event.{event_at}
@@ -8,7 +8,7 @@ use Rattle.schedule.specs.Layout.{schedule_in, count_in}
 use Rattle.schedule.specs.Run.{bench_at, opened}
 use Rattle.replaying.specs.Probe.{probe_answer, probed_in, probed_event, asked, odd}
 use Rattle.replaying.specs.declared.Probed.{Probed}
-use Rattle.replaying.specs.declared.Replayed.{Replayed}
+use Rattle.replaying.specs.declared.Difference.{Difference}
 
 -- ---- event i, where those before it were taken
 
@@ -48,6 +48,17 @@ first_odd s = least (odd_at s) (count_in s) 0
 
 -- ---- what the call hands back
 
+-- the refusal; or the first event whose answer differs, with the observed answer and the machine's, each with its item; zeros where all agree and
+-- beside a refusal
+pub record Replayed : Type 0 where
+  pub answer : Answer
+  pub differs : Bool
+  pub event : ℕ
+  pub seen : ℕ
+  pub seen_item : ℕ
+  pub given : ℕ
+  pub given_item : ℕ
+
 -- nothing differs, or the file is refused
 abbrev pub nothing_odd : Answer → Replayed
 nothing_odd a = record { answer = a; differs = false; event = 0; seen = 0; seen_item = 0; given = 0; given_item = 0 }
@@ -66,3 +77,16 @@ replay_of s = elim (accepted (replay_answer s)) [ true ↦ odd_in s (first_odd s
 -- what is known after an event: a difference found before it stays
 unfoldable pub noted : Replayed → ℕ → Probed → Answer → Replayed
 noted r i x a = pick r.differs r (pick (odd x a) (odd_by i x a) r)
+
+-- ---- as the code has it: the first event that differs, or none
+
+abbrev pub difference_of : Replayed → Difference
+difference_of r = record { event = r.event; seen = r.seen; seen_item = r.seen_item; given = r.given; given_item = r.given_item }
+
+abbrev pub difference_in : Replayed → Option Difference
+difference_in r = pick r.differs (Some (difference_of r)) None
+
+-- after one more event
+unfoldable pub noted_difference : Option Difference → ℕ → Probed → Answer → Option Difference
+noted_difference (Some d) i x a = Some d
+noted_difference None i x a = pick (odd x a) (Some (difference_of (odd_by i x a))) None

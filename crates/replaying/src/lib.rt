@@ -8,15 +8,15 @@ mod reading;
 mod running;
 
 ghost use Rattle.std.specs.Prelude.{◌≡◌};
-ghost use Rattle.answer.specs.Answers.{told};
-ghost use Rattle.replaying.specs.Replay.{replay_answer, replay_of};
+ghost use Rattle.answer.specs.Answers.{given};
+ghost use Rattle.replaying.specs.Replay.{replay_answer, replay_of, difference_in};
 
-use answer::Answer;
+use answer::Refusal;
 use machine::Event;
-use running::replay_file;
+use running::replay_events;
 
-// Twelve bytes of a probe file: an event, the observed answer with its item, and a byte that is zero.
-#[derive(Clone, Copy)]
+// Twelve bytes of a probe file: an event, the observed answer with its item, and a byte that is zero. The observed answer is a byte: above 5 it is refused.
+#[derive(Clone, Copy, Debug, PartialEq, Eq)]
 pub struct Probed {
     pub event: Event,
     pub seen: u8,
@@ -24,12 +24,9 @@ pub struct Probed {
     pub last: u8,
 }
 
-// The refusal; or the first event whose answer differs, with the observed answer and the machine's, each with its item.
-// Zeros where all agree and beside a refusal.
-#[derive(Clone, Copy)]
-pub struct Replayed {
-    pub answer: Answer,
-    pub differs: bool,
+// An event whose answer differs: its number, the observed answer and the machine's, each with its item.
+#[derive(Clone, Copy, Debug, PartialEq, Eq)]
+pub struct Difference {
     pub event: u32,
     pub seen: u8,
     pub seen_item: u32,
@@ -37,15 +34,10 @@ pub struct Replayed {
     pub given_item: u32,
 }
 
-// The probe file that the bytes are, replayed.
-pub fn replay(s: &[u8]) -> Replayed
-    ensures answers { told result.answer ≡ told (replay_answer s.now) }
-    ensures differs { result.differs ≡ (replay_of s.now).differs }
-    ensures event { result.event ≡ (replay_of s.now).event }
-    ensures seen { result.seen ≡ (replay_of s.now).seen }
-    ensures seen_item { result.seen_item ≡ (replay_of s.now).seen_item }
-    ensures given { result.given ≡ (replay_of s.now).given }
-    ensures given_item { result.given_item ≡ (replay_of s.now).given_item }
+// The probe file that the bytes are, replayed: the first event whose answer differs, or none where all agree.
+pub fn replay(s: &[u8]) -> Result<Option<Difference>, Refusal>
+    ensures { result ≡ given (replay_answer s.now) (difference_in (replay_of s.now)) }
 {
-    replay_file(s)
+    let schedule = codec::open_file(s, 82, 12)?;
+    replay_events(s, schedule)
 }

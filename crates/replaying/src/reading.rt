@@ -12,12 +12,10 @@ fn probed_from(s: &[u8], at: usize) -> Probed
     requires { at + 12 ≤ length s.now }
     ensures { result ≡ probed_from s.now at }
 {
-    let event = event_from(s, at);
-    let item = word_at(s, at + 7);
     Probed {
-        event,
+        event: event_from(s, at),
         seen: s[at + 6],
-        item,
+        item: word_at(s, at + 7),
         last: s[at + 11],
     }
 }

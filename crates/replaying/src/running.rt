@@ -1,21 +1,21 @@
 // The events of a probe file in turn.
 ghost use Rattle.std.specs.Prelude.{◌≡◌, true};
-ghost use Rattle.answer.specs.Answers.{accepted};
+ghost use Rattle.answer.specs.Answers.{accepted, given};
 ghost use Rattle.schedule.specs.Layout.{schedule_in};
 ghost use Rattle.replaying.specs.Probe.{probe_answer};
-ghost use Rattle.replaying.specs.Replay.{replay_of};
+ghost use Rattle.replaying.specs.Replay.{replay_answer, replay_of, difference_in};
 
-use crate::Replayed;
-use crate::asking::{answer_to, note, nothing_odd};
+use crate::Difference;
+use crate::asking::{answer_to, note};
 use crate::reading::probed_at;
-use answer::{Reply, is_taken};
+use answer::Refusal;
 use image::Shape;
 use schedule::Schedule;
 
 // Up to the first event that is refused; past one that differs, since a later refusal refuses the file.
-fn replay_events(s: &[u8], d: Schedule) -> Replayed
+pub fn replay_events(s: &[u8], d: Schedule) -> Result<Option<Difference>, Refusal>
     requires { (accepted (probe_answer s.now) ≡ true) × (d ≡ schedule_in s.now) }
-    ensures { result ≡ replay_of s.now }
+    ensures { result ≡ given (replay_answer s.now) (difference_in (replay_of s.now)) }
 {
     let g = d.image;
     let z = Shape {
@@ -23,36 +23,14 @@ fn replay_events(s: &[u8], d: Schedule) -> Replayed
         n: g.n,
         t: d.t,
     };
-    let count = d.count as usize;
     let mut m = machine::start::start(g, d.t);
-    let mut known = nothing_odd(Ok(Reply::Taken));
-    let mut i = 0;
-    while i < count {
-        let x = probed_at(s, z, i);
-        let e = x.event;
-        let out = events::act(i as u32, m, e);
-        let a = out.answer;
-        let b = answer_to(i as u32, x, a);
-        if !is_taken(b) {
-            return nothing_odd(b);
-        }
-        let next = note(known, i as u32, x, a);
-        known = next;
-        let after = out.machine;
-        m = after;
-        i += 1;
+    let mut known = None;
+    for i in 0..d.count {
+        let x = probed_at(s, z, i as usize);
+        let out = events::act(i as u32, m, x.event);
+        answer_to(i as u32, x, out.answer)?;
+        known = note(known, i as u32, x, out.answer);
+        m = out.machine;
     }
-    known
-}
-
-pub fn replay_file(s: &[u8]) -> Replayed
-    ensures { result ≡ replay_of s.now }
-{
-    let o = codec::open_file(s, 82, 12);
-    let a = o.answer;
-    if !is_taken(a) {
-        return nothing_odd(a);
-    }
-    let d = o.schedule;
-    replay_events(s, d)
+    Ok(known)
 }

@@ -1,10 +1,25 @@
-use mathlib.Core.Path.{ap, ◌∙◌}
-use Rattle.answer.specs.Answers.{told}
-use Rattle.replaying.specs.declared.Replayed.{Replayed}
-use Rattle.replaying.proofs.First.{answer_is}
+use mathlib.Core.Path.{refl, sym, ap, ◌∙◌}
+use Rattle.answer.specs.Answers.{Answer, given}
+use Rattle.answer.proofs.Results.{came_back, given_taken, given_refused, handed_none}
+use Rattle.schedule.specs.Layout.{file_answer, read_by}
+use Rattle.replaying.specs.Probe.{probe_answer}
+use Rattle.replaying.specs.Replay.{replay_of, difference_in}
+use Rattle.replaying.proofs.ReplayLaws as laws
 use Rattle.replaying.proofs.replay.Goals as goal
 
-pub returns : goal.returns
-returns c =
+pub returns-in_err-schedule : goal.returns-in_err-schedule
+unfolding probe_answer
+returns-in_err-schedule c =
     let s = c.args.s.now in
-    let e = c.replay_file.ensures in record { answers = ap (λ (r : Replayed). told r.answer) e ∙ ap told (answer_is s); differs = ap (λ (r : Replayed). r.differs) e; event = ap (λ (r : Replayed). r.event) e; seen = ap (λ (r : Replayed). r.seen) e; seen_item = ap (λ (r : Replayed). r.seen_item) e; given = ap (λ (r : Replayed). r.given) e; given_item = ap (λ (r : Replayed). r.given_item) e }
+    let x = (read_by (file_answer 82 12 s) s).schedule in
+    let d = difference_in (replay_of s) in
+    let w = given_refused (probe_answer s) x c.open_file.ensures c.in_err-schedule.was in
+    handed_none (probe_answer s) x d c.open_file.ensures c.in_err-schedule.was c.from_residual.ensures.1
+    ∙ ap (λ (a : Answer). given a d) (sym (laws.answer_else s (came_back refl w)))
+
+pub replay_events-requires : goal.replay_events-requires
+unfolding probe_answer
+replay_events-requires c =
+    let s = c.args.s.now in
+    let g = given_taken (probe_answer s) (read_by (file_answer 82 12 s) s).schedule c.open_file.ensures c.in_ok-schedule.was in
+    (g.0, g.1 ∙ laws.read_taken s g.0)
