@@ -14,6 +14,7 @@ use Rattle.image.specs.declared.Image.{Image}
 use Rattle.parcels.specs.Parcel.{is_linked}
 use Rattle.parcels.specs.Despatch.{handed_out, still_queued, turned_away, taken_alone, group_of}
 use Rattle.parcels.specs.declared.Parcel.{Parcel}
+use Rattle.parcels.specs.declared.Group.TheVariants.{HandedOut, Queued, TurnedAway, TakenAlone, NeverIn}
 
 pub above : (h : ℕ) (c : Content) → recovered h c ≡ true → h < c.index
 unfolding recovered
@@ -35,10 +36,10 @@ module _ (g : Image) (p : Parcel) where
   -- ---- the group is that of the first condition that holds
 
   pub by_tests : (a b c d : Bool) → handed_out p ≡ a → still_queued g p ≡ b → turned_away p ≡ c → taken_alone g p ≡ d
-      → group_of g p ≡ pick a 1 (pick b 2 (pick c 3 (pick d 4 5)))
+      → group_of g p ≡ pick a HandedOut (pick b Queued (pick c TurnedAway (pick d TakenAlone NeverIn)))
   unfolding group_of
   by_tests a b c d e f h k =
-      ap (λ (z : Bool). pick z 1 (pick (still_queued g p) 2 (pick (turned_away p) 3 (pick (taken_alone g p) 4 5)))) e
-      ∙ ap (λ (z : Bool). pick a 1 (pick z 2 (pick (turned_away p) 3 (pick (taken_alone g p) 4 5)))) f
-      ∙ ap (λ (z : Bool). pick a 1 (pick b 2 (pick z 3 (pick (taken_alone g p) 4 5)))) h
-      ∙ ap (λ (z : Bool). pick a 1 (pick b 2 (pick c 3 (pick z 4 5)))) k
+      ap (λ (z : Bool). pick z HandedOut (pick (still_queued g p) Queued (pick (turned_away p) TurnedAway (pick (taken_alone g p) TakenAlone NeverIn)))) e
+      ∙ ap (λ (z : Bool). pick a HandedOut (pick z Queued (pick (turned_away p) TurnedAway (pick (taken_alone g p) TakenAlone NeverIn)))) f
+      ∙ ap (λ (z : Bool). pick a HandedOut (pick b Queued (pick z TurnedAway (pick (taken_alone g p) TakenAlone NeverIn)))) h
+      ∙ ap (λ (z : Bool). pick a HandedOut (pick b Queued (pick c TurnedAway (pick z TakenAlone NeverIn)))) k

@@ -19,6 +19,8 @@ use Rattle.model.proofs.Times.{hist_of, Grown, on_grown}
 use Rattle.model.proofs.Page.Frame.{frame, conf_same}
 use Rattle.model.proofs.Always.Runs.{Kept}
 use Rattle.model.proofs.Always.Steady.{heads_up}
+use Rattle.std.specs.Prelude.{Some}
+use Rattle.answer.specs.declared.Reply.TheVariants as reply
 use Rattle.parcels.specs.Parcel.{is_linked}
 use Rattle.parcels.specs.Despatch.{turned_away}
 use Rattle.parcels.specs.declared.Parcel.{Parcel}
@@ -28,13 +30,13 @@ use Rattle.parcelproof.proofs.Went.{phase}
 
 pub record Held (m : M) (p : Parcel) : Type 0 where
   -- while it has not answered its thread has it, linked or not
-  pub opened : p.said ≡ 0 → phase (m.core.thr p.thread) ≡ pick (is_linked p) 2 1
+  pub opened : p.said ≡ reply.Taken → phase (m.core.thr p.thread) ≡ pick (is_linked p) 2 1
   -- Full and Worn out are answered by one that is not linked
   pub turned : turned_away p ≡ true → is_linked p ≡ false
-  pub taken : p.taker ≢ 255 → is_linked p ≡ true
+  pub taken : (u : ℕ) → p.taker ≡ Some u → is_linked p ≡ true
   -- once it is handed out no ending has a head index below its own
-  pub handed : p.handed ≡ true → (p.taker ≢ 255) × Covered m p.index
-  pub taking : p.handed ≡ false → p.taker ≢ 255 → Taking m.core.conf.engine m p.taker p.index (m.core.thr p.taker)
+  pub handed : p.handed ≡ true → (u : ℕ) × (p.taker ≡ Some u) × Covered m p.index
+  pub taking : p.handed ≡ false → (u : ℕ) → p.taker ≡ Some u → Taking m.core.conf.engine m u p.index (m.core.thr u)
 
 pub idle_of : (s : Th) → busy s ≡ false → s ≡ idle
 idle_of idle b = refl
@@ -191,14 +193,14 @@ module _ (B : Bench) (k : Kept B) (x : Act) where
         (λ h n v f. ik n (λ q o. not_own m _ _ _ k.timed k.all u n q (at_s6 m _ _ _ k.timed k.all u h n v f) o)) z))
 
   -- a parcel of which nothing is told
-  pub stays : (p : Parcel) → Held m p → (p.said ≡ 0 → phase (c'.thr p.thread) ≡ phase (c.thr p.thread))
-      → (p.handed ≡ false → p.taker ≢ 255 → Taking c.conf.engine m p.taker p.index (c.thr p.taker)
-      → Taking c'.conf.engine m' p.taker p.index (c'.thr p.taker))
+  pub stays : (p : Parcel) → Held m p → (p.said ≡ reply.Taken → phase (c'.thr p.thread) ≡ phase (c.thr p.thread))
+      → (p.handed ≡ false → (u : ℕ) → p.taker ≡ Some u → Taking c.conf.engine m u p.index (c.thr u)
+      → Taking c'.conf.engine m' u p.index (c'.thr u))
       → Held m' p
   stays p h o f = record {
     opened = λ e. o e ∙ h.opened e;
     turned = h.turned;
     taken = h.taken;
-    handed = λ e. ((h.handed e).0, covers p.index (h.handed e).1);
-    taking = λ e ne. f e ne (h.taking e ne);
+    handed = λ e. ((h.handed e).0, (h.handed e).1, covers p.index (h.handed e).2);
+    taking = λ e u q. f e u q (h.taking e u q);
   }

@@ -39,6 +39,8 @@ use Rattle.tied.proofs.Schedules.{schedule_starts, schedule_narrow}
 use Rattle.pageproof.proofs.Events.{taken_is}
 use Rattle.pageproof.proofs.Runs as runs
 use Rattle.plainproof.proofs.Since.{come_all, reply_taken}
+use Rattle.std.specs.Prelude.{Option, None, Some}
+use Rattle.answer.specs.declared.Reply.TheVariants as reply
 use Rattle.parcels.specs.Parcel.{is_linked, fresh, noted, machine_at, parcels_to, parcels_in}
 use Rattle.parcels.specs.declared.Parcel.{Parcel}
 use Rattle.parcelproof.proofs.Taking.{Taking, taking_owns, covered_on, taking_on}
@@ -58,16 +60,16 @@ module _ (B : Bench) (k : Kept B) (x : Act) (t : ℕ) (s' : Th) where
 
   held_begun : c'.thr ≡ upd c.thr t s' → c.thr t ≡ idle → ((y : ℕ) → (c'.node y).index ≡ (c.node y).index) → ((u : ℕ) → (does c x).touch ≢ issues u)
       → (p : Parcel) → Held B.mach p → Held (goes_on B.mach c' (does c x).touch) p
-  held_begun th id ik nf p h = stays B k x p h (λ e. open' e (ℕ_discrete p.thread t)) (λ e ne z. take (ℕ_discrete p.taker t) z)
+  held_begun th id ik nf p h = stays B k x p h (λ e. open' e (ℕ_discrete p.thread t)) (λ e u ne z. take u (ℕ_discrete u t) z)
     where
-      open' : p.said ≡ 0 → Dec (p.thread ≡ t) → phase (c'.thr p.thread) ≡ phase (c.thr p.thread)
+      open' : p.said ≡ reply.Taken → Dec (p.thread ≡ t) → phase (c'.thr p.thread) ≡ phase (c.thr p.thread)
       open' e (yes f) = absurd (zero_not (is_linked p) (sym (ap (λ (u : ℕ). phase (c.thr u)) f ∙ ap phase id) ∙ h.opened e))
       open' e (no ne) = ap phase (ap (λ (f : ℕ → Th). f p.thread) th ∙ upd_other c.thr t s' ne)
 
-      take : Dec (p.taker ≡ t) → Taking c.conf.engine B.mach p.taker p.index (c.thr p.taker)
-          → Taking c'.conf.engine (goes_on B.mach c' (does c x).touch) p.taker p.index (c'.thr p.taker)
-      take (yes f) z = absurd (taking_owns c.conf.engine B.mach p.taker p.index (c.thr p.taker) z (ap (λ (u : ℕ). owns_d (c.thr u)) f ∙ ap owns_d id))
-      take (no ne) z = takes_on B k x (λ y f. ik y) p.taker p.index (nf p.taker) (ap (λ (f : ℕ → Th). f p.taker) th ∙ upd_other c.thr t s' ne) z
+      take : (u : ℕ) → Dec (u ≡ t) → Taking c.conf.engine B.mach u p.index (c.thr u)
+          → Taking c'.conf.engine (goes_on B.mach c' (does c x).touch) u p.index (c'.thr u)
+      take u (yes f) z = absurd (taking_owns c.conf.engine B.mach u p.index (c.thr u) z (ap (λ (u : ℕ). owns_d (c.thr u)) f ∙ ap owns_d id))
+      take u (no ne) z = takes_on B k x (λ y f. ik y) u p.index (nf u) (ap (λ (f : ℕ → Th). f u) th ∙ upd_other c.thr t s' ne) z
 
 -- ---- a write-back
 
@@ -86,12 +88,15 @@ module _ (B : Bench) (k : Kept B) (l : Line) where
     opened = h.opened;
     turned = h.turned;
     taken = h.taken;
-    handed = λ e. ((h.handed e).0, covered_on m₀ c₀ (flushes l) k.timed grown (λ j. omega arith) refl p.index (h.handed e).1);
-    taking = λ e ne. taking_on m₀ c₀ (flushes l) k.timed grown (λ j. omega arith) c₀.conf.engine p.taker p.index (c₀.thr p.taker)
-        (λ f. let q : ◌≡◌ {A = ℕ} 0 1 = cc in omega arith) (λ g y f. refl) (λ g y v f. refl) (h.taking e ne);
+    handed = λ e. ((h.handed e).0, (h.handed e).1, covered_on m₀ c₀ (flushes l) k.timed grown (λ j. omega arith) refl p.index (h.handed e).2);
+    taking = λ e u ne. taking_on m₀ c₀ (flushes l) k.timed grown (λ j. omega arith) c₀.conf.engine u p.index (c₀.thr u)
+        (λ f. let q : ◌≡◌ {A = ℕ} 0 1 = cc in omega arith) (λ g y f. refl) (λ g y v f. refl) (h.taking e u ne);
   }
 
 -- ---- an event that is taken
+
+none_some : {u : ℕ} → ◌≡◌ {A = Option ℕ} None (Some u) → ⊥
+none_some e = cc
 
 each_as : (P Q : Parcel → Type 0) → ((p : Parcel) → P p → Q p) → (l : List Parcel) → Each P l → Each Q l
 each_as P Q f [] a = tt
@@ -121,9 +126,9 @@ module _ (b : schedule.Bench) (B : Bench) (r : BenchT b B) (i : ℕ) (e : Event)
       (record {
         opened = λ f. ap phase (upd_same thr t (a1 e.item));
         turned = λ f. refl;
-        taken = λ f. absurd (f refl);
+        taken = λ u f. absurd (none_some f);
         handed = λ f. no_way (sym f);
-        taking = λ f ne. absurd (ne refl);
+        taking = λ f u ne. absurd (none_some ne);
       })
   event_held dequeues a h = each_as (Held B.mach) (Held (turn B (event_by (shape_of m) dequeues e)).mach)
       (held_begun B r.kept (deq t) t d1 refl (idle_of (thr t) (takes b B r i e dequeues a).1) (λ y. refl)

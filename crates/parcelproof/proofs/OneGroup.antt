@@ -72,8 +72,8 @@ module _ (g : Image) (p : Parcel) where
 
   apart : (B : Bench) → Held B.mach p → ((x : ℕ) → Covered B.mach x → x ≤ head_of g) → Apart g p
   apart B h low = record {
-    handed_queued = λ a b. omega (arith, low p.index (h.handed a).1, queued_above b);
-    handed_turned = λ a b. no_way (sym (h.taken (h.handed a).0) ∙ h.turned b);
+    handed_queued = λ a b. omega (arith, low p.index (h.handed a).2, queued_above b);
+    handed_turned = λ a b. no_way (sym (h.taken (h.handed a).0 (h.handed a).1) ∙ h.turned b);
     handed_alone = λ a b. no_way (sym a ∙ taken_not_handed g p b);
     queued_turned = λ a b. no_way (sym (linked_queued a) ∙ h.turned b);
     queued_alone = λ a b. queued_not_taken g p a b;

@@ -13,8 +13,9 @@ use Rattle.machine.specs.Rising.{among, Rising}
 use Rattle.machine.specs.declared.Machine.{Machine}
 use Rattle.machine.specs.declared.Acted.{Acted}
 use Rattle.schedule.specs.Layout.{event_in, count_in}
-use Rattle.parcels.specs.Parcel.{is_of, has_index, with_link, with_said, with_taker, with_handed, moved, fresh, noted, machine_at, acted_at, parcels_to, parcels_in}
+use Rattle.parcels.specs.Parcel.{is_of, has_index, is_taken_by, with_link, with_said, with_taker, with_handed, moved, fresh, noted, machine_at, acted_at, parcels_to, parcels_in}
 use Rattle.parcels.specs.declared.News.{News}
+use Rattle.parcels.specs.declared.News.TheVariants.{Nothing, Linked, Answered, Took, Gave}
 use Rattle.parcels.specs.declared.Parcel.{Parcel}
 use Rattle.parcelproof.specs.Begun.{Since, begun_by, begins_to, Stands}
 
@@ -29,12 +30,11 @@ pick_same false p q r x y = y
 
 moved_same : (w : News) (p : Parcel) → Same (moved w p) p
 unfolding moved
-moved_same w p =
-    let z : Same p p = (refl, refl, refl) in
-    pick_same (eqb w.what 1) _ _ p (pick_same (is_of w.thread p) (with_link p w.node w.index) p p (refl, refl, refl) z)
-    (pick_same (eqb w.what 2) _ _ p (pick_same (is_of w.thread p) (with_said p w.said) p p (refl, refl, refl) z)
-    (pick_same (eqb w.what 3) _ _ p (pick_same (has_index w.index p) (with_taker p w.thread) p p (refl, refl, refl) z)
-    (pick_same (eqb w.what 4) _ p p (pick_same (eqb p.taker w.thread) (with_handed p) p p (refl, refl, refl) z) z)))
+moved_same Nothing p = (refl, refl, refl)
+moved_same (Linked k i x) p = pick_same (is_of k p) (with_link p i x) p p (refl, refl, refl) (refl, refl, refl)
+moved_same (Answered k r) p = pick_same (is_of k p) (with_said p r) p p (refl, refl, refl) (refl, refl, refl)
+moved_same (Took k x) p = pick_same (has_index x p) (with_taker p k) p p (refl, refl, refl) (refl, refl, refl)
+moved_same (Gave k) p = pick_same (is_taken_by k p) (with_handed p) p p (refl, refl, refl) (refl, refl, refl)
 
 map_kept : (f : Parcel → ℕ) (g : Parcel → Parcel) → ((p : Parcel) → f (g p) ≡ f p) → (l : List Parcel) → map f (map g l) ≡ map f l
 map_kept f g h [] = refl

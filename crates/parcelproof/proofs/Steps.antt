@@ -11,7 +11,7 @@ use lib.Dec.{eqb, leb}
 use borrow.Author.Tests.{lt-ltb, lt-leb}
 use Rattle.lists.specs.Find.{pick, both}
 use Rattle.lists.proofs.BoolLaws.{no_way}
-use Rattle.answer.specs.Answers.{told, accepted, Answer}
+use Rattle.answer.specs.Answers.{accepted, Answer, Taken, Item}
 use Rattle.image.specs.Form.{per_desk}
 use Rattle.image.specs.declared.Shape.{Shape}
 use Rattle.machine.specs.Record.{node, thread, zero_node, zero_thread}
@@ -37,11 +37,12 @@ use Rattle.tied.proofs.Bench.{BenchT}
 use Rattle.tied.proofs.Changes.{count_n, count_t}
 use Rattle.tied.proofs.Turn.{takes, turns, turned_shape, answers_same, ranged}
 use Rattle.parcels.specs.Parcel as parcel
-use Rattle.parcels.specs.Parcel.{thread_at, node_at, tells, said_news, news_of, moved}
+use Rattle.parcels.specs.Parcel.{thread_at, node_at, is_open, said_news, news_of, moved}
 use Rattle.parcels.specs.declared.News.{News}
+use Rattle.parcels.specs.declared.News.TheVariants.{Linked, Answered, Took}
 use Rattle.parcels.specs.declared.Parcel.{Parcel}
 use Rattle.parcelproof.proofs.Taken.{heard}
-use Rattle.parcelproof.proofs.Went.{pace, links_to, takes_to, Went, quiet, linked, took, said, gave, went}
+use Rattle.parcelproof.proofs.Went.{gives, pace, links_to, takes_to, Went, quiet, linked, took, said, gave, went}
 use Rattle.parcelproof.proofs.Held.{Held}
 use Rattle.parcelproof.proofs.Moves.{held_quiet, held_said, held_gave, held_linked, held_took}
 
@@ -151,16 +152,13 @@ next_of (d6f h v) = 0
 next_of (s6 h y v) = 0
 next_of (d7 h v) = 0
 
-heard_is : (a : Ans) → (told (answer_of a)).reply ≡ heard a
-heard_is core.nothing = refl
-heard_is core.done = refl
-heard_is core.full = refl
-heard_is core.worn = refl
-heard_is core.empty = refl
-heard_is (core.item v) = refl
-
-said_is : (t r : ℕ) → eqb r 0 ≡ false → eqb r 4 ≡ false → said_news t r ≡ tells 2 t 0 r 0
-said_is t r e f = ap (λ (b : Bool). pick b (tells 0 t 0 0 0) (pick (eqb r 4) (tells 4 t 0 0 0) (tells 2 t 0 r 0))) e ∙ ap (λ (b : Bool). pick b (tells 4 t 0 0 0) (tells 2 t 0 r 0)) f
+said_is : (t : ℕ) (a : Ans) → is_open (heard a) ≡ false → gives a ≡ false → said_news t (answer_of a) ≡ Answered t (heard a)
+said_is t core.nothing e f = no_way e
+said_is t core.done e f = refl
+said_is t core.full e f = refl
+said_is t core.worn e f = refl
+said_is t core.empty e f = refl
+said_is t (core.item v) e f = no_way f
 
 module _ (b : schedule.Bench) (B : Bench) (r : BenchT b B) (q : ℕ) (e : Event) (a : accepted (event_answer q b.machine e steps) ≡ true) where
   abbrev m : Machine
@@ -202,25 +200,22 @@ module _ (b : schedule.Bench) (B : Bench) (r : BenchT b B) (q : ℕ) (e : Event)
   pace₁ : (thread_at o.machine t).step ≡ pace (c'.thr t)
   pace₁ = ap (λ (v : Thread). v.step) (thread_is o.machine) ∙ pace_is o.machine.form o.machine.n (thread o.machine t) (c'.thr t) _ (r'.tied.threads.at t t_in')
 
-  reply_is : (told o.answer).reply ≡ heard (step c t (c.thr t)).ans
-  reply_is = ap (λ (x : Answer). (told x).reply) (answers_same b B r q e steps a) ∙ heard_is (step c t (c.thr t)).ans
-
   abbrev link_news : News
-  link_news = tells 1 t (thread_at m t).node 0 (node_at m (thread_at m t).node).index
+  link_news = Linked t (thread_at m t).node (node_at m (thread_at m t).node).index
 
   abbrev take_news : News
-  take_news = tells 3 t 0 0 (node_at m (thread_at m t).next).index
+  take_news = Took t (node_at m (thread_at m t).next).index
 
   -- with the thread at s' after it, and the answer n
-  news_is : (s' : Th) → c'.thr t ≡ s' → (x y : Bool) (n : ℕ) → links_to (c.thr t) s' ≡ x → takes_to (c.thr t) s' ≡ y → heard (step c t (c.thr t)).ans ≡ n
-      → news_of m t (told o.answer).reply o.machine ≡ pick x link_news (pick y take_news (said_news t n))
+  news_is : (s' : Th) → c'.thr t ≡ s' → (x y : Bool) (n : Answer) → links_to (c.thr t) s' ≡ x → takes_to (c.thr t) s' ≡ y → answer_of (step c t (c.thr t)).ans ≡ n
+      → news_of m t o.answer o.machine ≡ pick x link_news (pick y take_news (said_news t n))
   unfolding news_of
   news_is s' f x y n ex ey en =
-      ap (λ (z : Bool). pick z link_news (pick (parcel.takes m o.machine t) take_news (said_news t (told o.answer).reply)))
+      ap (λ (z : Bool). pick z link_news (pick (parcel.takes m o.machine t) take_news (said_news t o.answer)))
       (ap₂ (λ (i j : ℕ). both (eqb i 8) (eqb j 9)) pace₀ (pace₁ ∙ ap pace f) ∙ ex)
-      ∙ ap (λ (z : Bool). pick x link_news (pick z take_news (said_news t (told o.answer).reply)))
+      ∙ ap (λ (z : Bool). pick x link_news (pick z take_news (said_news t o.answer)))
       (ap₂ (λ (i j : ℕ). both (eqb i 16) (eqb j 17)) pace₀ (pace₁ ∙ ap pace f) ∙ ey)
-      ∙ ap (λ (n : ℕ). pick x link_news (pick y take_news (said_news t n))) (reply_is ∙ en)
+      ∙ ap (λ (n : Answer). pick x link_news (pick y take_news (said_news t n))) (answers_same b B r q e steps a ∙ en)
 
   -- what the thread has read
   reads : (z : Stage) → number z ≡ pace (c.thr t) → stage_of (number z) ≡ z → c.thr t ≡ thread_of z (thread_at m t) (r.tied.threads.at t t_in).seen
@@ -237,40 +232,37 @@ module _ (b : schedule.Bench) (B : Bench) (r : BenchT b B) (q : ℕ) (e : Event)
       ap (λ (x : Bool). (pick x (node m i) zero_node).index) (lt-ltb i 64 (omega (arith, node_few i h, r.tied.sizes.nodes_hi)))
       ∙ sym (ap (λ (v : Node). v.index) (r.tied.nodes.at i (node_few i h)).content)
 
-  t_some : t ≢ 255
-  t_some f = omega (arith, t_few)
-
   abbrev Goes : News → Type 0
   Goes w = (p : Parcel) → Held B.mach p → Held B'.mach (moved w p)
 
   own_is : (s' : Th) → c'.thr ≡ upd c.thr t s' → c'.thr t ≡ s'
   own_is s' th = ap (λ (f : ℕ → Th). f t) th ∙ upd_same c.thr t s'
 
-  by_step : Went c t (c.thr t) (step c t (c.thr t)) → Goes (news_of m t (told o.answer).reply o.machine)
-  by_step (quiet s' th l k f g) = subst Goes (sym (news_is s' (own_is s' th) false false 0 l k (ap heard f))) (held_quiet B r.kept t s' th g f)
+  by_step : Went c t (c.thr t) (step c t (c.thr t)) → Goes (news_of m t o.answer o.machine)
+  by_step (quiet s' th l k f g) = subst Goes (sym (news_is s' (own_is s' th) false false Taken l k (ap answer_of f))) (held_quiet B r.kept t s' th g f)
   by_step (linked v n x sd th) =
       let i = (ranged b B r).threads t in
       let h : (n < c.conf.nodes) × (x < c.conf.nodes) = rw sd at i in
       let k : (thread_at m t).node ≡ n = sym (ap own_of (sym sd ∙ reads A8 (sym (ap pace sd)) refl)) in
-      subst Goes (sym (news_is (a9 v n x) (own_is (a9 v n x) th) true false (heard (step c t (c.thr t)).ans) (ap (λ (s : Th). links_to s (a9 v n x)) sd) (ap (λ (s : Th). takes_to s (a9 v n x)) sd) refl))
-      (subst (λ (n : ℕ). Goes (tells 1 t n 0 (node_at m (thread_at m t).node).index)) (sym k)
+      subst Goes (sym (news_is (a9 v n x) (own_is (a9 v n x) th) true false (answer_of (step c t (c.thr t)).ans) (ap (λ (s : Th). links_to s (a9 v n x)) sd) (ap (λ (s : Th). takes_to s (a9 v n x)) sd) refl))
+      (subst (λ (n : ℕ). Goes (Linked t n (node_at m (thread_at m t).node).index)) (sym k)
       (held_linked B r.kept t v n x _ sd th (omega (arith, node_few n h.0, r.tied.sizes.nodes_hi))))
   by_step (took g i x sd th nd) =
       let j = (ranged b B r).threads t in
       let h : (g < c.conf.nodes) × (x < c.conf.nodes) = rw sd at j in
       let k : (thread_at m t).next ≡ x = sym (ap next_of (sym sd ∙ reads D4 (sym (ap pace sd)) refl)) in
-      subst Goes (sym (news_is (d5 g x) (own_is (d5 g x) th) false true (heard (step c t (c.thr t)).ans) (ap (λ (s : Th). links_to s (d5 g x)) sd) (ap (λ (s : Th). takes_to s (d5 g x)) sd) refl))
-      (held_took B r.kept t t_some g i x (node_at m (thread_at m t).next).index sd th nd (ap (λ (n : ℕ). (node_at m n).index) k ∙ index_is x h.1))
+      subst Goes (sym (news_is (d5 g x) (own_is (d5 g x) th) false true (answer_of (step c t (c.thr t)).ans) (ap (λ (s : Th). links_to s (d5 g x)) sd) (ap (λ (s : Th). takes_to s (d5 g x)) sd) refl))
+      (held_took B r.kept t g i x (node_at m (thread_at m t).next).index sd th nd (ap (λ (n : ℕ). (node_at m n).index) k ∙ index_is x h.1))
   by_step (said th r0 r4 tn od) =
-      subst Goes (sym (news_is idle (own_is idle th) false false (heard (step c t (c.thr t)).ans) (none (eqb (pace (c.thr t)) 8)) (none (eqb (pace (c.thr t)) 16)) refl
-      ∙ said_is t (heard (step c t (c.thr t)).ans) r0 r4)) (held_said B r.kept t (heard (step c t (c.thr t)).ans) th r0 tn od)
+      subst Goes (sym (news_is idle (own_is idle th) false false (answer_of (step c t (c.thr t)).ans) (none (eqb (pace (c.thr t)) 8)) (none (eqb (pace (c.thr t)) 16)) refl
+      ∙ said_is t (step c t (c.thr t)).ans r0 r4)) (held_said B r.kept t (heard (step c t (c.thr t)).ans) th r0 tn od)
     where
       none : (x : Bool) → both x false ≡ false
       none true = refl
       none false = refl
   by_step (gave g v sd th f) =
-      subst Goes (sym (news_is idle (own_is idle th) false false 4 (ap (λ (s : Th). links_to s idle) sd) (ap (λ (s : Th). takes_to s idle) sd) (ap heard f)))
-      (held_gave B r.kept t t_some g v sd th)
+      subst Goes (sym (news_is idle (own_is idle th) false false (Item v) (ap (λ (s : Th). links_to s idle) sd) (ap (λ (s : Th). takes_to s idle) sd) (ap answer_of f)))
+      (held_gave B r.kept t g v sd th)
 
-  pub held_steps : Goes (news_of m t (told o.answer).reply o.machine)
+  pub held_steps : Goes (news_of m t o.answer o.machine)
   held_steps = by_step (went c t (c.thr t) (takes b B r q e steps a).1)

@@ -5,6 +5,8 @@ use mathlib.Core.Bool.{true, false}
 use mathlib.Core.List.{List}
 use mathlib.Core.Option.{some}
 use native.Mathlib.Omega.{arith}
+use Rattle.answer.specs.declared.Reply.{Reply}
+use Rattle.answer.specs.declared.Reply.TheVariants as reply
 use Rattle.model.specs.Basics.{upd}
 use Rattle.model.specs.Lines.{of_head, flushes, issues}
 use Rattle.model.specs.Conf.{Engine, shared, split, Mode, at_once, fenced, line_of, line_ix, line_count}
@@ -23,13 +25,13 @@ use Rattle.model.proofs.Layer3.All.{All}
 use Rattle.model.proofs.Page.Frame.{frame}
 use Rattle.parcelproof.proofs.Taking.{AllSince, Covered, Taking}
 
-abbrev pub heard : Ans → ℕ
-heard nothing = 0
-heard done = 1
-heard full = 2
-heard worn = 3
-heard (item v) = 4
-heard empty = 5
+abbrev pub heard : Ans → Reply
+heard nothing = reply.Taken
+heard done = reply.Done
+heard full = reply.Full
+heard worn = reply.WornOut
+heard (item v) = reply.Item v
+heard empty = reply.Empty
 
 own_in : (E : Engine) (T t : ℕ) → t < T → line_of E t < line_count E T
 own_in shared T t h = omega arith
@@ -152,7 +154,7 @@ module _ (m : M) (b : Book) (q₀ : List ℕ) (now : ℕ) (i : Timed m) (a : All
     own_step (d6 h v) e f z = own_d6 h v e z c.conf.mode refl
     own_step (d6f h v) e f z = subst (Taking E (after (step c t (d6f h v))) t x) (sym (upd_same c.thr t (d7 h v))) (own_d6f h v e z)
     own_step (s6 h y v) e f z = subst (Taking E (after (step c t (s6 h y v))) t x) (sym (upd_same c.thr t (d6 h v))) (own6 h y v e z)
-    own_step (d7 h v) e f z = absurd (let q = ap heard f in omega arith)
+    own_step (d7 h v) e f z = absurd (cc)
 
     -- at D7 it is persisted
     pub at_d7 : (h v : ℕ) → c.thr t ≡ d7 h v → Taking E m t x (d7 h v) → Covered m x

@@ -9,9 +9,10 @@ use Rattle.lists.proofs.BoolLaws.{no_way}
 use Rattle.model.specs.Basics.{upd}
 use Rattle.model.specs.Conf.{Mode, at_once, fenced, Engine, shared, split, same_head}
 use Rattle.model.specs.Core.{Core, Th, idle, a1, a2, a3, a4, a5, a6, a7, a8, a9, a10, a10f, a11, a12, d1, d2, d3, d3f, d4, d5, d6, d6f, d7, s3, s6, elsewhere}
-use Rattle.model.specs.Core.{nothing, item, busy}
+use Rattle.model.specs.Core.{Ans, nothing, done, full, worn, item, empty, busy}
 use Rattle.model.specs.Places.{owns_d}
 use Rattle.model.specs.Steps.{Out, step, step_a1, step_a6, step_a7, step_a8, step_a10, step_a11, step_a12, step_d2, step_d3, step_d4, step_d6, empty_to, item_to, retire_held}
+use Rattle.parcels.specs.Parcel.{is_open, turns_away}
 use Rattle.parcelproof.proofs.Taken.{heard}
 
 -- an enqueue that is not linked (1), one that is (2); neither (0)
@@ -78,15 +79,20 @@ links_to s s' = both (eqb (pace s) 8) (eqb (pace s') 9)
 abbrev pub takes_to : Th → Th → Bool
 takes_to s s' = both (eqb (pace s) 16) (eqb (pace s') 17)
 
--- Full, or Worn out
-abbrev pub turns_away : ℕ → Bool
-turns_away r = pick (eqb r 2) true (eqb r 3)
+-- an answer that hands an item out
+abbrev pub gives : Ans → Bool
+gives nothing = false
+gives done = false
+gives full = false
+gives worn = false
+gives (item v) = true
+gives empty = false
 
 pub data Went (c : Core) (t : ℕ) (s : Th) (o : Out) : Type 0 where
   quiet : (s' : Th) → o.core.thr ≡ upd c.thr t s' → links_to s s' ≡ false → takes_to s s' ≡ false → o.ans ≡ nothing → phase s' ≡ phase s → Went c t s o
   linked : (v n x : ℕ) → s ≡ a8 v n x → o.core.thr ≡ upd c.thr t (a9 v n x) → Went c t s o
   took : (h i x : ℕ) → s ≡ d4 h i x → o.core.thr ≡ upd c.thr t (d5 h x) → o.core.node ≡ c.node → Went c t s o
-  said : o.core.thr ≡ upd c.thr t idle → eqb (heard o.ans) 0 ≡ false → eqb (heard o.ans) 4 ≡ false
+  said : o.core.thr ≡ upd c.thr t idle → is_open (heard o.ans) ≡ false → gives o.ans ≡ false
       → (turns_away (heard o.ans) ≡ true → phase s ≡ 1) → owns_d s ≡ none → Went c t s o
   gave : (h v : ℕ) → s ≡ d7 h v → o.core.thr ≡ upd c.thr t idle → o.ans ≡ item v → Went c t s o
 

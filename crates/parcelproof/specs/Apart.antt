@@ -7,6 +7,7 @@ use Rattle.lawful.specs.Demand3.{Bytes}
 use Rattle.parcels.specs.Parcel.{parcels_in}
 use Rattle.parcels.specs.Despatch.{handed_out, still_queued, turned_away, taken_alone, group_of}
 use Rattle.parcels.specs.declared.Parcel.{Parcel}
+use Rattle.parcels.specs.declared.Group.TheVariants as group
 
 -- p stands in the list
 abbrev pub In : Parcel → List Parcel → Type 0
@@ -28,10 +29,10 @@ OneGroup = (s : List ℕ) → Bytes s → accepted (page_answer s) ≡ true → 
 
 -- so the group printed is that of the condition that holds, whichever it is: the order in which 02 names them decides nothing
 pub record Told (g : Image) (p : Parcel) : Type 0 where
-  pub handed : handed_out p ≡ true → group_of g p ≡ 1
-  pub queued : still_queued g p ≡ true → group_of g p ≡ 2
-  pub turned : turned_away p ≡ true → group_of g p ≡ 3
-  pub alone : taken_alone g p ≡ true → group_of g p ≡ 4
+  pub handed : handed_out p ≡ true → group_of g p ≡ group.HandedOut
+  pub queued : still_queued g p ≡ true → group_of g p ≡ group.Queued
+  pub turned : turned_away p ≡ true → group_of g p ≡ group.TurnedAway
+  pub alone : taken_alone g p ≡ true → group_of g p ≡ group.TakenAlone
 
 abbrev pub GroupTold : Type 0
 GroupTold = (s : List ℕ) → Bytes s → accepted (page_answer s) ≡ true → (k : ℕ) → k < ending_count s → (p : Parcel) → In p (parcels_in s) → Told (ending_in s k) p

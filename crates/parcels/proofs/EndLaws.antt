@@ -13,13 +13,18 @@ use Rattle.lists.specs.Find.{pick, both, least}
 use Rattle.lists.specs.Tab.{tab, over, front}
 use Rattle.lists.proofs.BoolLaws.{no_way, yes_of, no_of, both_true}
 use Rattle.lists.proofs.TabLaws as tabs
-use Rattle.answer.specs.Answers.{told, accepted, check, Answer, Taken, NoEnding, Room}
+use Rattle.std.specs.Prelude.{Result, Ok}
+use Rattle.answer.specs.Answers.{accepted, given, check, Answer, Taken, NoEnding, Room}
+use Rattle.answer.specs.declared.Refusal.{Refusal}
+use Rattle.answer.proofs.Results.{given_same}
+use Rattle.parcels.proofs.Gives.{given_ok, start_given}
 use Rattle.image.specs.Form.{image_size}
 use Rattle.image.specs.Layout.{no_content, no_contents, content_at, shape_in, image_bytes}
 use Rattle.image.specs.Recovered.{head_of, recovered, recovered_at, dummy_of}
-use Rattle.image.specs.Refusals.{read_image, Read}
+use Rattle.image.specs.Refusals.{read_image}
 use Rattle.image.specs.declared.Content.{Content}
 use Rattle.image.specs.declared.Image.{Image}
+use Rattle.image.specs.declared.Read.{Read}
 use Rattle.image.specs.declared.Shape.{Shape}
 use Rattle.image.proofs.ShapeLaws.{shaped_lines}
 use Rattle.machine.specs.Line.{shape_of}
@@ -28,7 +33,8 @@ use Rattle.machine.specs.Start.{start_node, queue_of, start_with, start_of, star
 use Rattle.machine.specs.declared.Machine.{Machine}
 use Rattle.machine.specs.declared.Node.{Node}
 use Rattle.machine.specs.declared.Out.{Out}
-use Rattle.schedule.specs.Layout.{schedule_in, schedule_answer, schedule_shape, threads_in, count_in, image_part}
+use Rattle.schedule.specs.declared.Schedule.{Schedule}
+use Rattle.schedule.specs.Layout.{read_schedule, schedule_in, schedule_answer, schedule_shape, threads_in, count_in, image_part}
 use Rattle.schedule.specs.Run.{Bench, Ran, ran}
 use Rattle.page.specs.Endings.{image_of, ending}
 use Rattle.page.specs.Refusals.{page_answer, ending_count, ending_in, ending_answer, ending_written}
@@ -41,8 +47,9 @@ use Rattle.lawproof.proofs.Lawful3.{page_parts, page_lawful}
 use Rattle.endread.proofs.Bytes.{ending_size, ending_taken, bytes_read, bytes_front}
 use Rattle.parcels.specs.Parcel.{node_at, no_parcel, is_linked, parcels_in}
 use Rattle.parcels.specs.Despatch.{handed_out, still_queued, turned_away, taken_alone, group_of, entry_bytes, entries_to, list_bytes, despatch_answer, despatch_count, despatch_written}
-use Rattle.parcels.specs.Started.{end_size, no_bytes, head_in, queued_in, alone_in, group_in, packed_to, pack_answer, Packed}
+use Rattle.parcels.specs.Started.{end_size, started_from, no_bytes, head_in, queued_in, alone_in, group_in, packed_to, pack_answer, Packed}
 use Rattle.parcels.specs.declared.Parcel.{Parcel}
+use Rattle.parcels.specs.declared.Group.TheVariants.{HandedOut, Queued, TurnedAway, TakenAlone, NeverIn}
 
 -- ---- sizes
 
@@ -65,6 +72,9 @@ module _ (s : List ℕ) (a : accepted (schedule_answer s) ≡ true) where
       let z = shape_in (image_part s) in
       let l = shaped_lines (threads_in s) z t.part.shape in
       subst (λ k. k ≤ 846) (sym (size_is ∙ sym (codec.schedule_size s a))) (size_few z t.part.shape.form l.0 l.1)
+
+pub schedule_ok : (s : List ℕ) → accepted (schedule_answer s) ≡ true → ◌≡◌ {A = Result Schedule Refusal} (given (read_schedule s).answer (read_schedule s).schedule) (Ok (schedule_in s))
+schedule_ok s a = codec.schedule_given s ∙ given_ok (schedule_answer s) (schedule_in s) a
 
 pub no_bytes_long : length no_bytes ≡ 1024
 unfolding no_bytes
@@ -198,7 +208,7 @@ module _ (g : Image) (t : ℕ) (a : accepted (start_answer g t) ≡ true) (blank
 
   pub group_is : (p : Parcel) → group_in (start_of g t) p ≡ group_of g p
   unfolding group_in group_of
-  group_is p = ap₂ (λ (x y : Bool). pick (handed_out p) 1 (pick x 2 (pick (turned_away p) 3 (pick y 4 5)))) (queued_is p) (alone_is p)
+  group_is p = ap₂ (λ (x y : Bool). pick (handed_out p) HandedOut (pick x Queued (pick (turned_away p) TurnedAway (pick y TakenAlone NeverIn)))) (queued_is p) (alone_is p)
 
   pub packed_is : (l : List Parcel) (j : ℕ) → packed_to (start_of g t) l j ≡ entries_to g l j
   unfolding packed_to entries_to
@@ -215,29 +225,29 @@ module _ (s : List ℕ) (bytes : Bytes s) (k : ℕ) (g : Given s k) where
   pub end_starts : accepted (start_answer (ending_in s k) (threads_in s)) ≡ true
   end_starts = (page_lawful s bytes g.page k g.there).starts
 
-  pub end_is : (m : Machine) (z : List ℕ) → z ≡ ending_written s k no_bytes → m ≡ (start_from (read_image (take (end_size s) z)).image (threads_in s)).machine → m ≡ end_machine s k
-  unfolding start_from
-  end_is m z ze me =
-      me ∙ ap (λ (r : Read). (start_from r.image (threads_in s)).machine)
-      (ap read_image (ap (take (end_size s)) ze ∙ ap (λ n. take n (ending_written s k no_bytes)) (sym (ran_size s k g.page))
+  end_read : (z : List ℕ) → z ≡ ending_written s k no_bytes → read_image (take (end_size s) z) ≡ record { answer = Taken; image = ending_in s k }
+  end_read z ze =
+      ap read_image (ap (take (end_size s)) ze ∙ ap (λ n. take n (ending_written s k no_bytes)) (sym (ran_size s k g.page))
       ∙ bytes_front s bytes g.page k g.there no_bytes (omega (arith, size_room s k g.page, no_bytes_long)))
-      ∙ bytes_read s bytes g.page k g.there)
-      ∙ rw (start_from, end_starts) refl
+      ∙ bytes_read s bytes g.page k g.there
+
+  -- the ending, read, is taken, and starts that machine
+  pub end_is : (z : List ℕ) → z ≡ ending_written s k no_bytes → started_from (threads_in s) (read_image (take (end_size s) z)) ≡ Ok (end_machine s k)
+  end_is z ze = ap (started_from (threads_in s)) (end_read z ze) ∙ start_given (ending_in s k) (threads_in s) end_starts
 
   -- nothing stands beyond its nodes
   end_blank : (i : ℕ) → (ending_in s k).n ≤ i → i < 64 → content_at (ending_in s k).nodes i ≡ no_content
   unfolding ending_in ending image_of no_contents
   end_blank i l h = front_beyond _ _ (replicate 64 no_content) i no_content l ∙ get_or-replicate 64 i no_content no_content h
 
-  -- ---- what the desk's call leaves
+  -- ---- what the desk's call gives and leaves
 
-  module _ (b : List ℕ) (a : Answer) (count : ℕ) (z : List ℕ) (m : Machine) (me : m ≡ end_machine s k) (w : Packed s m b a count z) where
-    pub desk_answers : told a ≡ told (despatch_answer s k (length b))
-    desk_answers = ap (λ (x : Answer). told x) (w.answers ∙ sym (g.desk (length b)))
-
-    pub desk_counts : count ≡ despatch_count s k (length b)
+  module _ (b : List ℕ) (r : Result ℕ Refusal) (z : List ℕ) (m : Machine) (me : m ≡ end_machine s k) (w : Packed s m b r z) where
+    pub desk_gives : r ≡ given (despatch_answer s k (length b)) (despatch_count s k (length b))
     unfolding despatch_count
-    desk_counts = w.counts ∙ ap (λ (x : Answer). pick (accepted x) (length (parcels_in s)) 0) (sym (g.desk (length b)))
+    desk_gives =
+        w.gives ∙ ap (λ (x : Answer). given x (length (parcels_in s))) (sym (g.desk (length b)))
+        ∙ given_same (despatch_answer s k (length b)) (λ e. sym (ap (λ (x : Bool). pick x (length (parcels_in s)) 0) e))
 
     pub desk_bytes : z ≡ despatch_written s k b
     unfolding despatch_written list_bytes
@@ -249,10 +259,6 @@ module _ (s : List ℕ) (bytes : Bytes s) (k : ℕ) (g : Given s k) where
 
 -- where there is no such ending
 module _ (s : List ℕ) (k : ℕ) (h : accepted (ending_answer s k 1024) ≡ false) where
-  pub none_counts : (room : ℕ) → 0 ≡ despatch_count s k room
-  unfolding despatch_count
-  none_counts room = sym (ap (λ (b : Bool). pick b (length (parcels_in s)) 0) (ap accepted (refused_same s k room h) ∙ h))
-
   pub none_bytes : (b : List ℕ) → b ≡ despatch_written s k b
   unfolding despatch_written
   none_bytes b = sym (ap (λ (x : Bool). pick x (over b 0 (list_bytes s k)) b) (ap accepted (refused_same s k (length b) h) ∙ h))

@@ -1,3 +1,4 @@
+pub mod Gives
 pub mod PackLaws
 pub mod WriteLaws
 pub mod EndLaws

@@ -1,20 +1,22 @@
 -- The loop over a schedule's events, at the code's terms: the machine and the parcels after each of them.
 use Prim.Native.Nat.{ℕ, zero, suc, ◌+◌, ◌-◌, ◌<◌, ◌≤◌}
-use mathlib.Core.Path.{◌≡◌, refl, sym, ap, ap₂, subst, ◌∙◌}
+use mathlib.Core.Path.{◌≡◌, refl, sym, ap, ap₂, subst, subst₂, ◌∙◌}
 use mathlib.Core.Bool.{Bool, true, false}
 use mathlib.Core.List.{List, [], ◌∷◌, ◌++◌, map, map-append}
 use mathlib.Core.Logic.{◌⊎◌, inl, inr}
 use native.Mathlib.Omega.{arith}
 use native.Mathlib.Numerals.{add-one}
 use lib.Dec.{ltb}
-use lib.ListN.{length, get_or, take, drop, set, length-set, length-replicate, get_or-eq_default}
-use lib.Seq.{take-suc-set, take-suc, take_at, length-take-le, get_or-append-add, get_or-drop, get_or-take}
-use borrow.Author.Tests.{lt-ltb}
+use lib.ListN.{length, get_or, take, drop, set, length-set, length-map, length-append, length-drop, length-replicate}
+use lib.Seq.{take-suc-set, take-suc, take_at, take_all, length-take-le, get_or-append-add, get_or-drop}
+use borrow.Author.Tests.{lt-ltb, lt-leb}
 use Rattle.lists.specs.Find.{pick, both}
 use Rattle.lists.specs.Tab.{tab, front}
 use Rattle.lists.proofs.TabLaws as tabs
-use Rattle.answer.specs.Answers.{told, accepted, Answer}
-use Rattle.answer.specs.declared.Told.{Told}
+use Rattle.std.specs.Prelude.{Result, Ok, Err}
+use Rattle.answer.specs.Answers.{told, accepted, given, Answer, Taken}
+use Rattle.answer.specs.declared.Refusal.{Refusal}
+use Rattle.answer.proofs.Injective.{told_injective}
 use Rattle.machine.specs.Start.{start_of, start_answer, start_from}
 use Rattle.machine.specs.Event.{Deed, unknown, enqueues, dequeues, steps, writes_back, crashes, deeds, deed_of, handed, event_at, event_on}
 use Rattle.machine.specs.Range.{in_range}
@@ -38,12 +40,12 @@ use Rattle.pageproof.proofs.Runs.{Accepts, and_after, run_front, run_append, run
 use Rattle.onward.proofs.Come.{Come, reply_in, come_none, come_next, next_machine}
 use Rattle.parcels.specs.Parcel.{no_parcel, news_of, moved, fresh, noted, machine_at, acted_at, parcels_to, parcels_in}
 use Rattle.parcels.specs.Started.{no_parcels}
+use Rattle.parcels.proofs.Gives.{start_given, ok_is, no_ok}
 use Rattle.parcels.specs.declared.News.{News}
 use Rattle.parcels.specs.declared.Parcel.{Parcel}
 
--- ---- lists with places behind them
+-- ---- the first j of a list moved
 
--- the first j of l moved
 unfoldable pub moved_to : News → List Parcel → ℕ → List Parcel
 moved_to w l j = front (λ i. moved w (get_or l i no_parcel)) j l
 
@@ -85,6 +87,10 @@ take_moved w l j h =
     let f : ℕ → Parcel = λ i. moved w (get_or l i no_parcel) in
     take_at (tab f j) (drop j l) j (tabs.length_tab f j) ∙ mapped w l j h
 
+-- all of it
+pub moved_all : (w : News) (l : List Parcel) (j : ℕ) → j ≡ length l → moved_to w l j ≡ map (moved w) l
+moved_all w l j e = sym (take_all j (moved_to w l j) (omega (arith, moved_length w l j (omega arith)))) ∙ take_moved w l j (omega arith) ∙ ap (map (moved w)) (take_all j l (omega arith))
+
 -- ---- kinds that tell the desk nothing
 
 quiet_kind : (i k : ℕ) (e : Event) (m : Machine) (o : Acted) (l : List Parcel) → (k ≡ 1 → ⊥) → (k ≡ 5 → ⊥) → (k ≡ 3 → ⊥) → noted i e m o l (deed_of k) ≡ l
@@ -105,7 +111,17 @@ pub record Under (s : List ℕ) (i : ℕ) (m : Machine) (l : List Parcel) (count
   pub long : length l ≡ 4096
   pub are : take count l ≡ parcels_to s i
 
+pub under_is : {s : List ℕ} {i : ℕ} {m : Machine} {l l' : List Parcel} {n n' : ℕ} → l' ≡ l → n' ≡ n → Under s i m l n → Under s i m l' n'
+under_is {s} {i} {m} f g u = subst₂ (λ (l : List Parcel) (n : ℕ). Under s i m l n) (sym f) (sym g) u
+
 -- ---- the run of a page that is not refused
+
+module _ (s : List ℕ) (a : accepted (page_answer s) ≡ true) where
+  pub taken_schedule : accepted (schedule_answer s) ≡ true
+  taken_schedule = (page_parts s a).0
+
+  pub count_small : count_in s ≤ 4096
+  count_small = (codec.schedule_taken s taken_schedule).count
 
 module _ (s : List ℕ) (bytes : Bytes s) (a : accepted (page_answer s) ≡ true) where
   abbrev n : ℕ
@@ -116,12 +132,6 @@ module _ (s : List ℕ) (bytes : Bytes s) (a : accepted (page_answer s) ≡ true
 
   abbrev b₀ : Bench
   b₀ = opened (schedule_in s)
-
-  pub taken_schedule : accepted (schedule_answer s) ≡ true
-  taken_schedule = (page_parts s a).0
-
-  pub count_small : count_in s ≤ 4096
-  count_small = (codec.schedule_taken s taken_schedule).count
 
   whole : Accepts 0 b₀ (tab f n)
   unfolding ran events_in
@@ -151,7 +161,7 @@ module _ (s : List ℕ) (bytes : Bytes s) (a : accepted (page_answer s) ≡ true
   pub range_at : (i : ℕ) → i ≤ n → in_range (machine_at s i) ≡ true
   range_at i h =
       ap in_range (sym (ap (λ (x : Bench). x.machine) (come_at i h).come))
-      ∙ schedules.events_in_range s bytes taken_schedule 0 (tab f i)
+      ∙ schedules.events_in_range s bytes (taken_schedule s a) 0 (tab f i)
 
   -- what the call on a single event gives is what the event makes of the run
   pub acted_is : (i : ℕ) → i < n → (m : Machine) → m ≡ machine_at s i → (e : Event) → e ≡ f i → (o : Out) → told o.answer ≡ told (event_on m e).answer → o.machine ≡ (event_on m e).machine
@@ -162,9 +172,22 @@ module _ (s : List ℕ) (bytes : Bytes s) (a : accepted (page_answer s) ≡ true
       ap₂ event_on me ee ∙ on_in (machine_at s i) (f i) (range_at i (omega arith)) ∙ ap handed (placed i 0 (machine_at s i) (f i) (takes_at i h c)) in
       (p ∙ ap (λ (x : Out). told x.answer) w, q ∙ ap (λ (x : Out). x.machine) w)
 
-  pub event_is : (i : ℕ) → i < n → (e : Event) → e ≡ parts.event_of s i → e ≡ f i
+  event_there : (i : ℕ) → i < n → parts.event_of s i ≡ f i
   unfolding parts.event_of
-  event_is i h e q = q ∙ rw (taken_schedule, lt-ltb i n h) refl
+  event_there i h = rw (taken_schedule s a, lt-ltb i n h) refl
+
+  event_taken : (i : ℕ) → i < n → parts.event_asked s i ≡ Taken
+  unfolding parts.event_asked
+  event_taken i h = rw (parts.event_asked, taken_schedule s a, lt-leb n i h) refl
+
+  event_given : (i : ℕ) → i < n → ◌≡◌ {A = Result Event Refusal} (given (parts.event_asked s i) (parts.event_of s i)) (Ok (f i))
+  event_given i h = ap (λ (x : Answer). given x (parts.event_of s i)) (event_taken i h) ∙ ap Ok (event_there i h)
+
+  pub event_is : (i : ℕ) → i < n → {e : Event} {r : Result Event Refusal} → r ≡ given (parts.event_asked s i) (parts.event_of s i) → r ≡ Ok e → e ≡ f i
+  event_is i h e was = ok_is (sym was ∙ e ∙ event_given i h)
+
+  pub event_never : (i : ℕ) → i < n → {r : Result Event Refusal} {w : Refusal} → r ≡ given (parts.event_asked s i) (parts.event_of s i) → r ≡ Err w → ⊥
+  event_never i h e was = no_ok (sym was ∙ e ∙ event_given i h)
 
   pub next_is : (i : ℕ) → i < n → (acted_at s i).machine ≡ machine_at s (i + 1)
   next_is i h =
@@ -173,11 +196,24 @@ module _ (s : List ℕ) (bytes : Bytes s) (a : accepted (page_answer s) ≡ true
 
   -- ---- the loop
 
-  pub under_start : (d : Schedule) → d ≡ schedule_in s → (o : Out) → o.machine ≡ (start_from d.image d.t).machine → (l : List Parcel) → l ≡ no_parcels → Under s 0 o.machine l 0
-  unfolding bench_at parcels_to start_from no_parcels
-  under_start d de o q l le = record {
+  starts_with : (d : Schedule) → d ≡ schedule_in s → ◌≡◌ {A = Result Machine Refusal} (given (start_from d.image d.t).answer (start_from d.image d.t).machine) (Ok (machine_at s 0))
+  unfolding bench_at
+  starts_with d de =
+      ap (λ (d : Schedule). given (start_from d.image d.t).answer (start_from d.image d.t).machine) de
+      ∙ start_given (schedule_in s).image (schedule_in s).t (schedules.schedule_starts s bytes (taken_schedule s a))
+
+  -- the schedule's own start is taken
+  pub start_never : (d : Schedule) → d ≡ schedule_in s → {r : Result Machine Refusal} {w : Refusal} → r ≡ given (start_from d.image d.t).answer (start_from d.image d.t).machine → r ≡ Err w → ⊥
+  start_never d de e was =
+      let z = sym was ∙ e ∙ starts_with d de in
+      no_ok z
+
+  pub under_start : (d : Schedule) → d ≡ schedule_in s → {m : Machine} {r : Result Machine Refusal} → r ≡ given (start_from d.image d.t).answer (start_from d.image d.t).machine → r ≡ Ok m
+      → (l : List Parcel) → l ≡ no_parcels → Under s 0 m l 0
+  unfolding parcels_to no_parcels
+  under_start d de e was l le = record {
     within = omega arith;
-    machine = q ∙ ap (λ (d : Schedule). (start_from d.image d.t).machine) de ∙ rw (start_from, schedules.schedule_starts s bytes taken_schedule) refl;
+    machine = ok_is (sym was ∙ e ∙ starts_with d de);
     few = omega arith;
     long = ap length le ∙ length-replicate 4096 no_parcel;
     are = refl;
@@ -196,7 +232,7 @@ module _ (s : List ℕ) (bytes : Bytes s) (a : accepted (page_answer s) ≡ true
         ∙ ap (λ (k : ℕ). noted i e (machine_at s i) (acted_at s i) (parcels_to s i) (deed_of k)) q
 
     pub room : count < length l
-    room = omega (arith, u.few, u.long, count_small)
+    room = omega (arith, u.few, u.long, count_small s a)
 
     pub under_begun : e.kind ≡ 1 → (p : Parcel) → p ≡ fresh i e → Under s (i + 1) m' (set l count p) (count + 1)
     under_begun q p pe = record {
@@ -221,21 +257,22 @@ module _ (s : List ℕ) (bytes : Bytes s) (a : accepted (page_answer s) ≡ true
 
     -- w is what the step told
     module _ (q : e.kind ≡ 3) (o : Out) (oa : told o.answer ≡ told (acted_at s i).answer) (om : o.machine ≡ (acted_at s i).machine)
-        (w : News) (we : w ≡ news_of m e.number (told o.answer).reply o.machine) where
-      news_is : w ≡ news_of (machine_at s i) e.number (told (acted_at s i).answer).reply (acted_at s i).machine
-      news_is = we ∙ ap₂ (λ (x : Machine) (t : Told). news_of x e.number t.reply o.machine) u.machine oa
-          ∙ ap (news_of (machine_at s i) e.number (told (acted_at s i).answer).reply) om
+        (w : News) (we : w ≡ news_of m e.number o.answer o.machine) where
+      news_is : w ≡ news_of (machine_at s i) e.number (acted_at s i).answer (acted_at s i).machine
+      news_is = we ∙ ap₂ (λ (x : Machine) (a : Answer). news_of x e.number a o.machine) u.machine (told_injective o.answer (acted_at s i).answer oa)
+          ∙ ap (news_of (machine_at s i) e.number (acted_at s i).answer) om
 
-      pub under_told : (j : ℕ) → j ≤ count → count ≤ j → Under s (i + 1) m' (moved_to w l j) count
-      under_told j x y =
-          let je : j ≡ count = omega arith in
-          subst (λ k. Under s (i + 1) m' (moved_to w l k) count) (sym je) (record {
+      -- those in use moved, the places behind them as they were
+      pub under_told : (t : List Parcel) → t ≡ map (moved w) (take count l) → Under s (i + 1) m' (t ++ drop count l) count
+      under_told t te =
+          let k : length t ≡ count = ap length te ∙ length-map (take count l) (moved w) ∙ length-take-le count l (omega (arith, room)) in
+          record {
             within = omega arith;
             machine = next_machine_is;
             few = omega (arith, u.few);
-            long = moved_length w l count (omega (arith, room)) ∙ u.long;
-            are = take_moved w l count (omega (arith, room)) ∙ ap₂ (λ (x : News) (t : List Parcel). map (moved x) t) news_is u.are ∙ sym (by_kind 3 q);
-          })
+            long = length-append t (drop count l) ∙ (let z : length t + length (drop count l) ≡ 4096 = omega (arith, length-drop count l, u.long, room) in z);
+            are = take_at t (drop count l) count k ∙ te ∙ ap₂ (λ (x : News) (t : List Parcel). map (moved x) t) news_is u.are ∙ sym (by_kind 3 q);
+          }
 
   -- ---- the end of it
 
@@ -244,7 +281,4 @@ module _ (s : List ℕ) (bytes : Bytes s) (a : accepted (page_answer s) ≡ true
     all_are = u.are ∙ ap (parcels_to s) (let z : i ≡ n = omega (arith, u.within) in z)
 
     pub count_is : count ≡ length (parcels_in s)
-    count_is = sym (length-take-le count l (omega (arith, u.few, u.within, u.long, count_small))) ∙ ap length all_are
-
-    pub parcel_at : (j : ℕ) → j < count → get_or l j no_parcel ≡ get_or (parcels_in s) j no_parcel
-    parcel_at j lt = sym (get_or-take count l j no_parcel lt) ∙ ap (λ (t : List Parcel). get_or t j no_parcel) all_are
+    count_is = sym (length-take-le count l (omega (arith, u.few, u.within, u.long, count_small s a))) ∙ ap length all_are

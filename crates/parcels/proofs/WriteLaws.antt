@@ -9,12 +9,17 @@ use lib.ListN.{length, get_or, length-append}
 use borrow.Author.Tests.{lt-ltb, le-ltb}
 use Rattle.lists.specs.Tab.{over}
 use Rattle.lists.proofs.TabLaws as tabs
-use Rattle.answer.specs.Answers.{accepted, Answer, Taken, Room}
+use Rattle.std.specs.Prelude.{Result, Ok, Err}
+use Rattle.answer.specs.Answers.{given, Answer, Taken}
+use Rattle.answer.specs.Answers as answers
+use Rattle.answer.specs.declared.Refusal.{Refusal}
+use Rattle.answer.specs.declared.Refusal.TheVariants as why
 use Rattle.machine.specs.declared.Machine.{Machine}
 use Rattle.parcels.specs.Parcel.{no_parcel, parcels_in}
 use Rattle.parcels.specs.Despatch.{entry_bytes}
 use Rattle.parcels.specs.Started.{group_in, packed_to, pack_answer, Packed}
 use Rattle.parcels.specs.declared.Parcel.{Parcel}
+use Rattle.parcels.specs.declared.Group.{Group}
 
 -- the entry of parcel j
 abbrev entry_at : Machine → List Parcel → ℕ → List ℕ
@@ -34,21 +39,15 @@ packed_next : (m : Machine) (l : List Parcel) (j : ℕ) → packed_to m l j ++ e
 unfolding packed_to
 packed_next m l j = ap (packed_to m l) (sym (add-one j))
 
-pub packed_over : (m : Machine) (l : List Parcel) (b : List ℕ) (j : ℕ) (p : Parcel) (c : ℕ) → p ≡ get_or l j no_parcel → c ≡ group_in m p
+pub packed_over : (m : Machine) (l : List Parcel) (b : List ℕ) (j : ℕ) (p : Parcel) (c : Group) → p ≡ get_or l j no_parcel → c ≡ group_in m p
     → over (over b 0 (packed_to m l j)) (j * 8) (entry_bytes p c) ≡ over b 0 (packed_to m l (j + 1))
 packed_over m l b j p c pe ce =
     ap₂ (λ (k : ℕ) (x : List ℕ). over (over b 0 (packed_to m l j)) k x) (let z : j * 8 ≡ 0 + length (packed_to m l j) = omega (arith, packed_length m l j) in z)
     (ap (entry_bytes p) ce ∙ ap (λ (p : Parcel). entry_bytes p (group_in m p)) pe)
     ∙ tabs.over_append b 0 (packed_to m l j) (entry_at m l j) ∙ ap (over b 0) (packed_next m l j)
 
-pub packed_same : (m : Machine) (l l' : List Parcel) (j : ℕ) → ((i : ℕ) → i < j → get_or l i no_parcel ≡ get_or l' i no_parcel) → packed_to m l j ≡ packed_to m l' j
-unfolding packed_to
-packed_same m l l' zero h = refl
-packed_same m l l' (suc j) h =
-    ap₂ (λ (x y : List ℕ). x ++ y) (packed_same m l l' j (λ i z. h i (omega arith))) (ap (λ (p : Parcel). entry_bytes p (group_in m p)) (h j (omega arith)))
-
 module _ (s : List ℕ) (m : Machine) (b : List ℕ) (count : ℕ) (e : count ≡ length (parcels_in s)) where
-  short : length b < count * 8 → pack_answer s (length b) ≡ Room
+  short : length b < count * 8 → pack_answer s (length b) ≡ answers.Room
   unfolding pack_answer
   short h = rw (lt-ltb (length b) (length (parcels_in s) * 8) (omega (arith, e))) refl
 
@@ -56,14 +55,11 @@ module _ (s : List ℕ) (m : Machine) (b : List ℕ) (count : ℕ) (e : count �
   unfolding pack_answer
   enough h = rw (le-ltb (length b) (length (parcels_in s) * 8) (omega (arith, e))) refl
 
-  pub packed_short : length b < count * 8 → Packed s m b Room 0 b
-  packed_short h = record { answers = sym (short h); counts = rw (short h) refl; bytes = rw (short h) refl }
+  pub packed_short : length b < count * 8 → Packed s m b (Err why.Room) b
+  packed_short h = record { gives = ap (λ (a : Answer). given a (length (parcels_in s))) (sym (short h)); bytes = rw (short h) refl }
 
-  pub packed_all : count * 8 ≤ length b → (l : List Parcel) → ((i : ℕ) → i < count → get_or l i no_parcel ≡ get_or (parcels_in s) i no_parcel)
-      → (j : ℕ) → j ≤ count → count ≤ j → (z : List ℕ) → z ≡ over b 0 (packed_to m l j) → Packed s m b Taken count z
-  packed_all h l f j x y z ze = record {
-    answers = sym (enough h);
-    counts = rw (enough h) e;
-    bytes = rw (enough h) (ze ∙ ap (λ (k : ℕ). over b 0 (packed_to m l k)) (let q : j ≡ count = omega arith in q) ∙ ap (over b 0) (packed_same m l (parcels_in s) count f)
-        ∙ ap (λ (k : ℕ). over b 0 (packed_to m (parcels_in s) k)) e);
+  pub packed_all : count * 8 ≤ length b → (l : List Parcel) → l ≡ parcels_in s → (z : List ℕ) → z ≡ over b 0 (packed_to m l (length l)) → Packed s m b (Ok count) z
+  packed_all h l f z ze = record {
+    gives = ap Ok e ∙ ap (λ (a : Answer). given a (length (parcels_in s))) (sym (enough h));
+    bytes = rw (enough h) (ze ∙ ap (λ (l : List Parcel). over b 0 (packed_to m l (length l))) f);
   }

@@ -8,7 +8,9 @@ use Rattle.image.specs.Layout.{content_at}
 use Rattle.image.specs.Recovered.{head_of, recovered_at}
 use Rattle.image.specs.declared.Image.{Image}
 use Rattle.page.specs.Refusals.{page_answer, ending_count, ending_in}
-use Rattle.parcels.specs.Parcel.{no_parcel, is_linked, parcels_in}
+use Rattle.parcels.specs.Parcel.{no_parcel, is_linked, turns_away, parcels_in}
+use Rattle.parcels.specs.declared.Group.{Group}
+use Rattle.parcels.specs.declared.Group.TheVariants.{HandedOut, Queued, TurnedAway, TakenAlone, NeverIn}
 use Rattle.parcels.specs.declared.Parcel.{Parcel}
 
 -- ---- 02's five conditions, at the ending g
@@ -23,21 +25,29 @@ still_queued g p = both (is_linked p) (both (recovered_at g p.node) (eqb (conten
 
 -- 3: "turned away (Full or Worn out)"
 abbrev pub turned_away : Parcel → Bool
-turned_away p = pick (eqb p.said 2) true (eqb p.said 3)
+turned_away p = turns_away p.said
 
 -- 4: "taken without an answer (its link step done, its index at most the ending's head index, no dequeue answered with it)"
 abbrev pub taken_alone : Image → Parcel → Bool
 taken_alone g p = both (is_linked p) (both (leb p.index (head_of g)) (not p.handed))
 
--- "Each enqueue begin stands in one group": the first whose condition holds, in 02's order; 5: "and never in (the rest)"
-unfoldable pub group_of : Image → Parcel → ℕ
-group_of g p = pick (handed_out p) 1 (pick (still_queued g p) 2 (pick (turned_away p) 3 (pick (taken_alone g p) 4 5)))
+-- "Each enqueue begin stands in one group": the first whose condition holds, in 02's order; else "and never in (the rest)"
+unfoldable pub group_of : Image → Parcel → Group
+group_of g p = pick (handed_out p) HandedOut (pick (still_queued g p) Queued (pick (turned_away p) TurnedAway (pick (taken_alone g p) TakenAlone NeverIn)))
+
+-- a group's number, in 02's order
+abbrev pub number_of : Group → ℕ
+number_of HandedOut = 1
+number_of Queued = 2
+number_of TurnedAway = 3
+number_of TakenAlone = 4
+number_of NeverIn = 5
 
 -- ---- as bytes
 
 -- an entry: begin event (2), thread, group, item (4)
-abbrev pub entry_bytes : Parcel → ℕ → List ℕ
-entry_bytes p c = le 2 p.began ++ (p.thread ∷ c ∷ le 4 p.item)
+abbrev pub entry_bytes : Parcel → Group → List ℕ
+entry_bytes p c = le 2 p.began ++ (p.thread ∷ number_of c ∷ le 4 p.item)
 
 -- those of the first j enqueues
 unfoldable pub entries_to : Image → List Parcel → ℕ → List ℕ

@@ -1,11 +1,10 @@
 // What a step tells the desk, and what an enqueue's parcel is after it.
 ghost use Rattle.std.specs.Prelude.{◌≡◌, eqb};
-ghost use Rattle.answer.specs.Answers.{told};
 ghost use Rattle.lists.specs.Find.{both};
-ghost use Rattle.parcels.specs.Parcel.{thread_at, node_at, tells, said_news, news_of, is_of, has_index, fresh as fresh_of, moved as moved_of};
+ghost use Rattle.parcels.specs.Parcel.{thread_at, node_at, said_news, news_of, is_of, has_index, is_taken_by, fresh as fresh_of, moved as moved_of};
 
-use crate::said::said_of;
 use crate::{News, Parcel};
+use answer::{Answer, Reply};
 use machine::{Event, Machine, Out, Thread};
 
 fn thread_at(m: Machine, k: u8) -> Thread
@@ -36,57 +35,41 @@ fn index_at(m: Machine, i: u8) -> u64
     v.index
 }
 
-fn tell(what: u8, thread: u8, node: u8, said: u8, index: u64) -> News
-    ensures { result ≡ tells what thread node said index }
-{
-    News {
-        index,
-        what,
-        thread,
-        node,
-        said,
-    }
-}
-
 // By what a step of thread k answered.
-fn said_news(k: u8, said: u8) -> News
-    ensures { result ≡ said_news k said }
+fn said_news(k: u8, a: Answer) -> News
+    ensures { result ≡ said_news k a }
 {
-    if said == 0 {
-        return tell(0, k, 0, 0, 0);
+    match a {
+        Ok(Reply::Taken) => News::Nothing,
+        Ok(Reply::Done) => News::Answered(k, Reply::Done),
+        Ok(Reply::Full) => News::Answered(k, Reply::Full),
+        Ok(Reply::WornOut) => News::Answered(k, Reply::WornOut),
+        Ok(Reply::Item(_)) => News::Gave(k),
+        Ok(Reply::Empty) => News::Answered(k, Reply::Empty),
+        Err(_) => News::Nothing,
     }
-    if said == 4 {
-        return tell(4, k, 0, 0, 0);
-    }
-    tell(2, k, 0, said, 0)
 }
 
 // Whether thread k went from step x to step y.
 fn is_gone(m: Machine, after: Machine, k: u8, x: u8, y: u8) -> bool
     ensures { result ≡ both (eqb (thread_at m k).step x) (eqb (thread_at after k).step y) }
 {
-    let v = thread_at(m, k);
-    if v.step != x {
-        return false;
-    }
-    let w = thread_at(after, k);
-    w.step == y
+    thread_at(m, k).step == x && thread_at(after, k).step == y
 }
 
 // What a step of thread k told: m is the machine before it, out what came of it.
+#[tactic(auto, unfolding(crate::specs::Parcel::news_of))]
 pub fn news_of(m: Machine, k: u8, out: Out) -> News
-    ensures { result ≡ news_of m k (told out.answer).reply out.machine }
+    ensures { result ≡ news_of m k out.answer out.machine }
 {
-    let after = out.machine;
     let v = thread_at(m, k);
-    if is_gone(m, after, k, Machine::A8, Machine::A9) {
-        return tell(1, k, v.node, 0, index_at(m, v.node));
+    if is_gone(m, out.machine, k, Machine::A8, Machine::A9) {
+        return News::Linked(k, v.node, index_at(m, v.node));
     }
-    if is_gone(m, after, k, Machine::D4, Machine::D5) {
-        return tell(3, k, 0, 0, index_at(m, v.next));
+    if is_gone(m, out.machine, k, Machine::D4, Machine::D5) {
+        return News::Took(k, index_at(m, v.next));
     }
-    let a = out.answer;
-    said_news(k, said_of(a))
+    said_news(k, out.answer)
 }
 
 // Event i begins an enqueue.
@@ -99,8 +82,8 @@ pub fn fresh(i: u16, e: Event) -> Parcel
         began: i,
         thread: e.number,
         node: 255,
-        said: 0,
-        taker: 255,
+        said: Reply::Taken,
+        taker: None,
         handed: false,
     }
 }
@@ -108,54 +91,37 @@ pub fn fresh(i: u16, e: Event) -> Parcel
 fn is_of(p: Parcel, k: u8) -> bool
     ensures { result ≡ is_of k p }
 {
-    if p.thread != k {
-        return false;
-    }
-    p.said == 0
+    p.thread == k && matches!(p.said, Reply::Taken)
 }
 
 fn has_index(p: Parcel, x: u64) -> bool
     ensures { result ≡ has_index x p }
 {
-    if 64 <= p.node {
-        return false;
+    p.node < 64 && p.index == x
+}
+
+fn is_taken_by(p: Parcel, k: u8) -> bool
+    ensures { result ≡ is_taken_by k p }
+{
+    match p.taker {
+        Some(u) => u == k,
+        None => false,
     }
-    p.index == x
 }
 
 // A link or an answer is the thread's own operation's, a node taken that of the index, an item answered that of the thread's taking.
+#[tactic(auto, unfolding(crate::specs::Parcel::moved))]
 pub fn moved(w: News, p: Parcel) -> Parcel
     ensures { result ≡ moved_of w p }
 {
-    let mut r = p;
-    if w.what == 1 {
-        if is_of(p, w.thread) {
-            r.node = w.node;
-            r.index = w.index;
-            return r;
-        }
-        return p;
+    match w {
+        News::Linked(k, node, index) if is_of(p, k) => Parcel { node, index, ..p },
+        News::Answered(k, said) if is_of(p, k) => Parcel { said, ..p },
+        News::Took(k, index) if has_index(p, index) => Parcel {
+            taker: Some(k),
+            ..p
+        },
+        News::Gave(k) if is_taken_by(p, k) => Parcel { handed: true, ..p },
+        _ => p,
     }
-    if w.what == 2 {
-        if is_of(p, w.thread) {
-            r.said = w.said;
-            return r;
-        }
-        return p;
-    }
-    if w.what == 3 {
-        if has_index(p, w.index) {
-            r.taker = w.thread;
-            return r;
-        }
-        return p;
-    }
-    if w.what == 4 {
-        if p.taker == w.thread {
-            r.handed = true;
-            return r;
-        }
-        return p;
-    }
-    p
 }

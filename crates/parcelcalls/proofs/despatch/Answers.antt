@@ -1,5 +1,5 @@
-use mathlib.Core.Path.{◌∙◌}
+use Rattle.calls.proofs.Gives as gives
 use Rattle.parcelcalls.proofs.despatch.Goals as goal
 
 pub returns : goal.returns
-returns c = record { answers = c.packed_of.ensures ∙ rw (c.despatch-list.ensures.answers, c.despatch-list.ensures.counts); bytes = c.despatch-list.ensures.bytes }
+returns c = record { answers = gives.packs _ _ c.packed_result.ensures c.counted.ensures.gives; bytes = c.counted.ensures.bytes }

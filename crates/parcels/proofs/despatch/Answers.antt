@@ -4,14 +4,16 @@ use mathlib.Core.Bool.{true, false}
 use mathlib.Core.List.{List}
 use native.Mathlib.Omega.{arith}
 use lib.ListN.{length}
-use borrow.Author.Tests.{not-true, not-false}
-use Rattle.answer.specs.Answers.{told, accepted, Answer}
+use Rattle.answer.specs.Answers.{told, accepted, Answer, given}
 use Rattle.answer.proofs.Injective.{told_injective}
+use Rattle.answer.proofs.Results.{went_on, came_back, gave_none}
 use Rattle.page.specs.Refusals.{ending_answer, ending_written}
 use Rattle.lawful.specs.Demand3.{Bytes}
 use Rattle.codec.proofs.Accepted as codec
 use Rattle.lawproof.proofs.Lawful3.{page_parts}
+use Rattle.parcels.specs.Despatch.{despatch_count}
 use Rattle.parcels.specs.Started.{no_bytes}
+use Rattle.parcels.proofs.Gives.{ok_is, no_ok}
 use Rattle.parcels.proofs.EndLaws as ends
 use Rattle.parcels.proofs.despatch.Goals as goal
 
@@ -20,41 +22,59 @@ answer-is : (s : List ℕ) (k : ℕ) (room : List ℕ) → room ≡ no_bytes →
 answer-is s k room e a q =
     told_injective a (ending_answer s k 1024) (q ∙ ap (λ (n : ℕ). told (ending_answer s k n)) (ap length e ∙ ends.no_bytes_long))
 
-pub returns-then-not-is_taken : goal.returns-then-not-is_taken
-returns-then-not-is_taken c =
+pub returns-in_err-ending_of : goal.returns-in_err-ending_of
+returns-in_err-ending_of c =
     let s = c.args.s.now in
     let k = c.args.k in
-    let r = answer-is s k c.no_bytes-room.result c.no_bytes-room.ensures c.ending_of-a.result c.ending_of-a.ensures.answers in
-    let h = (let q : accepted (ending_answer s k 1024) ≡ false = sym (ap accepted r) ∙ (sym c.is_taken.ensures ∙ not-true c.is_taken.result c.if-not-is_taken.true-raw) in q) in record { answers = ap (λ (a : Answer). told a) (r ∙ sym (ends.refused_same s k (length c.args.b.now) h)); counts = ends.none_counts s k h (length c.args.b.now); bytes = ends.none_bytes s k h c.args.b.now }
+    let b = c.args.b.now in
+    let r = answer-is s k c.no_bytes-room.result c.no_bytes-room.ensures c.ending_of.result c.ending_of.ensures.answers in
+    let h = came_back r c.in_err-ending_of.was in record {
+      gives = gave_none (despatch_count s k (length b)) (r ∙ sym (ends.refused_same s k (length b) h)) c.in_err-ending_of.was c.from_residual.ensures.1;
+      bytes = ends.none_bytes s k h b;
+    }
 
-pub started-end-requires : goal.started-end-requires
-started-end-requires c =
+pub returns-in_err-d : goal.returns-in_err-d
+returns-in_err-d c =
     let s = c.args.s.now in
     let k = c.args.k in
-    let r = answer-is s k c.no_bytes-room.result c.no_bytes-room.ensures c.ending_of-a.result c.ending_of-a.ensures.answers in
-    let h = (let q : accepted (ending_answer s k 1024) ≡ true = sym (ap accepted r) ∙ (sym c.is_taken.ensures ∙ not-false c.is_taken.result c.if-not-is_taken.false-raw) in q) in
-    let g = ends.taken_there s k h in
+    let r = answer-is s k c.no_bytes-room.result c.no_bytes-room.ensures c.ending_of.result c.ending_of.ensures.answers in
+    let g = ends.taken_there s k (went_on r c.in_ok-ending_of.was) in
+    absurd (no_ok (sym c.in_err-d.was ∙ c.read_schedule.ensures ∙ ends.schedule_ok s (page_parts s g.page).0))
+
+pub started-requires : goal.started-requires
+started-requires c =
+    let s = c.args.s.now in
+    let k = c.args.k in
+    let r = answer-is s k c.no_bytes-room.result c.no_bytes-room.ensures c.ending_of.result c.ending_of.ensures.answers in
+    let g = ends.taken_there s k (went_on r c.in_ok-ending_of.was) in
     let a = (page_parts s g.page).0 in
-    let z = ap length c.ending_of-a.ensures.bytes ∙ ends.written_long s k c.no_bytes-room.result ∙ ap length c.no_bytes-room.ensures ∙ ends.no_bytes_long in
-    (a, c.read_schedule-o.ensures.schedule ∙ codec.opened_schedule s a, omega (arith, ends.size_small s a, z))
+    let z = ap length c.ending_of.ensures.bytes ∙ ends.written_long s k c.no_bytes-room.result ∙ ap length c.no_bytes-room.ensures ∙ ends.no_bytes_long in
+    (a, ok_is (sym c.in_ok-d.was ∙ c.read_schedule.ensures ∙ ends.schedule_ok s a), omega (arith, ends.size_small s a, z))
+
+pub returns-in_err-end : goal.returns-in_err-end
+returns-in_err-end c =
+    let s = c.args.s.now in
+    let k = c.args.k in
+    let y : Bytes s = λ j. omega (arith, c.type_inv.s j) in
+    let r = answer-is s k c.no_bytes-room.result c.no_bytes-room.ensures c.ending_of.result c.ending_of.ensures.answers in
+    let g = ends.taken_there s k (went_on r c.in_ok-ending_of.was) in
+    absurd (no_ok (sym c.in_err-end.was ∙ c.started.ensures ∙ ends.end_is s y k g _ (c.ending_of.ensures.bytes ∙ ap (ending_written s k) c.no_bytes-room.ensures)))
 
 pub packed-requires : goal.packed-requires
 packed-requires c =
     let s = c.args.s.now in
     let k = c.args.k in
-    let r = answer-is s k c.no_bytes-room.result c.no_bytes-room.ensures c.ending_of-a.result c.ending_of-a.ensures.answers in
-    let h = (let q : accepted (ending_answer s k 1024) ≡ true = sym (ap accepted r) ∙ (sym c.is_taken.ensures ∙ not-false c.is_taken.result c.if-not-is_taken.false-raw) in q) in
-    let g = ends.taken_there s k h in
-    (g.page, c.read_schedule-o.ensures.schedule ∙ codec.opened_schedule s (page_parts s g.page).0)
+    let r = answer-is s k c.no_bytes-room.result c.no_bytes-room.ensures c.ending_of.result c.ending_of.ensures.answers in
+    let g = ends.taken_there s k (went_on r c.in_ok-ending_of.was) in
+    (g.page, ok_is (sym c.in_ok-d.was ∙ c.read_schedule.ensures ∙ ends.schedule_ok s (page_parts s g.page).0))
 
 pub returns : goal.returns
 returns c =
     let s = c.args.s.now in
     let k = c.args.k in
     let b = c.args.b.now in
-    let y = (let q : Bytes s = λ j. omega (arith, c.shared_slice_known-1.given j) in q) in
-    let r = answer-is s k c.no_bytes-room.result c.no_bytes-room.ensures c.ending_of-a.result c.ending_of-a.ensures.answers in
-    let h = (let q : accepted (ending_answer s k 1024) ≡ true = sym (ap accepted r) ∙ (sym c.is_taken.ensures ∙ not-false c.is_taken.result c.if-not-is_taken.false-raw) in q) in
-    let g = ends.taken_there s k h in
-    let m = ends.end_is s y k g c.started-end.result _ (c.ending_of-a.ensures.bytes ∙ ap (ending_written s k) c.no_bytes-room.ensures) c.started-end.ensures in
-    let w = c.packed.ensures in record { answers = ends.desk_answers s y k g b _ _ _ _ m w; counts = ends.desk_counts s y k g b _ _ _ _ m w; bytes = ends.desk_bytes s y k g b _ _ _ _ m w }
+    let y : Bytes s = λ j. omega (arith, c.type_inv.s j) in
+    let r = answer-is s k c.no_bytes-room.result c.no_bytes-room.ensures c.ending_of.result c.ending_of.ensures.answers in
+    let g = ends.taken_there s k (went_on r c.in_ok-ending_of.was) in
+    let m = ok_is (sym c.in_ok-end.was ∙ c.started.ensures ∙ ends.end_is s y k g _ (c.ending_of.ensures.bytes ∙ ap (ending_written s k) c.no_bytes-room.ensures)) in
+    let w = c.packed.ensures in record { gives = ends.desk_gives s y k g b _ _ _ m w; bytes = ends.desk_bytes s y k g b _ _ _ m w }

@@ -5,10 +5,10 @@ use native.Mathlib.Omega.{arith}
 use lib.ListN.{length, take}
 use lib.Seq.{length-take-le}
 use Rattle.image.specs.Refusals.{read_image}
-use Rattle.image.specs.declared.Image.{Image}
-use Rattle.machine.specs.Start.{start_from}
 use Rattle.schedule.specs.Layout.{schedule_in, count_in, threads_in}
 use Rattle.schedule.specs.declared.Schedule.{Schedule}
+use Rattle.parcels.specs.Started.{end_size, started_from}
+use Rattle.parcels.proofs.Gives as gives
 use Rattle.parcels.proofs.EndLaws as ends
 use Rattle.parcels.proofs.started.Goals as goal
 
@@ -29,9 +29,16 @@ overflow_sub-size-2 c = omega (arith, ends.size_fits c.args.s.now c.requires.0, 
 pub slice_bounds-read_image-end : goal.slice_bounds-read_image-end
 slice_bounds-read_image-end c = sym (length-take-le (length c.args.s.now - 8 - c.args.d.count * 6) c.args.room.now (omega (arith, c.requires.2, count-in c.args.s.now c.args.d c.requires.1)))
 
+-- the bytes that the call was given are those of the contract
+read-is : (s : List ℕ) (d : Schedule) (room : List ℕ) → d ≡ schedule_in s → read_image (take (length s - 8 - d.count * 6) room) ≡ read_image (take (end_size s) room)
+read-is s d room e = ap (λ (k : ℕ). read_image (take (length s - 8 - k * 6) room)) (count-in s d e)
+
+pub returns-in_err-g : goal.returns-in_err-g
+returns-in_err-g c =
+    gives.read_refused (threads_in c.args.s.now) _ c.read_image.ensures c.in_err-g.was c.from_residual.ensures.1
+    ∙ ap (started_from (threads_in c.args.s.now)) (read-is c.args.s.now c.args.d c.args.room.now c.requires.1)
+
 pub returns : goal.returns
 returns c =
-    let s = c.args.s.now in
-    let room = c.args.room.now in
-    let e = ap (λ (k : ℕ). length s - 8 - k * 6) (count-in s c.args.d c.requires.1) in
-    c.start_from-e.ensures.started ∙ ap₂ (λ (g : Image) (t : ℕ). (start_from g t).machine) (c.read_image-r.ensures.image ∙ ap (λ (k : ℕ). (read_image (take k room)).image) e) (threads-in s c.args.d c.requires.1)
+    gives.read_started c.args.d.t _ c.read_image.ensures c.in_ok-g.was c.start_from.ensures
+    ∙ ap₂ started_from (threads-in c.args.s.now c.args.d c.requires.1) (read-is c.args.s.now c.args.d c.args.room.now c.requires.1)

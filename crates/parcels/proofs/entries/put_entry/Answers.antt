@@ -27,4 +27,4 @@ bounds-b-at-8 c = simp length-set (omega arith)
 
 pub returns : goal.returns
 unfolding over
-returns c = simp (add-one, add-two, add-three, add-four, add_five, add_six, add_seven)
+returns c = rw c.from.ensures (simp (add-one, add-two, add-three, add-four, add_five, add_six, add_seven))
