@@ -1,6 +1,6 @@
 -- What each turn of a loop of the start adds, at the code's numbers. Assumes nothing.
-use Prim.Native.Nat.{ℕ, suc, ◌+◌, ◌≤◌, ◌<◌, ◌^◌}
-use mathlib.Core.Path.{◌≡◌, refl, ap, ◌∙◌}
+use Prim.Native.Nat.{ℕ, suc, ◌+◌, ◌-◌, ◌≤◌, ◌<◌, ◌^◌}
+use mathlib.Core.Path.{◌≡◌, refl, sym, ap, ◌∙◌}
 use mathlib.Core.Bool.{Bool, true, false, not}
 use mathlib.Core.List.{List, [], ◌∷◌}
 use native.Mathlib.Omega.{arith}
@@ -17,11 +17,10 @@ use Rattle.lists.specs.Word.{word_of}
 use Rattle.lists.proofs.FindLaws.{least_le}
 use Rattle.lists.proofs.TabLaws as tabs
 use Rattle.image.specs.declared.Image.{Image}
-use Rattle.image.specs.Layout.{content_at, no_contents}
 use Rattle.image.specs.Recovered.{recovered_at, dummy_of}
 use Rattle.machine.specs.Record.{none, blank_nodes}
 use Rattle.machine.specs.Start.{behind, last_of, start_node, spare}
-use Rattle.machine.specs.Laid.{start_nodes, start_kept, start_free}
+use Rattle.machine.specs.Laid.{start_nodes, start_free}
 use Rattle.lists.proofs.WordLaws.{word_of_lt}
 
 -- ---- along the first c places of a table
@@ -33,13 +32,16 @@ rest_cons l c p h f =
 rest_none : (l : List ℕ) (c p : ℕ) → c ≤ p → c ≤ length l → drop p (take c l) ≡ []
 rest_none l c p h f = drop_of_length-le (take c l) {i = p} (omega (arith, length-take-le c l f))
 
-pub last_next : (l : List ℕ) (c p a : ℕ) → p < c → c ≤ length l → last_of a (drop p (take c l)) ≡ last_of (get_or l p 0) (drop (p + 1) (take c l))
+last_at : (x : ℕ) (l : List ℕ) (d : ℕ) → last_of x l ≡ get_or (x ∷ l) (length l) d
 unfolding last_of
-last_next l c p a h f = ap (last_of a) (rest_cons l c p h f)
+last_at x [] d = refl
+last_at x (y ∷ l) d = last_at y l d
 
-pub last_end : (l : List ℕ) (c p a : ℕ) → c ≤ p → c ≤ length l → last_of a (drop p (take c l)) ≡ a
+-- the last of a list, a where it has none
+pub last_is : (a : ℕ) (l : List ℕ) → get_or l (length l - 1) a ≡ last_of a l
 unfolding last_of
-last_end l c p a h f = ap (last_of a) (rest_none l c p h f)
+last_is a [] = refl
+last_is a (x ∷ l) = let e : suc (length l) - 1 ≡ length l = omega arith in ap (λ (n : ℕ). get_or (x ∷ l) n a) e ∙ sym (last_at x l a)
 
 pub behind_by : (b : Bool) (a x i : ℕ) (l : List ℕ) → eqb a i ≡ b → behind (a ∷ x ∷ l) i ≡ pick b x (behind (x ∷ l) i)
 unfolding behind
@@ -67,14 +69,6 @@ nodes_none g d q = refl
 pub nodes_next : (g : Image) (d : ℕ) (q : List ℕ) (i : ℕ) → i < 64 → set (start_nodes g d q i) i (start_node g d q i) ≡ start_nodes g d q (i + 1)
 unfolding start_nodes blank_nodes
 nodes_next g d q i h = tabs.front_next (start_node g d q) i blank_nodes h
-
-pub kept_none : (g : Image) → no_contents ≡ start_kept g 0
-unfolding start_kept front tab
-kept_none g = refl
-
-pub kept_next : (g : Image) (i : ℕ) → i < 64 → set (start_kept g i) i (content_at g.nodes i) ≡ start_kept g (i + 1)
-unfolding start_kept no_contents
-kept_next g i h = tabs.front_next (content_at g.nodes) i no_contents h
 
 -- ---- the free set
 

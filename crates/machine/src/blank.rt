@@ -12,7 +12,7 @@ pub fn blank_nodes() -> [Node; 64]
 {
     let node = Node {
         item: 0,
-        next: 255,
+        next: Machine::NONE,
         linked: 0,
         index: 0,
         waits: 0,
@@ -24,17 +24,7 @@ pub fn blank_nodes() -> [Node; 64]
 pub fn idle_threads() -> [Thread; 8]
     ensures { result ≡ idle_threads }
 {
-    let thread = Thread {
-        step: 0,
-        node: 255,
-        tail: 255,
-        head: 255,
-        index: 0,
-        next: 255,
-        item: 0,
-        held: 255,
-    };
-    [thread; Machine::THREADS]
+    [Thread::idle(Machine::NONE); Machine::THREADS]
 }
 
 // What the threads have flushed where none has.
@@ -49,17 +39,11 @@ pub fn no_flushed() -> [Content; 8]
     [none; Machine::THREADS]
 }
 
-// Sets without a thread: one for each thread or head line, one for each node.
-pub fn no_sets() -> [u8; 8]
-    ensures { result ≡ no_sets 8 }
+// Sets without a thread: one for each thread or head line, or one for each node.
+pub fn no_sets<const N: usize>() -> [u8; N]
+    ensures { result ≡ no_sets N }
 {
-    [0u8; Machine::THREADS]
-}
-
-pub fn no_node_sets() -> [u8; 64]
-    ensures { result ≡ no_sets 64 }
-{
-    [0u8; Machine::NODES]
+    [0; N]
 }
 
 pub fn blank_machine() -> Machine
@@ -73,7 +57,7 @@ pub fn blank_machine() -> Machine
     let flushed = no_flushed();
     let late = no_sets();
     let over_heads = no_sets();
-    let over = no_node_sets();
+    let over = no_sets();
     Machine {
         form: 0,
         n: 0,

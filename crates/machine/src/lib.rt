@@ -13,12 +13,12 @@ pub mod start;
 ghost use Rattle.std.specs.Prelude.{◌≡◌};
 ghost use Rattle.answer.specs.Answers.{given};
 ghost use Rattle.machine.specs.Line.{shape_of};
-ghost use Rattle.machine.specs.Record.{content_of};
+ghost use Rattle.machine.specs.Record.{content_of, idle_thread};
 ghost use Rattle.machine.specs.Start.{fresh_from};
 
 pub use start::start_from;
 
-// A node's cached copy, its link (255: none), and the threads it waits for, as a set.
+// A node's cached copy, its link (NONE where it has none), and the threads it waits for, as a set.
 #[derive(Clone, Copy, Debug, PartialEq, Eq)]
 pub struct Node {
     pub index: u64,
@@ -30,7 +30,7 @@ pub struct Node {
 
 // A thread: its next step (0: no operation, 1 to 12: A1 to A12, 13 to 19: D1 to D7, 20 and 21: S3 and S6 of "UQP",
 // 22 to 24: F10, F3 and F6, the fences behind A10, D3 and D6) and what it has read.
-// A node number of 255 is none.
+// A node number of 255 is none (Machine::NONE).
 #[derive(Clone, Copy, Debug, PartialEq, Eq)]
 pub struct Thread {
     pub index: u64,
@@ -41,6 +41,24 @@ pub struct Thread {
     pub head: u8,
     pub next: u8,
     pub held: u8,
+}
+
+impl Thread {
+    // Without an operation, holding this node.
+    pub fn idle(held: u8) -> Thread
+        ensures { result ≡ idle_thread held }
+    {
+        Thread {
+            step: 0,
+            node: Machine::NONE,
+            tail: Machine::NONE,
+            head: Machine::NONE,
+            index: 0,
+            next: Machine::NONE,
+            item: 0,
+            held,
+        }
+    }
 }
 
 // The form of its image; N and T; Head, a node number with an index, which is that of head line 0 (in "UQP" a node number alone, and each thread has a head line);
@@ -72,12 +90,15 @@ impl Machine {
 
     pub const THREADS: usize = 8;
 
+    // What stands for no node. A number and no Option: the record's bytes hold it.
+    pub const NONE: u8 = 255;
+
     // At most eight head lines, and a line for each node.
     pub const HEADS: usize = 8;
 
     pub const LINES: usize = Machine::HEADS + Machine::NODES;
 
-    // The steps: 0 is no operation, A1 to A12 of an enqueue, D1 to D7 of a dequeue, S3 and S6 the stores before D3 and D6, F10, F3 and F6 the fences
+    // The steps, numbers and no enum: the record's bytes hold any byte, and on_event answers 18 to one that is no step. 0 is no operation, A1 to A12 of an enqueue, D1 to D7 of a dequeue, S3 and S6 the stores before D3 and D6, F10, F3 and F6 the fences
     // behind A10, D3 and D6.
     pub const A1: u8 = 1;
 

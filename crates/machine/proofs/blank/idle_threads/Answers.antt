@@ -1,7 +1,6 @@
-use mathlib.Core.Path.{refl}
 use Rattle.machine.specs.Record.{idle_threads}
 use Rattle.machine.proofs.blank.idle_threads.Goals as goal
 
 pub returns : goal.returns
 unfolding idle_threads
-returns c = refl
+returns c = rw c.idle.ensures

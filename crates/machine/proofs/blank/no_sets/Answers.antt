@@ -4,4 +4,4 @@ use Rattle.machine.proofs.blank.no_sets.Goals as goal
 
 pub returns : goal.returns
 unfolding no_sets
-returns c = refl
+returns g c = refl

@@ -1,18 +1,19 @@
-use Prim.Native.Nat.{ℕ}
-use mathlib.Core.Path.{◌≡◌, ap, ◌∙◌}
-use Rattle.machine.specs.Laid.{start_kept}
-use Rattle.machine.proofs.TableLaws as tables
+use mathlib.Core.Path.{ap, ap₂, ◌∙◌}
+use mathlib.Core.List.{List, ◌++◌}
 use native.Mathlib.Omega.{arith}
+use lib.ListN.{length, drop}
+use Rattle.std.proofs.lemmas.List.{length-take}
+use Rattle.lists.proofs.TabLaws.{front_copy}
+use Rattle.image.specs.declared.Content.{Content}
+use Rattle.image.specs.Layout.{no_content, no_contents}
+use Rattle.machine.specs.Laid.{start_kept}
 use Rattle.machine.proofs.start.kept_of.Goals as goal
 
-pub loop-i-init : goal.loop-i-init
-loop-i-init c = (omega arith, c.no_contents-kept.ensures ∙ tables.kept_none c.args.g)
-
-pub loop-i-preserved : goal.loop-i-preserved
-loop-i-preserved c = (omega arith, rw c.loop-i.invariant.1 (tables.kept_next c.args.g c.loop-i.i (omega arith)))
-
 pub returns : goal.returns
+unfolding start_kept
 returns c =
-    let g = c.args.g in
-    let e : c.loop-i.i ≡ g.n = omega arith in
-    c.loop-i.invariant.1 ∙ ap (λ (k : ℕ). start_kept g k) e
+    let g = c.args.g.now in
+    let k = c.no_contents-kept.result in
+    let e = c.copy_from_slice.ensures in
+    ap₂ (λ (a b : List Content). a ++ drop g.n b) e.after c.no_contents-kept.ensures
+    ∙ front_copy g.nodes no_contents no_content g.n (omega (arith, length-take g.n g.nodes, length-take g.n k, ap length e.after, e.len))
