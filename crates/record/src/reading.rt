@@ -7,7 +7,7 @@ ghost use Rattle.record.specs.Layout.{record_size, read_node, read_kept, read_th
 
 use codec::{long_at, word_at};
 use image::{Content, no_contents, no_heads};
-use machine::blank::{blank_nodes, idle_threads, no_flushed, no_node_sets, no_sets};
+use machine::blank::{blank_nodes, idle_threads, no_flushed, no_sets};
 use machine::{Machine, Node, Thread};
 
 fn node_at(s: &[u8], at: usize) -> Node
@@ -160,7 +160,7 @@ fn node_sets_in(s: &[u8]) -> [u8; 64]
     requires { record_size ≤ length s.now }
     ensures { result ≡ front (set_in s.now 2203) 64 (no_sets 64) }
 {
-    let mut l = no_node_sets();
+    let mut l = no_sets();
     let mut i = 0;
     while i < 64 {
         l[i] = s[2203 + i];

@@ -8,7 +8,7 @@ use Rattle.record.specs.Layout.{set_in}
 use Rattle.record.proofs.reading.node_sets_in.Goals as goal
 
 pub loop-i-init : goal.loop-i-init
-loop-i-init c = (omega arith, c.no_node_sets-l.ensures ∙ tabs.front_none (set_in c.args.s.now 2203) (no_sets 64))
+loop-i-init c = (omega arith, c.no_sets-l.ensures ∙ tabs.front_none (set_in c.args.s.now 2203) (no_sets 64))
 
 pub loop-i-preserved : goal.loop-i-preserved
 unfolding set_in no_sets
