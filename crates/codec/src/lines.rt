@@ -29,11 +29,9 @@ pub fn heads_in(s: &[u8], z: Shape) -> [u64; 8]
     let form = z.form;
     let count = head_lines(z);
     let mut heads = image::no_heads();
-    let mut k = 0;
-    while k < count {
+    for k in 0..count {
         let at = line_place(form, k);
         heads[k] = index_in(s, form, at);
-        k += 1;
     }
     heads
 }
@@ -72,10 +70,8 @@ pub fn put_head(b: &mut [u8], z: Shape, heads: [u64; 8])
     let form = z.form;
     let count = head_lines(z);
     put_mark(b, z);
-    let mut k = 0;
-    while k < count {
+    for k in 0..count {
         let at = line_place(form, k);
         put_index(b, form, at, heads[k]);
-        k += 1;
     }
 }

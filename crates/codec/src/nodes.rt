@@ -29,12 +29,9 @@ pub fn nodes_in(s: &[u8], z: Shape) -> [Content; 64]
     let form = z.form;
     let n = z.n as usize;
     let mut nodes = image::no_contents();
-    let mut i = 0;
-    while i < n {
+    for i in 0..n {
         let at = place_of(z, i);
-        let v = content_at(s, form, at);
-        nodes[i] = v;
-        i += 1;
+        nodes[i] = content_at(s, form, at);
     }
     nodes
 }
@@ -56,11 +53,8 @@ pub fn put_nodes(b: &mut [u8], z: Shape, nodes: [Content; 64])
 {
     let form = z.form;
     let n = z.n as usize;
-    let mut i = 0;
-    while i < n {
-        let v = nodes[i];
+    for i in 0..n {
         let at = place_of(z, i);
-        put_content(b, form, at, v);
-        i += 1;
+        put_content(b, form, at, nodes[i]);
     }
 }

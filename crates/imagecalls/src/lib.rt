@@ -9,7 +9,7 @@ ghost use Rattle.converting.specs.Desks.{imported, exported};
 ghost use Rattle.calls.specs.Conversions.{widen_given, narrow_given, import_given, export_given};
 ghost use Rattle.calls.specs.Mend.{mend_given};
 
-use calls::packing::packed_of;
+use calls::packing::{packed_answer, packed_result};
 
 // An image of version 1 as one of version 2, into the buffer's first 14 + 13N bytes.
 pub fn widen(image: &[u8], buffer: &mut [u8]) -> u64
@@ -17,7 +17,7 @@ pub fn widen(image: &[u8], buffer: &mut [u8]) -> u64
     ensures bytes { buffer.new ≡ widened image.now buffer.old }
 {
     let wide = converting::widen(image, buffer);
-    packed_of(wide, 0)
+    packed_answer(wide)
 }
 
 // An image of version 2 as one of version 1, where head and every index fit, into the buffer's first 10 + 9N bytes.
@@ -26,7 +26,7 @@ pub fn narrow(image: &[u8], buffer: &mut [u8]) -> u64
     ensures bytes { buffer.new ≡ narrowed image.now buffer.old }
 {
     let slim = converting::narrow(image, buffer);
-    packed_of(slim, 0)
+    packed_answer(slim)
 }
 
 // An image with one head index per desk as one of version 1, its head the largest, into the buffer's first 10 + 9N bytes.
@@ -35,7 +35,7 @@ pub fn import_desks(image: &[u8], buffer: &mut [u8]) -> u64
     ensures bytes { buffer.new ≡ imported image.now buffer.old }
 {
     let one = converting::import_desks(image, buffer);
-    packed_of(one, 0)
+    packed_answer(one)
 }
 
 // An image of version 1 as one for so many desks, its head written for each, into the buffer's first 7 + 4T + 9N bytes.
@@ -44,7 +44,7 @@ pub fn export_desks(image: &[u8], threads: u8, buffer: &mut [u8]) -> u64
     ensures bytes { buffer.new ≡ exported image.now threads buffer.old }
 {
     let each = converting::export_desks(image, threads, buffer);
-    packed_of(each, 0)
+    packed_answer(each)
 }
 
 // The image, mended, into the buffer's front; node and reason of each changed node, in node order, into the list's. The value is how many were changed.
@@ -53,8 +53,6 @@ pub fn mend(image: &[u8], buffer: &mut [u8], list: &mut [u8]) -> u64
     ensures written { buffer.new ≡ mend_written image.now buffer.old list.old }
     ensures listed { list.new ≡ list_written image.now buffer.old list.old }
 {
-    let m = mending::mend_image(image, buffer, list);
-    let a = m.answer;
-    let count = m.count;
-    packed_of(a, count as u64)
+    let changed = mending::mend_image(image, buffer, list);
+    packed_result(changed.map(|n| n as u64))
 }

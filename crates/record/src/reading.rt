@@ -62,11 +62,8 @@ fn longs_in(s: &[u8], at: usize) -> [u64; 8]
     ensures { result ≡ front (long_in s.now at) 8 no_heads }
 {
     let mut l = no_heads();
-    let mut i = 0;
-    while i < 8 {
-        let x = long_at(s, at + i * 8);
-        l[i] = x;
-        i += 1;
+    for i in 0..8 {
+        l[i] = long_at(s, at + i * 8);
     }
     l
 }
@@ -76,11 +73,8 @@ fn nodes_in(s: &[u8]) -> [Node; 64]
     ensures { result ≡ front (node_in s.now) 64 blank_nodes }
 {
     let mut l = blank_nodes();
-    let mut i = 0;
-    while i < 64 {
-        let v = node_at(s, 146 + i * 28);
-        l[i] = v;
-        i += 1;
+    for i in 0..64 {
+        l[i] = node_at(s, 146 + i * 28);
     }
     l
 }
@@ -90,11 +84,8 @@ fn kept_in(s: &[u8]) -> [Content; 64]
     ensures { result ≡ front (kept_in s.now) 64 no_contents }
 {
     let mut l = no_contents();
-    let mut i = 0;
-    while i < 64 {
-        let v = kept_at(s, 146 + i * 28);
-        l[i] = v;
-        i += 1;
+    for i in 0..64 {
+        l[i] = kept_at(s, 146 + i * 28);
     }
     l
 }
@@ -104,11 +95,8 @@ fn threads_in(s: &[u8]) -> [Thread; 8]
     ensures { result ≡ front (thread_in s.now) 8 idle_threads }
 {
     let mut l = idle_threads();
-    let mut i = 0;
-    while i < 8 {
-        let v = thread_at(s, 1938 + i * 18);
-        l[i] = v;
-        i += 1;
+    for i in 0..8 {
+        l[i] = thread_at(s, 1938 + i * 18);
     }
     l
 }
@@ -132,39 +120,20 @@ fn flushed_in(s: &[u8]) -> [Content; 8]
     ensures { result ≡ front (flush_in s.now) 8 no_flushed }
 {
     let mut l = no_flushed();
-    let mut i = 0;
-    while i < 8 {
-        let v = flush_at(s, 2083 + i * 13);
-        l[i] = v;
-        i += 1;
+    for i in 0..8 {
+        l[i] = flush_at(s, 2083 + i * 13);
     }
     l
 }
 
-// The eight sets of threads from a place on, one for each thread or for each head line.
-fn sets_in(s: &[u8], at: usize) -> [u8; 8]
-    requires { (at ≤ 2195) × (record_size ≤ length s.now) }
-    ensures { result ≡ front (set_in s.now at) 8 (no_sets 8) }
+// The sets of threads from a place on: one for each thread, each head line or each node.
+fn sets_in<const N: usize>(s: &[u8], at: usize) -> [u8; N]
+    requires { (at + N ≤ record_size) × (record_size ≤ length s.now) }
+    ensures { result ≡ front (set_in s.now at) N (no_sets N) }
 {
     let mut l = no_sets();
-    let mut i = 0;
-    while i < 8 {
+    for i in 0..N {
         l[i] = s[at + i];
-        i += 1;
-    }
-    l
-}
-
-// One for each node.
-fn node_sets_in(s: &[u8]) -> [u8; 64]
-    requires { record_size ≤ length s.now }
-    ensures { result ≡ front (set_in s.now 2203) 64 (no_sets 64) }
-{
-    let mut l = no_sets();
-    let mut i = 0;
-    while i < 64 {
-        l[i] = s[2203 + i];
-        i += 1;
     }
     l
 }
@@ -182,7 +151,7 @@ pub fn record_in(s: &[u8]) -> Machine
     let flushed = flushed_in(s);
     let late = sets_in(s, 2187);
     let over_heads = sets_in(s, 2195);
-    let over = node_sets_in(s);
+    let over = sets_in(s, 2203);
     Machine {
         form: s[5],
         n: s[6],

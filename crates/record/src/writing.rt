@@ -11,11 +11,7 @@ fn copy(b: &mut [u8], at: usize, a: &[u8])
     requires { at + length a.now ≤ length b.old }
     ensures { b.new ≡ over b.old at a.now }
 {
-    let mut i = 0;
-    while i < a.len() {
-        b[at + i] = a[i];
-        i += 1;
-    }
+    b[at..at + a.len()].copy_from_slice(a);
 }
 
 fn node_bytes(v: Node, p: Content) -> [u8; 28]
@@ -123,11 +119,9 @@ fn put_longs(b: &mut [u8], at: usize, l: [u64; 8])
     requires { (at ≤ 82) × (record_size ≤ length b.old) }
     ensures { b.new ≡ over b.old at (joined (long_part l) 8) }
 {
-    let mut i = 0;
-    while i < 8 {
+    for i in 0..8 {
         let a = long_bytes(l[i]);
         copy(b, at + i * 8, &a);
-        i += 1;
     }
 }
 
@@ -135,11 +129,9 @@ fn put_nodes(b: &mut [u8], m: Machine)
     requires { record_size ≤ length b.old }
     ensures { b.new ≡ over b.old 146 (joined (node_part m) 64) }
 {
-    let mut i = 0;
-    while i < 64 {
+    for i in 0..64 {
         let a = node_bytes(m.nodes[i], m.kept[i]);
         copy(b, 146 + i * 28, &a);
-        i += 1;
     }
 }
 
@@ -147,11 +139,9 @@ fn put_threads(b: &mut [u8], m: Machine)
     requires { record_size ≤ length b.old }
     ensures { b.new ≡ over b.old 1938 (joined (thread_part m) 8) }
 {
-    let mut i = 0;
-    while i < 8 {
+    for i in 0..8 {
         let a = thread_bytes(m.threads[i]);
         copy(b, 1938 + i * 18, &a);
-        i += 1;
     }
 }
 
@@ -180,12 +170,10 @@ fn put_flushed(b: &mut [u8], l: [Content; 8])
     requires { record_size ≤ length b.old }
     ensures { b.new ≡ over b.old 2083 (joined (flush_part l) 8) }
 {
-    let mut i = 0;
-    while i < 8 {
+    for i in 0..8 {
         let c = l[i];
         let a = flush_bytes(c);
         copy(b, 2083 + i * 13, &a);
-        i += 1;
     }
 }
 

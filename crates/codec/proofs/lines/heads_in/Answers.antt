@@ -5,7 +5,7 @@ use native.Mathlib.Omega.{arith}
 use Rattle.codec.proofs.lines.heads_in.Goals as goal
 
 pub loop-k-init : goal.loop-k-init
-loop-k-init c = (omega arith, c.no_heads-heads.ensures ∙ laws.heads_none c.args.z.form c.args.s.now)
+loop-k-init c = c.no_heads-heads.ensures ∙ laws.heads_none c.args.z.form c.args.s.now
 
 pub line_place-at-requires : goal.line_place-at-requires
 line_place-at-requires c = (c.requires.0, omega (arith, c.head_lines-count.ensures, c.requires.1.0))
@@ -21,13 +21,10 @@ offset_bounds-heads-k c = omega (arith, c.head_lines-count.ensures, c.requires.1
 pub bounds-heads-k : goal.bounds-heads-k
 bounds-heads-k c = omega (arith, c.head_lines-count.ensures, c.requires.1.0)
 
-pub overflow_add-k : goal.overflow_add-k
-overflow_add-k c = omega (arith, c.head_lines-count.ensures, c.requires.1.0)
-
 pub loop-k-preserved : goal.loop-k-preserved
-loop-k-preserved c = (omega arith, rw (c.index_in.ensures, c.line_place-at.ensures, c.loop-k.invariant.1) (laws.heads_next c.args.z.form c.args.s.now c.loop-k.k (omega (arith, c.head_lines-count.ensures, c.requires.1.0))))
+loop-k-preserved c = rw (c.index_in.ensures, c.line_place-at.ensures, c.loop-k.invariant) (laws.heads_next c.args.z.form c.args.s.now c.loop-k.k (omega (arith, c.head_lines-count.ensures, c.requires.1.0)))
 
 pub returns : goal.returns
 returns c =
     let e : c.loop-k.k ≡ c.head_lines-count.result = omega arith in
-    c.loop-k.invariant.1 ∙ ap (laws.heads_to c.args.z.form c.args.s.now) (e ∙ c.head_lines-count.ensures) ∙ laws.heads_all c.args.z c.args.s.now
+    c.loop-k.invariant ∙ ap (laws.heads_to c.args.z.form c.args.s.now) (e ∙ c.head_lines-count.ensures) ∙ laws.heads_all c.args.z c.args.s.now

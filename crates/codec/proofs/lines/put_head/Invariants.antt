@@ -1,5 +1,4 @@
 use mathlib.Core.Path.{◌≡◌}
-use Prim.Native.Nat.{◌-◌, ◌≤◌}
 use lib.ListN.{get_or}
 use Rattle.lists.specs.Tab.{over}
 use Rattle.image.specs.Form.{heads_at}
@@ -7,7 +6,4 @@ use Rattle.codec.proofs.Laws as laws
 use Rattle.codec.proofs.lines.put_head.Given as goal
 
 abbrev pub invariant-loop-k : goal.invariant-loop-k
-invariant-loop-k l = (l.k ≤ l.count) × (l.b ≡ over l.initial.b (heads_at l.form) (laws.lines_to l.form (λ j. get_or l.heads j 0) l.k))
-
-abbrev pub decreases-loop-k : goal.decreases-loop-k
-decreases-loop-k l = l.count - l.k
+invariant-loop-k l = l.b ≡ over l.initial.b (heads_at l.form) (laws.lines_to l.form (λ j. get_or l.heads j 0) l.k)

@@ -1,4 +1,3 @@
-use Prim.Native.Nat.{◌≤◌, ◌-◌}
 use mathlib.Core.Path.{◌≡◌}
 use Rattle.lists.specs.Tab.{front}
 use Rattle.machine.specs.Record.{no_flushed}
@@ -6,7 +5,4 @@ use Rattle.record.specs.Layout.{flush_in}
 use Rattle.record.proofs.reading.flushed_in.Given as goal
 
 abbrev pub invariant-loop-i : goal.invariant-loop-i
-invariant-loop-i l = (l.i ≤ 8) × (l.l ≡ front (flush_in l.s) l.i no_flushed)
-
-abbrev pub decreases-loop-i : goal.decreases-loop-i
-decreases-loop-i l = 8 - l.i
+invariant-loop-i l = l.l ≡ front (flush_in l.s) l.i no_flushed

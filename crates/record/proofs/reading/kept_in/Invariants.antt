@@ -1,4 +1,3 @@
-use Prim.Native.Nat.{◌≤◌, ◌-◌}
 use mathlib.Core.Path.{◌≡◌}
 use Rattle.lists.specs.Tab.{front}
 use Rattle.image.specs.Layout.{no_contents}
@@ -6,7 +5,4 @@ use Rattle.record.specs.Layout.{kept_in}
 use Rattle.record.proofs.reading.kept_in.Given as goal
 
 abbrev pub invariant-loop-i : goal.invariant-loop-i
-invariant-loop-i l = (l.i ≤ 64) × (l.l ≡ front (kept_in l.s) l.i no_contents)
-
-abbrev pub decreases-loop-i : goal.decreases-loop-i
-decreases-loop-i l = 64 - l.i
+invariant-loop-i l = l.l ≡ front (kept_in l.s) l.i no_contents

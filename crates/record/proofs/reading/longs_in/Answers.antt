@@ -6,13 +6,13 @@ use Rattle.record.specs.Layout.{long_in}
 use Rattle.record.proofs.reading.longs_in.Goals as goal
 
 pub loop-i-init : goal.loop-i-init
-loop-i-init c = (omega arith, c.no_heads-l.ensures ∙ tabs.front_none (long_in c.args.s.now c.args.at) no_heads)
+loop-i-init c = c.no_heads-l.ensures ∙ tabs.front_none (long_in c.args.s.now c.args.at) no_heads
 
 pub loop-i-preserved : goal.loop-i-preserved
 unfolding long_in no_heads
-loop-i-preserved c = (omega arith, rw (c.long_at-x.ensures, c.loop-i.invariant.1) (tabs.front_next (long_in c.args.s.now c.args.at) c.loop-i.i no_heads (omega arith)))
+loop-i-preserved c = rw (c.long_at.ensures, c.loop-i.invariant) (tabs.front_next (long_in c.args.s.now c.args.at) c.loop-i.i no_heads (omega arith))
 
 pub returns : goal.returns
 returns c =
     let e : c.loop-i.i ≡ 8 = omega arith in
-    rw (← e) c.loop-i.invariant.1
+    rw (← e) c.loop-i.invariant

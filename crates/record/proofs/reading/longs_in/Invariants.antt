@@ -1,4 +1,3 @@
-use Prim.Native.Nat.{◌≤◌, ◌-◌}
 use mathlib.Core.Path.{◌≡◌}
 use Rattle.lists.specs.Tab.{front}
 use Rattle.image.specs.Layout.{no_heads}
@@ -6,7 +5,4 @@ use Rattle.record.specs.Layout.{long_in}
 use Rattle.record.proofs.reading.longs_in.Given as goal
 
 abbrev pub invariant-loop-i : goal.invariant-loop-i
-invariant-loop-i l = (l.i ≤ 8) × (l.l ≡ front (long_in l.s l.at) l.i no_heads)
-
-abbrev pub decreases-loop-i : goal.decreases-loop-i
-decreases-loop-i l = 8 - l.i
+invariant-loop-i l = l.l ≡ front (long_in l.s l.at) l.i no_heads

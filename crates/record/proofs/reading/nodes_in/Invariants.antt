@@ -1,4 +1,3 @@
-use Prim.Native.Nat.{◌≤◌, ◌-◌}
 use mathlib.Core.Path.{◌≡◌}
 use Rattle.lists.specs.Tab.{front}
 use Rattle.machine.specs.Record.{blank_nodes}
@@ -6,7 +5,4 @@ use Rattle.record.specs.Layout.{node_in}
 use Rattle.record.proofs.reading.nodes_in.Given as goal
 
 abbrev pub invariant-loop-i : goal.invariant-loop-i
-invariant-loop-i l = (l.i ≤ 64) × (l.l ≡ front (node_in l.s) l.i blank_nodes)
-
-abbrev pub decreases-loop-i : goal.decreases-loop-i
-decreases-loop-i l = 64 - l.i
+invariant-loop-i l = l.l ≡ front (node_in l.s) l.i blank_nodes

@@ -1,4 +1,3 @@
-use Prim.Native.Nat.{◌≤◌, ◌-◌}
 use mathlib.Core.Path.{◌≡◌}
 use Rattle.lists.specs.Tab.{front}
 use Rattle.machine.specs.Record.{no_sets}
@@ -6,7 +5,4 @@ use Rattle.record.specs.Layout.{set_in}
 use Rattle.record.proofs.reading.sets_in.Given as goal
 
 abbrev pub invariant-loop-i : goal.invariant-loop-i
-invariant-loop-i l = (l.i ≤ 8) × (l.l ≡ front (set_in l.s l.at) l.i (no_sets 8))
-
-abbrev pub decreases-loop-i : goal.decreases-loop-i
-decreases-loop-i l = 8 - l.i
+invariant-loop-i l = l.l ≡ front (set_in l.s l.at) l.i (no_sets 8)

@@ -1,4 +1,3 @@
-use Prim.Native.Nat.{◌≤◌, ◌-◌}
 use mathlib.Core.Path.{◌≡◌}
 use Rattle.lists.specs.Tab.{front}
 use Rattle.machine.specs.Record.{idle_threads}
@@ -6,7 +5,4 @@ use Rattle.record.specs.Layout.{thread_in}
 use Rattle.record.proofs.reading.threads_in.Given as goal
 
 abbrev pub invariant-loop-i : goal.invariant-loop-i
-invariant-loop-i l = (l.i ≤ 8) × (l.l ≡ front (thread_in l.s) l.i idle_threads)
-
-abbrev pub decreases-loop-i : goal.decreases-loop-i
-decreases-loop-i l = 8 - l.i
+invariant-loop-i l = l.l ≡ front (thread_in l.s) l.i idle_threads

@@ -1,11 +1,7 @@
-use Prim.Native.Nat.{◌≤◌, ◌-◌}
 use mathlib.Core.Path.{◌≡◌}
 use Rattle.lists.specs.Tab.{over, joined}
 use Rattle.record.specs.Layout.{long_part}
 use Rattle.record.proofs.writing.put_longs.Given as goal
 
 abbrev pub invariant-loop-i : goal.invariant-loop-i
-invariant-loop-i l = (l.i ≤ 8) × (l.b ≡ over l.initial.b l.at (joined (long_part l.l) l.i))
-
-abbrev pub decreases-loop-i : goal.decreases-loop-i
-decreases-loop-i l = 8 - l.i
+invariant-loop-i l = l.b ≡ over l.initial.b l.at (joined (long_part l.l) l.i)

@@ -1,11 +1,7 @@
-use Prim.Native.Nat.{◌≤◌, ◌-◌}
 use mathlib.Core.Path.{◌≡◌}
 use Rattle.lists.specs.Tab.{over, joined}
 use Rattle.record.specs.Layout.{thread_part}
 use Rattle.record.proofs.writing.put_threads.Given as goal
 
 abbrev pub invariant-loop-i : goal.invariant-loop-i
-invariant-loop-i l = (l.i ≤ 8) × (l.b ≡ over l.initial.b 1938 (joined (thread_part l.m) l.i))
-
-abbrev pub decreases-loop-i : goal.decreases-loop-i
-decreases-loop-i l = 8 - l.i
+invariant-loop-i l = l.b ≡ over l.initial.b 1938 (joined (thread_part l.m) l.i)
