@@ -1,10 +1,10 @@
 -- What reading words gives, by what the lines of the text say.
 use Prim.Native.Nat.{ℕ, suc, ◌+◌, ◌≤◌, ◌<◌}
 use mathlib.Core.Path.{◌≡◌, refl, sym, ap, ◌∙◌}
-use mathlib.Core.Bool.{Bool, true, false, not}
+use mathlib.Core.Bool.{Bool, true, false}
 use mathlib.Core.List.{List, [], ◌∷◌}
 use native.Mathlib.Omega.{arith}
-use borrow.Author.Tests.{leb-true, ne_eqb, lt-ltb, le-ltb}
+use borrow.Author.Tests.{leb-true, lt-ltb, le-ltb}
 use lib.ListN.{length}
 use lib.Dec.{eqb, ltb, leb}
 use Rattle.lists.specs.Find.{pick}
@@ -12,11 +12,12 @@ use Rattle.lists.specs.Tab.{over}
 use Rattle.image.specs.Form.{known, per_desk, top_of, head_lines}
 use Rattle.spelling.specs.declared.Act.{Act}
 use Rattle.spelling.specs.declared.Survey.{Survey}
-use Rattle.spelling.specs.declared.Said.{Said}
-use Rattle.spelling.specs.declared.Said.TheVariants.{Taken, Strange, Large, Many, Room}
+use Rattle.std.specs.Prelude.{Option, Some, None, is_some, Result, Ok, Err}
+use Rattle.spelling.specs.declared.Misread.{Misread}
+use Rattle.spelling.specs.declared.Misread.TheVariants as why
 use Rattle.spelling.specs.Lines.{acts_of}
 use Rattle.spelling.specs.Layout.{said_shape, size_of, events_place}
-use Rattle.spelling.specs.Reading.{no_survey, faulted, with_nodes, with_threads, with_index, with_form, with_desks, with_events, version_form, head_named, index_said, nodes_said, version_said, desks_said, threads_said, heads_said, events_said, behind_nodes, surveyed, survey_from, survey_of, last_from, blank_file, put_all, file_of, tells, is_taken, read_answer, read_bytes, read_written}
+use Rattle.spelling.specs.Reading.{no_survey, faulted, with_nodes, with_threads, with_index, with_form, with_desks, with_events, version_form, head_named, index_said, nodes_said, version_said, desks_said, threads_said, heads_said, events_said, behind_nodes, surveyed, survey_from, survey_of, last_from, blank_file, put_all, file_of, Taken, Strange, Room, is_taken, read_answer, read_bytes, spelt, read_written}
 use Rattle.wordreader.proofs.PutLaws as puts
 
 -- ---- the form stays one that is known, and the event count within its bound
@@ -30,58 +31,58 @@ either false x y p q = q
 
 nodes_within : (i : ℕ) (v : Survey) (x : ℕ) → Within v → Within (nodes_said i v x)
 unfolding nodes_said
-nodes_within i v x w = either v.begun (faulted v 1 i) _ w (either (ltb 255 x) (faulted v 2 i) (with_nodes v x) w w)
+nodes_within i v x w = either v.begun (faulted v (why.Strange i)) _ w (either (ltb 255 x) (faulted v (why.Large i)) (with_nodes v x) w w)
 
 events_within : (i : ℕ) (v : Survey) (x : ℕ) → Within v → Within (events_said i v x)
 unfolding events_said
 events_within i v x w = by (leb (v.count + x) 65535) refl
   where
-    by : (b : Bool) → leb (v.count + x) 65535 ≡ b → Within (pick b (with_events v x) (faulted v 3 i))
+    by : (b : Bool) → leb (v.count + x) 65535 ≡ b → Within (pick b (with_events v x) (faulted v (why.Many i)))
     by true e = (w.0, leb-true (v.count + x) 65535 e)
     by false e = w
 
 -- a version that words may say names a form that is known, and `desks` does
 version_within : (i : ℕ) (v : Survey) (x : ℕ) → Within v → Within (version_said i v x)
 unfolding version_said version_form known
-version_within i v x w = either v.settled (faulted v 1 i) _ w (by (eqb x 1) (eqb x 2))
+version_within i v x w = either v.settled (faulted v (why.Strange i)) _ w (by (eqb x 1) (eqb x 2))
   where
-    by : (a b : Bool) → Within (pick (eqb (pick a 1 (pick b 2 0)) 0) (faulted v 1 i) (with_form v (pick a 1 (pick b 2 0))))
+    by : (a b : Bool) → Within (elim (pick {A = Option ℕ} a (Some 1) (pick {A = Option ℕ} b (Some 2) None)) as (λ _. Survey) [ Some f ↦ with_form v f | None ↦ faulted v (why.Strange i) ])
     by true b = (refl, w.1)
     by false true = (refl, w.1)
     by false false = w
 
 desks_within : (i : ℕ) (v : Survey) (x : ℕ) → Within v → Within (desks_said i v x)
 unfolding desks_said known
-desks_within i v x w = either v.settled (faulted v 1 i) (with_desks v x) w (refl, w.1)
+desks_within i v x w = either v.settled (faulted v (why.Strange i)) (with_desks v x) w (refl, w.1)
 
 threads_within : (i : ℕ) (v : Survey) (x : ℕ) → Within v → Within (threads_said i v x)
 unfolding threads_said
-threads_within i v x w = either (per_desk v.form) (faulted v 1 i) (with_threads v x) w w
+threads_within i v x w = either (per_desk v.form) (faulted v (why.Strange i)) (with_threads v x) w w
 
 heads_within : (i : ℕ) (v : Survey) (a : Act) → Within v → Within (heads_said i v a)
 unfolding heads_said
 heads_within i v a w =
-    either (eqb a.c (head_named v.form)) _ (faulted v 1 i) (either (ltb a.a (head_lines (said_shape v))) (with_index v) (faulted v 2 i) w w) w
+    either (eqb a.c (head_named v.form)) _ (faulted v (why.Strange i)) (either (ltb a.a (head_lines (said_shape v))) (with_index v) (faulted v (why.Large i)) w w) w
 
 behind_within : (i : ℕ) (v : Survey) (a : Act) → Within v → Within (behind_nodes i v a)
 unfolding behind_nodes
 behind_within i v a w =
     either (eqb a.tag 2) _ _ (threads_within i v a.a w)
     (either (eqb a.tag 3) _ _ (heads_within i v a w)
-    (either (eqb a.tag 4) _ _ (either (ltb a.a v.n) (with_index v) (faulted v 2 i) w w)
+    (either (eqb a.tag 4) _ _ (either (ltb a.a v.n) (with_index v) (faulted v (why.Large i)) w w)
     (either (eqb a.tag 5) _ _ (events_within i v a.d w)
     (either (eqb a.tag 6) _ _ (version_within i v a.a w)
-    (either (eqb a.tag 7) _ (faulted v 1 i) (desks_within i v a.a w) w)))))
+    (either (eqb a.tag 7) _ (faulted v (why.Strange i)) (desks_within i v a.a w) w)))))
 
 surveyed_within : (i : ℕ) (v : Survey) (a : Act) → Within v → Within (surveyed i v a)
 unfolding surveyed
 surveyed_within i v a w =
-    either (not (eqb v.fault 0)) v _ w
+    either (is_some v.fault) v _ w
     (either (eqb a.tag 0) v _ w
-    (either (eqb a.tag 9) (faulted v 2 i) _ w
-    (either (ltb (top_of v.form) (index_said a)) (faulted v 2 i) _ w
+    (either (eqb a.tag 9) (faulted v (why.Large i)) _ w
+    (either (ltb (top_of v.form) (index_said a)) (faulted v (why.Large i)) _ w
     (either (eqb a.tag 1) _ _ (nodes_within i v a.a w)
-    (either v.begun _ (faulted v 1 i) (behind_within i v a w) w)))))
+    (either v.begun _ (faulted v (why.Strange i)) (behind_within i v a w) w)))))
 
 from_within : (i : ℕ) (v : Survey) (l : List Act) → Within v → Within (survey_from i v l)
 unfolding survey_from
@@ -92,30 +93,33 @@ pub survey_within : (t : List ℕ) → Within (survey_of t)
 unfolding survey_of known
 survey_within t = from_within 0 no_survey (acts_of t) (refl, omega arith)
 
+pub known_count : (t : List ℕ) (v : Survey) → v ≡ survey_of t → (known v.form ≡ true) × (v.count ≤ 65535)
+known_count t v e =
+    let w = survey_within t in
+    (ap (λ (z : Survey). known z.form) e ∙ w.0, omega (arith, ap (λ (z : Survey). z.count) e, w.1))
+
 -- ---- the answer
 
+pub refused : (e : Misread) → is_taken (Err e) ≡ false
+refused (why.Strange i) = refl
+refused (why.Large i) = refl
+refused (why.Many i) = refl
+refused why.Room = refl
+
 module _ (t : List ℕ) (room : ℕ) where
-  pub strange : (survey_of t).fault ≡ 1 → read_answer t room ≡ Strange (survey_of t).line
+  pub faulty : (e : Misread) → (survey_of t).fault ≡ Some e → read_answer t room ≡ Err e
   unfolding read_answer
-  strange h = rw h
+  faulty e h = rw h
 
-  pub large : (survey_of t).fault ≡ 2 → read_answer t room ≡ Large (survey_of t).line
-  unfolding read_answer
-  large h = rw h
-
-  pub many : ((survey_of t).fault ≡ 0 → ⊥) → ((survey_of t).fault ≡ 1 → ⊥) → ((survey_of t).fault ≡ 2 → ⊥) → read_answer t room ≡ Many (survey_of t).line
-  unfolding read_answer
-  many a b c = rw (ne_eqb (survey_of t).fault 0 a, ne_eqb (survey_of t).fault 1 b, ne_eqb (survey_of t).fault 2 c)
-
-  pub unbegun : (survey_of t).fault ≡ 0 → (survey_of t).begun ≡ false → read_answer t room ≡ Strange (last_from 0 (acts_of t))
+  pub unbegun : (survey_of t).fault ≡ None → (survey_of t).begun ≡ false → read_answer t room ≡ Strange (last_from 0 (acts_of t))
   unfolding read_answer
   unbegun h b = rw (h, b)
 
-  pub no_room : (survey_of t).fault ≡ 0 → (survey_of t).begun ≡ true → room < size_of (survey_of t) → read_answer t room ≡ Room
+  pub no_room : (survey_of t).fault ≡ None → (survey_of t).begun ≡ true → room < size_of (survey_of t) → read_answer t room ≡ Room
   unfolding read_answer
   no_room h b l = rw (h, b, lt-ltb room (size_of (survey_of t)) l)
 
-  pub fits : (survey_of t).fault ≡ 0 → (survey_of t).begun ≡ true → size_of (survey_of t) ≤ room → read_answer t room ≡ Taken
+  pub fits : (survey_of t).fault ≡ None → (survey_of t).begun ≡ true → size_of (survey_of t) ≤ room → read_answer t room ≡ Taken
   unfolding read_answer
   fits h b l = rw (h, b, le-ltb room (size_of (survey_of t)) l)
 
@@ -142,27 +146,18 @@ unfolding file_of
 file_of_lem t v e = ap (λ (v : Survey). put_all (said_shape v) (size_of v) (blank_file v) (events_place v) (acts_of t)) e
 
 module _ (t b : List ℕ) where
-  abbrev pub Gives : Said → ℕ → List ℕ → Type 0
-  Gives a n m = (tells a ≡ tells (read_answer t (length b))) × ((n ≡ read_bytes t (length b)) × (m ≡ read_written t b))
+  abbrev pub Gives : Result ℕ Misread → List ℕ → Type 0
+  Gives r m = (r ≡ spelt (read_answer t (length b)) (read_bytes t (length b))) × (m ≡ read_written t b)
 
-  pub gives_none : (a : Said) → read_answer t (length b) ≡ a → is_taken a ≡ false → Gives a 0 b
-  gives_none a e f = (ap tells (sym e), (none_bytes (ap is_taken e ∙ f), none_written (ap is_taken e ∙ f)))
-    where
-      none_bytes : is_taken (read_answer t (length b)) ≡ false → 0 ≡ read_bytes t (length b)
-      none_bytes h = sym (bytes_none t (length b) h)
-
-      none_written : is_taken (read_answer t (length b)) ≡ false → b ≡ read_written t b
-      none_written h = sym (written_none t b h)
+  pub gives_none : (e : Misread) → read_answer t (length b) ≡ Err e → Gives (Err e) b
+  gives_none e h = (ap (λ a. spelt a (read_bytes t (length b))) (sym h), sym (written_none t b (ap is_taken h ∙ refused e)))
 
   pub gives_some : (v : Survey) (m x : List ℕ) → v ≡ survey_of t → known v.form ≡ true → read_answer t (length b) ≡ Taken → size_of v ≤ length b
-      → x ≡ over b 0 (blank_file v) → m ≡ put_all (said_shape v) (size_of v) x (events_place v) (acts_of t) → Gives Taken (size_of v) m
+      → x ≡ over b 0 (blank_file v) → m ≡ put_all (said_shape v) (size_of v) x (events_place v) (acts_of t) → Gives (Ok (size_of v)) m
   gives_some v m x e f h l p q = (
-    ap tells (sym h),
-    (
-      ap size_of e ∙ sym (bytes_some t (length b) (ap is_taken h)),
-      q ∙ ap (λ y. put_all (said_shape v) (size_of v) y (events_place v) (acts_of t)) p
-          ∙ puts.all_front b (said_shape v) (size_of v) f (omega arith) l (blank_file v) (events_place v) (acts_of t) (puts.length_blank v f)
-          ∙ ap (over b 0) (file_of_lem t v e)
-          ∙ sym (written_some t b (ap is_taken h)),
-    ),
+    ap Ok (ap size_of e ∙ sym (bytes_some t (length b) (ap is_taken h))) ∙ ap (λ a. spelt a (read_bytes t (length b))) (sym h),
+    q ∙ ap (λ y. put_all (said_shape v) (size_of v) y (events_place v) (acts_of t)) p
+        ∙ puts.all_front b (said_shape v) (size_of v) f (omega arith) l (blank_file v) (events_place v) (acts_of t) (puts.length_blank v f)
+        ∙ ap (over b 0) (file_of_lem t v e)
+        ∙ sym (written_some t b (ap is_taken h)),
   )

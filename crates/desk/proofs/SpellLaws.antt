@@ -8,18 +8,17 @@ use native.Mathlib.Decide.{dec_lt}
 use borrow.Author.Tests.{lt-ltb, le-ltb}
 use lib.ListN.{length}
 use Rattle.lists.specs.Tab.{over}
-use Rattle.answer.specs.Answers.{told, accepted, Answer, Taken, NoEnding, Room}
+use Rattle.std.specs.Prelude.{Result, Ok, Err}
+use Rattle.answer.specs.declared.Refusal.{Refusal}
+use Rattle.answer.specs.Answers.{accepted, given, Answer, Taken, NoEnding, Room}
+use Rattle.answer.proofs.Results.{came_back}
+use Rattle.spelling.specs.declared.Spelled.{Spelled}
 use Rattle.schedule.specs.Layout.{schedule_answer}
 use Rattle.page.specs.Filled.{lines_on, fitting}
 use Rattle.printing.proofs.Fittings as fits
 use Rattle.spelling.specs.Writing.{entry_of, entries_in, spell_answer, spell_taken, spell_bytes, spell_written}
 
 module _ (s : List ℕ) (k : ℕ) (b : List ℕ) where
-  abbrev pub Gives : Answer → ℕ → ℕ → List ℕ → Type 0
-  Gives a n c m =
-      (told a ≡ told (spell_answer s k (length b)))
-      × ((n ≡ spell_taken s k (length b)) × ((c ≡ length (spell_bytes s k (length b))) × (m ≡ spell_written s k b)))
-
   -- ---- the answer
 
   pub refused : accepted (schedule_answer s) ≡ false → spell_answer s k (length b) ≡ schedule_answer s
@@ -61,18 +60,29 @@ module _ (s : List ℕ) (k : ℕ) (b : List ℕ) where
   unfolding over
   nothing = refl
 
-  pub gives_none : (a : Answer) (m : List ℕ) → spell_answer s k (length b) ≡ a → accepted a ≡ false → m ≡ b → Gives a 0 0 m
-  gives_none a m e f g =
-      let t = sym (taken_none (ap accepted e ∙ f)) in
-      let l = sym (fits.on_none (entry_of s) k) ∙ bytes_of 0 t in
-      (ap told (sym e), (t, (ap length l, g ∙ nothing ∙ written_of [] l)))
+  -- a refusal writes nothing
+  pub unwritten : accepted (spell_answer s k (length b)) ≡ false → spell_written s k b ≡ b
+  unwritten h =
+      let l = sym (fits.on_none (entry_of s) k) ∙ bytes_of 0 (sym (taken_none h)) in
+      sym (written_of [] l) ∙ sym nothing
+
+  abbrev pub all_of : Spelled
+  all_of = record { entries = spell_taken s k (length b); bytes = length (spell_bytes s k (length b)) }
+
+  abbrev pub Gives : Result Spelled Refusal → List ℕ → Type 0
+  Gives r m = (r ≡ given (spell_answer s k (length b)) all_of) × (m ≡ spell_written s k b)
+
+  pub gives_none : (e : Refusal) (m : List ℕ) → spell_answer s k (length b) ≡ Err e → m ≡ b → Gives (Err e) m
+  gives_none e m h g = (ap (λ (a : Answer). given a all_of) (sym h), g ∙ sym (unwritten (came_back refl h)))
 
   pub gives_some : (n c : ℕ) (m : List ℕ) → spell_answer s k (length b) ≡ Taken → n ≡ fitting (entry_of s) k (entries_in s - k) (length b)
-      → c ≡ length (lines_on (entry_of s) k n) → m ≡ over b 0 (lines_on (entry_of s) k n) → Gives Taken n c m
+      → c ≡ length (lines_on (entry_of s) k n) → m ≡ over b 0 (lines_on (entry_of s) k n) → Gives (Ok (record { entries = n; bytes = c })) m
   gives_some n c m e p q r =
       let t = p ∙ sym (taken_some (ap accepted e)) in
       let l = bytes_of n t in
-      (ap told (sym e), (t, (q ∙ ap length l, r ∙ written_of (lines_on (entry_of s) k n) l)))
+      let f = q ∙ ap length l in
+      let both : ◌≡◌ {A = Spelled} (record { entries = n; bytes = c }) all_of = (λ i. record { entries = t i; bytes = f i }) in
+      (ap Ok both ∙ ap (λ (a : Answer). given a all_of) (sym e), r ∙ written_of (lines_on (entry_of s) k n) l)
 
   -- ---- whether entry k fits
 
@@ -92,9 +102,3 @@ module _ (s : List ℕ) (k : ℕ) (b : List ℕ) where
 
   pub none_of : (n : ℕ) (m : List ℕ) → n ≡ 0 → m ≡ over b 0 (lines_on (entry_of s) k n) → m ≡ b
   none_of n m e f = f ∙ ap (λ z. over b 0 (lines_on (entry_of s) k z)) e ∙ ap (over b 0) (fits.on_none (entry_of s) k) ∙ sym nothing
-
-  -- a refusal writes nothing
-  pub unwritten : accepted (spell_answer s k (length b)) ≡ false → spell_written s k b ≡ b
-  unwritten h =
-      let l = sym (fits.on_none (entry_of s) k) ∙ bytes_of 0 (sym (taken_none h)) in
-      sym (written_of [] l) ∙ sym nothing

@@ -2,77 +2,81 @@
 -- buffer. A refused call leaves the buffer as it was.
 use Prim.Native.Nat.{ℕ}
 use mathlib.Core.Path.{◌≡◌, refl, sym, ap, ◌∙◌}
-use mathlib.Core.Bool.{false}
+use mathlib.Core.Bool.{true, false}
 use native.Mathlib.Omega.{arith}
 use mathlib.Core.List.{List}
 use contract.Lifetimes.{Lfts}
 use denote.Ref.{Bor}
 use denote.MutBor.{MutBor}
 use lib.ListN.{length}
-use Rattle.answer.specs.Answers.{accepted}
-use Rattle.answer.proofs.Injective.{told_injective}
+use Rattle.lists.proofs.BoolLaws.{no_way}
+use Rattle.answer.specs.declared.Refusal.{Refusal}
+use Rattle.answer.specs.Answers.{Answer, accepted, given}
+use Rattle.answer.proofs.Results.{came_back}
 use Rattle.spelling.specs.declared.Spelled.{Spelled}
 use Rattle.spelling.specs.Writing.{spell_answer}
 use Rattle.desk.proofs.spell_lines.Reads as spell
 use Rattle.desk.proofs.SpellLaws as spells
-use Rattle.spelling.specs.declared.Said.{Said}
-use Rattle.spelling.specs.declared.Said.TheVariants.{Taken, Strange, Large, Many, Room}
-use Rattle.spelling.specs.declared.Spelt.{Spelt}
-use Rattle.spelling.specs.Reading.{Tells, tells, is_taken, read_answer}
+use Rattle.std.specs.Prelude.{Result, Ok, Err, is_ok}
+use Rattle.spelling.specs.declared.Misread.{Misread}
+use Rattle.spelling.specs.declared.Misread.TheVariants as why
+use Rattle.spelling.specs.Reading.{Said, Tells, tells_misread, tells, is_taken, read_answer, read_bytes, spelt}
 use Rattle.desk.proofs.read_words.Reads as read
 use Rattle.desk.proofs.ReadLaws as reads
 
-pub spell_one : (κs : Lfts 2) (s : Bor (List ℕ)) (k : ℕ) (b z z' : MutBor (List ℕ)) (r r' : Spelled)
-    → spell.Post κs (s, (k, (b, tt))) r (s, (k, (z, tt))) → spell.Post κs (s, (k, (b, tt))) r' (s, (k, (z', tt))) → (r ≡ r') × (z.now ≡ z'.now)
-spell_one κs s k b z z' r r' p q =
-    let a = told_injective r.answer r'.answer (p.0 ∙ sym q.0) in
-    let e = p.1.0 ∙ sym q.1.0 in
-    let n = p.1.1.0 ∙ sym q.1.1.0 in
-    ((λ i. record { answer = a i; entries = e i; bytes = n i }), p.1.1.1 ∙ sym q.1.1.1)
+refused_of : {A : Type 0} (a : Answer) (v : A) → is_ok (given a v) ≡ false → accepted a ≡ false
+refused_of (Ok r) v h = no_way h
+refused_of (Err e) v h = came_back refl refl
 
-pub spell_refused : (κs : Lfts 2) (s : Bor (List ℕ)) (k : ℕ) (b z : MutBor (List ℕ)) (r : Spelled)
-    → spell.Post κs (s, (k, (b, tt))) r (s, (k, (z, tt))) → accepted r.answer ≡ false → z.now ≡ b.now
+pub spell_one : (κs : Lfts 2) (s : Bor (List ℕ)) (k : ℕ) (b z z' : MutBor (List ℕ)) (r r' : Result Spelled Refusal)
+    → spell.Post κs (s, (k, (b, tt))) r (s, (k, (z, tt))) → spell.Post κs (s, (k, (b, tt))) r' (s, (k, (z', tt))) → (r ≡ r') × (z.now ≡ z'.now)
+spell_one κs s k b z z' r r' p q = (p.0 ∙ sym q.0, p.1 ∙ sym q.1)
+
+pub spell_refused : (κs : Lfts 2) (s : Bor (List ℕ)) (k : ℕ) (b z : MutBor (List ℕ)) (r : Result Spelled Refusal)
+    → spell.Post κs (s, (k, (b, tt))) r (s, (k, (z, tt))) → is_ok r ≡ false → z.now ≡ b.now
 spell_refused κs s k b z r p h =
-    let e = told_injective r.answer (spell_answer s.now k (length b.now)) p.0 in
-    p.1.1.1 ∙ spells.unwritten s.now k b.now (ap accepted (sym e) ∙ h)
+    p.1 ∙ spells.unwritten s.now k b.now (refused_of (spell_answer s.now k (length b.now)) (spells.all_of s.now k b.now) (ap is_ok (sym p.0) ∙ h))
+
+taken_refused : (x : Misread) → 0 ≡ (tells_misread x).number → ⊥
+taken_refused (why.Strange i) e = omega (arith, e)
+taken_refused (why.Large i) e = omega (arith, e)
+taken_refused (why.Many i) e = omega (arith, e)
+taken_refused why.Room e = omega (arith, e)
+
+same_misread : (a b : Misread) → tells_misread a ≡ tells_misread b → a ≡ b
+same_misread (why.Strange i) (why.Strange j) e = ap why.Strange (ap (λ (z : Tells). z.line) e)
+same_misread (why.Strange i) (why.Large j) e = let n = ap (λ (z : Tells). z.number) e in absurd (omega (arith, n))
+same_misread (why.Strange i) (why.Many j) e = let n = ap (λ (z : Tells). z.number) e in absurd (omega (arith, n))
+same_misread (why.Strange i) why.Room e = let n = ap (λ (z : Tells). z.number) e in absurd (omega (arith, n))
+same_misread (why.Large i) (why.Strange j) e = let n = ap (λ (z : Tells). z.number) e in absurd (omega (arith, n))
+same_misread (why.Large i) (why.Large j) e = ap why.Large (ap (λ (z : Tells). z.line) e)
+same_misread (why.Large i) (why.Many j) e = let n = ap (λ (z : Tells). z.number) e in absurd (omega (arith, n))
+same_misread (why.Large i) why.Room e = let n = ap (λ (z : Tells). z.number) e in absurd (omega (arith, n))
+same_misread (why.Many i) (why.Strange j) e = let n = ap (λ (z : Tells). z.number) e in absurd (omega (arith, n))
+same_misread (why.Many i) (why.Large j) e = let n = ap (λ (z : Tells). z.number) e in absurd (omega (arith, n))
+same_misread (why.Many i) (why.Many j) e = ap why.Many (ap (λ (z : Tells). z.line) e)
+same_misread (why.Many i) why.Room e = let n = ap (λ (z : Tells). z.number) e in absurd (omega (arith, n))
+same_misread why.Room (why.Strange j) e = let n = ap (λ (z : Tells). z.number) e in absurd (omega (arith, n))
+same_misread why.Room (why.Large j) e = let n = ap (λ (z : Tells). z.number) e in absurd (omega (arith, n))
+same_misread why.Room (why.Many j) e = let n = ap (λ (z : Tells). z.number) e in absurd (omega (arith, n))
+same_misread why.Room why.Room e = refl
 
 -- an answer's number and line say which it is
 pub says_injective : (a b : Said) → tells a ≡ tells b → a ≡ b
-says_injective Taken Taken e = refl
-says_injective Taken (Strange j) e = let n = ap (λ (z : Tells). z.number) e in absurd (omega (arith, n))
-says_injective Taken (Large j) e = let n = ap (λ (z : Tells). z.number) e in absurd (omega (arith, n))
-says_injective Taken (Many j) e = let n = ap (λ (z : Tells). z.number) e in absurd (omega (arith, n))
-says_injective Taken Room e = let n = ap (λ (z : Tells). z.number) e in absurd (omega (arith, n))
-says_injective (Strange i) Taken e = let n = ap (λ (z : Tells). z.number) e in absurd (omega (arith, n))
-says_injective (Strange i) (Strange j) e = ap Strange (ap (λ (z : Tells). z.line) e)
-says_injective (Strange i) (Large j) e = let n = ap (λ (z : Tells). z.number) e in absurd (omega (arith, n))
-says_injective (Strange i) (Many j) e = let n = ap (λ (z : Tells). z.number) e in absurd (omega (arith, n))
-says_injective (Strange i) Room e = let n = ap (λ (z : Tells). z.number) e in absurd (omega (arith, n))
-says_injective (Large i) Taken e = let n = ap (λ (z : Tells). z.number) e in absurd (omega (arith, n))
-says_injective (Large i) (Strange j) e = let n = ap (λ (z : Tells). z.number) e in absurd (omega (arith, n))
-says_injective (Large i) (Large j) e = ap Large (ap (λ (z : Tells). z.line) e)
-says_injective (Large i) (Many j) e = let n = ap (λ (z : Tells). z.number) e in absurd (omega (arith, n))
-says_injective (Large i) Room e = let n = ap (λ (z : Tells). z.number) e in absurd (omega (arith, n))
-says_injective (Many i) Taken e = let n = ap (λ (z : Tells). z.number) e in absurd (omega (arith, n))
-says_injective (Many i) (Strange j) e = let n = ap (λ (z : Tells). z.number) e in absurd (omega (arith, n))
-says_injective (Many i) (Large j) e = let n = ap (λ (z : Tells). z.number) e in absurd (omega (arith, n))
-says_injective (Many i) (Many j) e = ap Many (ap (λ (z : Tells). z.line) e)
-says_injective (Many i) Room e = let n = ap (λ (z : Tells). z.number) e in absurd (omega (arith, n))
-says_injective Room Taken e = let n = ap (λ (z : Tells). z.number) e in absurd (omega (arith, n))
-says_injective Room (Strange j) e = let n = ap (λ (z : Tells). z.number) e in absurd (omega (arith, n))
-says_injective Room (Large j) e = let n = ap (λ (z : Tells). z.number) e in absurd (omega (arith, n))
-says_injective Room (Many j) e = let n = ap (λ (z : Tells). z.number) e in absurd (omega (arith, n))
-says_injective Room Room e = refl
+says_injective (Ok u) (Ok v) e = refl
+says_injective (Ok u) (Err y) e = absurd (taken_refused y (ap (λ (z : Tells). z.number) e))
+says_injective (Err x) (Ok v) e = absurd (taken_refused x (sym (ap (λ (z : Tells). z.number) e)))
+says_injective (Err x) (Err y) e = ap Err (same_misread x y e)
 
-pub read_one : (κs : Lfts 2) (t : Bor (List ℕ)) (b z z' : MutBor (List ℕ)) (r r' : Spelt)
+pub read_one : (κs : Lfts 2) (t : Bor (List ℕ)) (b z z' : MutBor (List ℕ)) (r r' : Result ℕ Misread)
     → read.Post κs (t, (b, tt)) r (t, (z, tt)) → read.Post κs (t, (b, tt)) r' (t, (z', tt)) → (r ≡ r') × (z.now ≡ z'.now)
-read_one κs t b z z' r r' p q =
-    let a = says_injective r.answer r'.answer (p.0 ∙ sym q.0) in
-    let n = p.1.0 ∙ sym q.1.0 in
-    ((λ i. record { answer = a i; bytes = n i }), p.1.1 ∙ sym q.1.1)
+read_one κs t b z z' r r' p q = (p.0 ∙ sym q.0, p.1 ∙ sym q.1)
 
-pub read_refused : (κs : Lfts 2) (t : Bor (List ℕ)) (b z : MutBor (List ℕ)) (r : Spelt)
-    → read.Post κs (t, (b, tt)) r (t, (z, tt)) → is_taken r.answer ≡ false → z.now ≡ b.now
+untaken : (a : Said) (n : ℕ) → is_ok (spelt a n) ≡ false → is_taken a ≡ false
+untaken (Ok u) n h = absurd (let z : true ≡ false = h in no_way z)
+untaken (Err e) n h = reads.refused e
+
+pub read_refused : (κs : Lfts 2) (t : Bor (List ℕ)) (b z : MutBor (List ℕ)) (r : Result ℕ Misread)
+    → read.Post κs (t, (b, tt)) r (t, (z, tt)) → is_ok r ≡ false → z.now ≡ b.now
 read_refused κs t b z r p h =
-    let e = says_injective r.answer (read_answer t.now (length b.now)) p.0 in
-    p.1.1 ∙ reads.written_none t.now b.now (ap is_taken (sym e) ∙ h)
+    p.1 ∙ reads.written_none t.now b.now (untaken (read_answer t.now (length b.now)) (read_bytes t.now (length b.now)) (ap is_ok (sym p.0) ∙ h))

@@ -3,25 +3,38 @@ use Rattle.std.specs.Prelude.{ℕ, ◌+◌, ◌*◌, ◌%◌, true, false, List,
 use Prim.Native.String.{String}
 use Rattle.lists.specs.Find.{pick}
 use Rattle.spelling.specs.declared.Word.{Word}
+use Rattle.spelling.specs.declared.Word.TheVariants as word_is
+use Rattle.spelling.specs.declared.Grade.{Grade}
+use Rattle.spelling.specs.declared.Grade.TheVariants.{Fits, Large, Strange}
 use Rattle.spelling.specs.declared.Line.{Line}
 use Rattle.spelling.specs.declared.Act.{Act}
-use Rattle.spelling.specs.Words.{no_word, no_line, ended, line_byte, key_of}
+use Rattle.spelling.specs.Words.{no_word, value_of, no_line, ended, line_byte, key_of}
 
 abbrev pub act : ℕ → ℕ → ℕ → ℕ → ℕ → Act
 act k a b c d = record { tag = k; a = a; b = b; c = c; d = d }
 
 -- ---- numbers and their bounds
 
--- 0: a number of at most `most`; 1: a larger number; 2: no number
-unfoldable pub grade : Word → ℕ → ℕ
-grade w most = pick (eqb w.kind 2) (pick (leb w.value most) 0 1) (pick (eqb w.kind 3) 1 2)
+-- whether w is a number of at most `most`, a larger number, or no number
+unfoldable pub grade : Word → ℕ → Grade
+grade word_is.None most = Strange
+grade (word_is.Letters k) most = Strange
+grade (word_is.Number x) most = pick (leb x most) Fits Large
+grade word_is.Beyond most = Large
+grade word_is.Other most = Strange
 
-abbrev pub worse : ℕ → ℕ → ℕ
-worse a b = pick (ltb a b) b a
+abbrev pub worse : Grade → Grade → Grade
+worse Fits b = b
+worse Large Fits = Large
+worse Large Large = Large
+worse Large Strange = Strange
+worse Strange b = Strange
 
 -- a line whose numbers have the grade g at worst
-unfoldable pub graded : ℕ → Act → Act
-graded g a = pick (eqb g 0) a (pick (eqb g 1) (act 9 0 0 0 0) (act 8 0 0 0 0))
+unfoldable pub graded : Grade → Act → Act
+graded Fits a = a
+graded Large a = act 9 0 0 0 0
+graded Strange a = act 8 0 0 0 0
 
 abbrev pub byte : ℕ
 byte = 255
@@ -43,7 +56,11 @@ second_is s c = key_of s * 16 + 8 + c
 
 -- the key of a word of letters, which has at most fifty bits; 0 for any other word
 unfoldable pub key_in : Word → ℕ
-key_in w = pick (eqb w.kind 1) (w.value % 1125899906842624) 0
+key_in word_is.None = 0
+key_in (word_is.Letters k) = k % 1125899906842624
+key_in (word_is.Number x) = 0
+key_in word_is.Beyond = 0
+key_in word_is.Other = 0
 
 unfoldable pub shape_of : Word → Word → ℕ → ℕ
 shape_of u v c = pick (ltb 0 (key_in u)) (key_in u * 16 + c) (pick (ltb 0 (key_in v)) (key_in v * 16 + 8 + c) c)
@@ -51,22 +68,22 @@ shape_of u v c = pick (ltb 0 (key_in u)) (key_in u * 16 + c) (pick (ltb 0 (key_i
 unfoldable pub said_by : ℕ → Word → Word → Word → Word → Word → Act
 said_by shape u v w x y =
     pick (eqb shape 0) (act 0 0 0 0 0)
-    (pick (eqb shape (first_is "nodes" 2)) (graded (grade v wide) (act 1 v.value 0 0 0))
-    (pick (eqb shape (first_is "threads" 2)) (graded (grade v byte) (act 2 v.value 0 0 0))
-    (pick (eqb shape (first_is "head" 2)) (graded (grade v wide) (act 3 0 v.value 0 0))
+    (pick (eqb shape (first_is "nodes" 2)) (graded (grade v wide) (act 1 (value_of v) 0 0 0))
+    (pick (eqb shape (first_is "threads" 2)) (graded (grade v byte) (act 2 (value_of v) 0 0 0))
+    (pick (eqb shape (first_is "head" 2)) (graded (grade v wide) (act 3 0 (value_of v) 0 0))
     (pick (eqb shape (first_is "node" 5))
-    (graded (worse (worse (grade v wide) (grade w byte)) (worse (grade x wide) (grade y word))) (act 4 v.value w.value x.value y.value))
-    (pick (eqb shape (second_is "enqueue" 3)) (graded (worse (grade u byte) (grade w word)) (act 5 1 u.value w.value 1))
-    (pick (eqb shape (second_is "dequeue" 2)) (graded (grade u byte) (act 5 2 u.value 0 1))
-    (pick (eqb shape (second_is "step" 2)) (graded (grade u byte) (act 5 3 u.value 0 1))
-    (pick (eqb shape (second_is "step" 3)) (graded (worse (grade u byte) (grade w wide)) (act 5 3 u.value 0 w.value))
-    (pick (eqb shape (first_is "write-back" 2)) (graded (grade v byte) (act 5 4 v.value 0 1))
+    (graded (worse (worse (grade v wide) (grade w byte)) (worse (grade x wide) (grade y word))) (act 4 (value_of v) (value_of w) (value_of x) (value_of y)))
+    (pick (eqb shape (second_is "enqueue" 3)) (graded (worse (grade u byte) (grade w word)) (act 5 1 (value_of u) (value_of w) 1))
+    (pick (eqb shape (second_is "dequeue" 2)) (graded (grade u byte) (act 5 2 (value_of u) 0 1))
+    (pick (eqb shape (second_is "step" 2)) (graded (grade u byte) (act 5 3 (value_of u) 0 1))
+    (pick (eqb shape (second_is "step" 3)) (graded (worse (grade u byte) (grade w wide)) (act 5 3 (value_of u) 0 (value_of w)))
+    (pick (eqb shape (first_is "write-back" 2)) (graded (grade v byte) (act 5 4 (value_of v) 0 1))
     (pick (eqb shape (first_is "crash" 1)) (act 5 5 0 0 1)
     (pick (eqb shape (first_is "event" 4))
-    (graded (worse (grade v byte) (worse (grade w byte) (grade x word))) (act 5 v.value w.value x.value 1))
-    (pick (eqb shape (first_is "version" 2)) (graded (grade v wide) (act 6 v.value 0 0 0))
-    (pick (eqb shape (first_is "desks" 2)) (graded (grade v byte) (act 7 v.value 0 0 0))
-    (pick (eqb shape (first_is "head" 3)) (graded (worse (grade v wide) (grade w wide)) (act 3 v.value w.value 1 0))
+    (graded (worse (grade v byte) (worse (grade w byte) (grade x word))) (act 5 (value_of v) (value_of w) (value_of x) 1))
+    (pick (eqb shape (first_is "version" 2)) (graded (grade v wide) (act 6 (value_of v) 0 0 0))
+    (pick (eqb shape (first_is "desks" 2)) (graded (grade v byte) (act 7 (value_of v) 0 0 0))
+    (pick (eqb shape (first_is "head" 3)) (graded (worse (grade v wide) (grade w wide)) (act 3 (value_of v) (value_of w) 1 0))
     (act 8 0 0 0 0)))))))))))))))
 
 abbrev pub word_at : Line → ℕ → Word

@@ -1,21 +1,21 @@
 -- The schedule that a text's lines say, and what is wrong with a text that says none.
-use Rattle.std.specs.Prelude.{ℕ, suc, ◌+◌, ◌*◌, Bool, true, false, not, List, [], ◌∷◌, ◌++◌, length, replicate, eqb, ltb, leb}
+use Rattle.std.specs.Prelude.{ℕ, suc, ◌+◌, ◌*◌, Bool, true, false, not, List, [], ◌∷◌, ◌++◌, length, replicate, eqb, ltb, leb, Option, Some, None, is_some, Result, Ok, Err}
 use Rattle.lists.specs.Find.{pick}
 use Rattle.lists.specs.Tab.{joined, over}
 use Rattle.image.specs.Form.{top_of, head_lines, per_desk}
 use Rattle.image.specs.declared.Shape.{Shape}
 use Rattle.spelling.specs.declared.Act.{Act}
 use Rattle.spelling.specs.declared.Survey.{Survey}
-use Rattle.spelling.specs.declared.Said.{Said}
-use Rattle.spelling.specs.declared.Said.TheVariants.{Taken, Strange, Large, Many, Room}
+use Rattle.spelling.specs.declared.Misread.{Misread}
+use Rattle.spelling.specs.declared.Misread.TheVariants as why
 use Rattle.spelling.specs.Lines.{acts_of}
 use Rattle.spelling.specs.Layout.{event_span, said_shape, head_start, node_start, events_place, size_of, rest_of, head_of, head_said, node_said, event_said}
 
 -- ---- what the lines say together
 
--- the form of the image that a version's number names: "UQI" version 1 or 2; 0 where it names none
-unfoldable pub version_form : ℕ → ℕ
-version_form x = pick (eqb x 1) 1 (pick (eqb x 2) 2 0)
+-- the form of the image that a version's number names: "UQI" version 1 or 2, if it names one
+unfoldable pub version_form : ℕ → Option ℕ
+version_form x = pick (eqb x 1) (Some 1) (pick (eqb x 2) (Some 2) None)
 
 -- #101: the form with one head index per desk, which `desks` names
 abbrev pub desks_form : ℕ
@@ -23,29 +23,29 @@ desks_form = 4
 
 -- T is 1 and the version 1 where no line says it
 abbrev pub no_survey : Survey
-no_survey = record { fault = 0; line = 0; begun = false; settled = false; form = 1; n = 0; t = 1; count = 0 }
+no_survey = record { fault = None; begun = false; settled = false; form = 1; n = 0; t = 1; count = 0 }
 
-abbrev pub faulted : Survey → ℕ → ℕ → Survey
-faulted v f i = record { fault = f; line = i; begun = v.begun; settled = v.settled; form = v.form; n = v.n; t = v.t; count = v.count }
+abbrev pub faulted : Survey → Misread → Survey
+faulted v e = record { fault = Some e; begun = v.begun; settled = v.settled; form = v.form; n = v.n; t = v.t; count = v.count }
 
 abbrev pub with_nodes : Survey → ℕ → Survey
-with_nodes v x = record { fault = v.fault; line = v.line; begun = true; settled = v.settled; form = v.form; n = x; t = v.t; count = v.count }
+with_nodes v x = record { fault = v.fault; begun = true; settled = v.settled; form = v.form; n = x; t = v.t; count = v.count }
 
 abbrev pub with_threads : Survey → ℕ → Survey
-with_threads v x = record { fault = v.fault; line = v.line; begun = v.begun; settled = v.settled; form = v.form; n = v.n; t = x; count = v.count }
+with_threads v x = record { fault = v.fault; begun = v.begun; settled = v.settled; form = v.form; n = v.n; t = x; count = v.count }
 
 -- an index was said: what it may be is known from here on
 abbrev pub with_index : Survey → Survey
-with_index v = record { fault = v.fault; line = v.line; begun = v.begun; settled = true; form = v.form; n = v.n; t = v.t; count = v.count }
+with_index v = record { fault = v.fault; begun = v.begun; settled = true; form = v.form; n = v.n; t = v.t; count = v.count }
 
 abbrev pub with_form : Survey → ℕ → Survey
-with_form v x = record { fault = v.fault; line = v.line; begun = v.begun; settled = true; form = x; n = v.n; t = v.t; count = v.count }
+with_form v x = record { fault = v.fault; begun = v.begun; settled = true; form = x; n = v.n; t = v.t; count = v.count }
 
 abbrev pub with_desks : Survey → ℕ → Survey
-with_desks v x = record { fault = v.fault; line = v.line; begun = v.begun; settled = true; form = desks_form; n = v.n; t = x; count = v.count }
+with_desks v x = record { fault = v.fault; begun = v.begun; settled = true; form = desks_form; n = v.n; t = x; count = v.count }
 
 abbrev pub with_events : Survey → ℕ → Survey
-with_events v x = record { fault = v.fault; line = v.line; begun = v.begun; settled = v.settled; form = v.form; n = v.n; t = v.t; count = v.count + x }
+with_events v x = record { fault = v.fault; begun = v.begun; settled = v.settled; form = v.form; n = v.n; t = v.t; count = v.count + x }
 
 -- the index that a line says; 0 where it says none
 unfoldable pub index_said : Act → ℕ
@@ -53,18 +53,18 @@ index_said a = pick (eqb a.tag 3) a.b (pick (eqb a.tag 4) a.c 0)
 
 -- `nodes`: it stands once
 unfoldable pub nodes_said : ℕ → Survey → ℕ → Survey
-nodes_said i v x = pick v.begun (faulted v 1 i) (pick (ltb 255 x) (faulted v 2 i) (with_nodes v x))
+nodes_said i v x = pick v.begun (faulted v (why.Strange i)) (pick (ltb 255 x) (faulted v (why.Large i)) (with_nodes v x))
 
 -- `version`: one that is known, once, and before every index
 unfoldable pub version_said : ℕ → Survey → ℕ → Survey
-version_said i v x = pick v.settled (faulted v 1 i) (pick (eqb (version_form x) 0) (faulted v 1 i) (with_form v (version_form x)))
+version_said i v x = pick v.settled (faulted v (why.Strange i)) (elim (version_form x) [ Some f ↦ with_form v f | None ↦ faulted v (why.Strange i) ])
 
 -- `desks`: in place of `version`, and of `threads` from here on
 unfoldable pub desks_said : ℕ → Survey → ℕ → Survey
-desks_said i v x = pick v.settled (faulted v 1 i) (with_desks v x)
+desks_said i v x = pick v.settled (faulted v (why.Strange i)) (with_desks v x)
 
 unfoldable pub threads_said : ℕ → Survey → ℕ → Survey
-threads_said i v x = pick (per_desk v.form) (faulted v 1 i) (with_threads v x)
+threads_said i v x = pick (per_desk v.form) (faulted v (why.Strange i)) (with_threads v x)
 
 -- 1 where a line `head` names one of several head lines, 0 where there is only one
 unfoldable pub head_named : ℕ → ℕ
@@ -72,31 +72,31 @@ head_named f = pick (per_desk f) 1 0
 
 -- `head`: as the form has it, and of a head line that there is
 unfoldable pub heads_said : ℕ → Survey → Act → Survey
-heads_said i v a = pick (eqb a.c (head_named v.form)) (pick (ltb a.a (head_lines (said_shape v))) (with_index v) (faulted v 2 i)) (faulted v 1 i)
+heads_said i v a = pick (eqb a.c (head_named v.form)) (pick (ltb a.a (head_lines (said_shape v))) (with_index v) (faulted v (why.Large i))) (faulted v (why.Strange i))
 
 -- x events more: there are at most 65,535
 unfoldable pub events_said : ℕ → Survey → ℕ → Survey
-events_said i v x = pick (leb (v.count + x) 65535) (with_events v x) (faulted v 3 i)
+events_said i v x = pick (leb (v.count + x) 65535) (with_events v x) (faulted v (why.Many i))
 
 -- a line behind `nodes`: a node's number is below N
 unfoldable pub behind_nodes : ℕ → Survey → Act → Survey
 behind_nodes i v a =
     pick (eqb a.tag 2) (threads_said i v a.a)
     (pick (eqb a.tag 3) (heads_said i v a)
-    (pick (eqb a.tag 4) (pick (ltb a.a v.n) (with_index v) (faulted v 2 i))
+    (pick (eqb a.tag 4) (pick (ltb a.a v.n) (with_index v) (faulted v (why.Large i)))
     (pick (eqb a.tag 5) (events_said i v a.d)
     (pick (eqb a.tag 6) (version_said i v a.a)
-    (pick (eqb a.tag 7) (desks_said i v a.a) (faulted v 1 i))))))
+    (pick (eqb a.tag 7) (desks_said i v a.a) (faulted v (why.Strange i)))))))
 
 -- line i says a: its index fits the form, `nodes` stands before all others. The first fault stays
 unfoldable pub surveyed : ℕ → Survey → Act → Survey
 surveyed i v a =
-    pick (not (eqb v.fault 0)) v
+    pick (is_some v.fault) v
     (pick (eqb a.tag 0) v
-    (pick (eqb a.tag 9) (faulted v 2 i)
-    (pick (ltb (top_of v.form) (index_said a)) (faulted v 2 i)
+    (pick (eqb a.tag 9) (faulted v (why.Large i))
+    (pick (ltb (top_of v.form) (index_said a)) (faulted v (why.Large i))
     (pick (eqb a.tag 1) (nodes_said i v a.a)
-    (pick v.begun (behind_nodes i v a) (faulted v 1 i))))))
+    (pick v.begun (behind_nodes i v a) (faulted v (why.Strange i)))))))
 
 unfoldable pub survey_from : ℕ → Survey → List Act → Survey
 survey_from i v [] = v
@@ -141,34 +141,61 @@ file_of t = let v = survey_of t in put_all (said_shape v) (size_of v) (blank_fil
 
 -- ---- answers
 
+-- what reading words answers: that they are taken, or why they are no schedule
+abbrev pub Said : Type 0
+Said = Result Unit Misread
+
+abbrev pub Taken : Said
+Taken = Ok tt
+
+abbrev pub Strange : ℕ → Said
+Strange i = Err (why.Strange i)
+
+abbrev pub Large : ℕ → Said
+Large i = Err (why.Large i)
+
+abbrev pub Many : ℕ → Said
+Many i = Err (why.Many i)
+
+abbrev pub Room : Said
+Room = Err why.Room
+
 -- the number of each answer, and the line it names
 pub record Tells : Type 0 where
   pub number : ℕ
   pub line : ℕ
 
-abbrev pub tells : Said → Tells
-tells Taken = record { number = 0; line = 0 }
-tells (Strange i) = record { number = 1; line = i }
-tells (Large i) = record { number = 2; line = i }
-tells (Many i) = record { number = 3; line = i }
-tells Room = record { number = 4; line = 0 }
+abbrev pub tells_misread : Misread → Tells
+tells_misread (why.Strange i) = record { number = 1; line = i }
+tells_misread (why.Large i) = record { number = 2; line = i }
+tells_misread (why.Many i) = record { number = 3; line = i }
+tells_misread why.Room = record { number = 4; line = 0 }
 
-abbrev pub fault_of : ℕ → ℕ → Said
-fault_of f i = pick (eqb f 1) (Strange i) (pick (eqb f 2) (Large i) (Many i))
+abbrev pub tells : Said → Tells
+tells (Ok u) = record { number = 0; line = 0 }
+tells (Err e) = tells_misread e
+
+-- a fault, or what is answered where there is none
+abbrev pub unless : Option Misread → Said → Said
+unless (Some e) a = Err e
+unless None a = a
 
 -- the first fault; then a text with no line that says anything, at its last line; then a lent buffer that is too short
 unfoldable pub read_answer : List ℕ → ℕ → Said
 read_answer t room =
     let v = survey_of t in
-    pick (not (eqb v.fault 0)) (fault_of v.fault v.line)
-    (pick (not v.begun) (Strange (last_from 0 (acts_of t)))
-    (pick (ltb room (size_of v)) Room Taken))
+    unless v.fault (pick (not v.begun) (Strange (last_from 0 (acts_of t))) (pick (ltb room (size_of v)) Room Taken))
 
 abbrev pub is_taken : Said → Bool
 is_taken a = eqb (tells a).number 0
 
 unfoldable pub read_bytes : List ℕ → ℕ → ℕ
 read_bytes t room = pick (is_taken (read_answer t room)) (size_of (survey_of t)) 0
+
+-- what the call gives: how many bytes the schedule has, or why there is none
+abbrev pub spelt : Said → ℕ → Result ℕ Misread
+spelt (Ok u) n = Ok n
+spelt (Err e) n = Err e
 
 -- what the lent buffer holds then: the schedule in its first bytes, the rest as it was; on a refusal all as it was
 unfoldable pub read_written : List ℕ → List ℕ → List ℕ

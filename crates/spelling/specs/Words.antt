@@ -4,35 +4,55 @@ use Prim.Native.String.{String}
 use Rattle.lists.specs.Find.{pick, both}
 use Rattle.lists.specs.Text.{text}
 use Rattle.spelling.specs.declared.Word.{Word}
+use Rattle.spelling.specs.declared.Word.TheVariants as word
 use Rattle.spelling.specs.declared.Line.{Line}
 
 abbrev pub no_word : Word
-no_word = record { kind = 0; value = 0 }
+no_word = word.None
 
 abbrev pub letters : ℕ → Word
-letters k = record { kind = 1; value = k }
+letters k = word.Letters k
 
 abbrev pub number : ℕ → Word
-number x = record { kind = 2; value = x }
+number x = word.Number x
 
 abbrev pub beyond : Word
-beyond = record { kind = 3; value = 0 }
+beyond = word.Beyond
 
 abbrev pub other : Word
-other = record { kind = 4; value = 0 }
+other = word.Other
+
+-- whether nothing of it was read yet
+abbrev pub unread : Word → Bool
+unread word.None = true
+unread (word.Letters k) = false
+unread (word.Number x) = false
+unread word.Beyond = false
+unread word.Other = false
+
+-- its key or its number; 0 where it has none
+abbrev pub value_of : Word → ℕ
+value_of word.None = 0
+value_of (word.Letters k) = k
+value_of (word.Number x) = x
+value_of word.Beyond = 0
+value_of word.Other = 0
 
 -- a digit behind a word; a number of 64 bits is the largest there is
 unfoldable pub digit_more : Word → ℕ → Word
-digit_more w d =
-    pick (eqb w.kind 0) (number d)
-    (pick (eqb w.kind 2) (pick (ltb (w.value * 10 + d) 18446744073709551616) (number (w.value * 10 + d)) beyond)
-    (pick (eqb w.kind 3) beyond other))
+digit_more word.None d = number d
+digit_more (word.Letters k) d = other
+digit_more (word.Number x) d = pick (ltb (x * 10 + d) 18446744073709551616) (number (x * 10 + d)) beyond
+digit_more word.Beyond d = beyond
+digit_more word.Other d = other
 
 -- a letter behind a word, a to z as 1 to 26, `-` as 27: the key has five bits a letter, and no word that is known has more than ten
 unfoldable pub letter_more : Word → ℕ → Word
-letter_more w d =
-    pick (eqb w.kind 0) (letters d)
-    (pick (eqb w.kind 1) (pick (ltb w.value 35184372088832) (letters (w.value * 32 + d)) other) other)
+letter_more word.None d = letters d
+letter_more (word.Letters k) d = pick (ltb k 35184372088832) (letters (k * 32 + d)) other
+letter_more (word.Number x) d = other
+letter_more word.Beyond d = other
+letter_more word.Other d = other
 
 -- a word with one byte behind it
 unfoldable pub grown : Word → ℕ → Word
@@ -48,7 +68,7 @@ no_line = record { remark = false; count = 0; words = no_word ∷ no_word ∷ no
 -- the word that was read is whole: where it has a letter it is put behind the others
 unfoldable pub ended : Line → Line
 ended l =
-    pick (eqb l.word.kind 0) l
+    pick (unread l.word) l
     (pick (ltb l.count 5)
     (record { remark = l.remark; count = l.count + 1; words = set l.words l.count l.word; word = no_word })
     (record { remark = l.remark; count = 6; words = l.words; word = no_word }))
@@ -72,4 +92,4 @@ word_on w [] = w
 word_on w (x ∷ l) = word_on (grown w x) l
 
 unfoldable pub key_of : String → ℕ
-key_of s = (word_on no_word (text s)).value
+key_of s = value_of (word_on no_word (text s))

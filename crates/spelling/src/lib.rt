@@ -3,13 +3,18 @@
 
 #![tactic(auto)]
 
-use answer::Answer;
+use std::fmt;
 
-// A word, as far as it was read: 0 none yet; 1 letters, by their key; 2 a number; 3 a number beyond 64 bits; 4 any other.
-#[derive(Clone, Copy)]
-pub struct Word {
-    pub kind: u8,
-    pub value: u64,
+// A word, as far as it was read.
+#[derive(Clone, Copy, Debug, PartialEq, Eq)]
+pub enum Word {
+    None,
+    // By their key.
+    Letters(u64),
+    Number(u64),
+    // A number of more than 64 bits.
+    Beyond,
+    Other,
 }
 
 // A line, as far as it was read: whether its remark has begun, its whole words (6 for more than five), the word that is being read.
@@ -19,6 +24,16 @@ pub struct Line {
     pub count: u8,
     pub words: [Word; 5],
     pub word: Word,
+}
+
+// A word where a number is to stand that has a largest value; of two, the later one here is the worse.
+#[derive(Clone, Copy, Debug, PartialEq, Eq)]
+pub enum Grade {
+    Fits,
+    // A larger number.
+    Large,
+    // No number.
+    Strange,
 }
 
 // What a line says: 0 nothing, 1 nodes, 2 threads, 3 head, 4 node, 5 events, 6 version, 7 desks, 8 not understood, 9 a number too large; and its
@@ -32,12 +47,10 @@ pub struct Act {
     pub d: u64,
 }
 
-// What the lines said so far: the first fault (0 none, 1 strange, 2 large, 3 many) with its line; whether `nodes` stood; whether the image's form can
-// no longer be said; the form, N, T and event count.
+// What the lines said so far: the first fault; whether `nodes` stood; whether the image's form can no longer be said; the form, N, T and event count.
 #[derive(Clone, Copy)]
 pub struct Survey {
-    pub fault: u8,
-    pub line: u64,
+    pub fault: Option<Misread>,
     pub begun: bool,
     pub settled: bool,
     pub form: u8,
@@ -46,27 +59,40 @@ pub struct Survey {
     pub count: u64,
 }
 
-// What reading words answers; lines are counted from 0.
-#[derive(Clone, Copy)]
-pub enum Said {
-    Taken,
+// Why words are no schedule; lines are counted from 0.
+#[derive(Clone, Copy, Debug, PartialEq, Eq)]
+pub enum Misread {
+    // A line is not understood.
     Strange(u64),
+    // A number is too large for its field.
     Large(u64),
+    // There are more than 65,535 events.
     Many(u64),
+    // The lent buffer is too short.
     Room,
 }
 
-// The answer, and how many bytes the schedule has: 0 on a refusal.
-#[derive(Clone, Copy)]
-pub struct Spelt {
-    pub answer: Said,
-    pub bytes: usize,
+// As people count lines, from 1.
+impl fmt::Display for Misread {
+    fn fmt<W: fmt::Write>(&self, f: &mut fmt::Formatter<W>) -> fmt::Result {
+        match *self {
+            Misread::Strange(i) => write!(f, "line {}: not understood", i.saturating_add(1)),
+            Misread::Large(i) => {
+                write!(
+                    f,
+                    "line {}: a number too large for its field",
+                    i.saturating_add(1)
+                )
+            }
+            Misread::Many(i) => write!(f, "line {}: more than 65,535 events", i.saturating_add(1)),
+            Misread::Room => write!(f, "no room"),
+        }
+    }
 }
 
-// What writing words answers: how many entries of the schedule were written, and their bytes; none on a refusal.
-#[derive(Clone, Copy)]
+// What writing words gives: how many entries of the schedule were written, and their bytes.
+#[derive(Clone, Copy, Debug, PartialEq, Eq)]
 pub struct Spelled {
-    pub answer: Answer,
     pub entries: u32,
     pub bytes: usize,
 }

@@ -10,14 +10,13 @@ use Rattle.cases.specs.Inputs.{four, enqueue, dequeue, step, zero_nodes, schedul
 use Rattle.cases.specs.Starred.{p1, p6}
 use Rattle.cases.specs.Desks.{fours, desk_nodes, by_one}
 use Rattle.page.specs.Filled.{lines_on}
-use Rattle.spelling.specs.declared.Said.TheVariants.{Taken, Strange, Large, Many, Room}
 use Rattle.spelling.specs.Words.{digit_more, letter_more, grown, ended, line_byte, word_on, key_of}
 use Rattle.spelling.specs.Lines.{grade, graded, key_in, shape_of, said_by, said, acts_from, acts_of}
 use Rattle.image.specs.Bytes.{at_w}
 use Rattle.image.specs.Form.{top_of, width_of, heads_at, node_size, head_lines, header_size, node_place, image_size, per_desk}
 use Rattle.image.specs.Layout.{marked, form_in, mark_bytes}
 use Rattle.spelling.specs.Layout.{head_of}
-use Rattle.spelling.specs.Reading.{version_form, head_named, index_said, nodes_said, version_said, desks_said, threads_said, heads_said, events_said, behind_nodes, surveyed, survey_from, last_from, survey_of, blank_file, times, put_by, reach_by, put_all, file_of, read_answer}
+use Rattle.spelling.specs.Reading.{Taken, Strange, Large, Many, Room, version_form, head_named, index_said, nodes_said, version_said, desks_said, threads_said, heads_said, events_said, behind_nodes, surveyed, survey_from, last_from, survey_of, blank_file, times, put_by, reach_by, put_all, file_of, read_answer}
 use Rattle.spelling.specs.Writing.{threads_line, version_line, head_line, head_at, node_line, event_line, node_entry, follows, run_end, event_entry, entry_of, words_of}
 
 unfoldable pub P1 : List ℕ

@@ -10,7 +10,7 @@ use lib.ListN.{length}
 use lib.Dec.{eqb}
 use Rattle.lists.specs.Find.{pick}
 use Rattle.spelling.specs.declared.Word.{Word}
-use Rattle.spelling.specs.Words.{no_word, letters, letter_more, grown, word_on}
+use Rattle.spelling.specs.Words.{no_word, value_of, letters, letter_more, grown, word_on}
 
 -- `-`, or a small letter
 abbrev pub Letter : ℕ → Type 0
@@ -77,13 +77,13 @@ first : (d : ℕ) → letter_more no_word d ≡ letters d
 unfolding letter_more
 first d = refl
 
-pub key_is : (l : List ℕ) → Letters l → length l ≤ 10 → (word_on no_word l).value ≡ pushed 0 l
+pub key_is : (l : List ℕ) → Letters l → length l ≤ 10 → value_of (word_on no_word l) ≡ pushed 0 l
 unfolding word_on pushed
 key_is [] p h = refl
 key_is (x ∷ l) p h =
     let z : code_of x ≡ 0 * 32 + code_of x = omega arith in
-    ap (λ (w : Word). (word_on w l).value) (grown_letter no_word x p.0 ∙ first (code_of x))
-    ∙ ap (λ (w : Word). w.value) (key_on l (code_of x) 1 p.1 (omega arith) (omega (arith, (code_in x p.0).1)))
+    ap (λ (w : Word). value_of (word_on w l)) (grown_letter no_word x p.0 ∙ first (code_of x))
+    ∙ ap (λ (w : Word). value_of w) (key_on l (code_of x) 1 p.1 (omega arith) (omega (arith, (code_in x p.0).1)))
     ∙ ap (λ k. pushed k l) z
 
 -- ---- the name that a key is of
@@ -113,7 +113,7 @@ unfolding name_of
 name_done zero l = refl
 name_done (suc f) l = refl
 
-name_of_lem : (l : List ℕ) → Letters l → length l ≤ 10 → name_of 10 (word_on no_word l).value [] ≡ l
+name_of_lem : (l : List ℕ) → Letters l → length l ≤ 10 → name_of 10 (value_of (word_on no_word l)) [] ≡ l
 name_of_lem l p h =
     let e : 10 ≡ (10 - length l) + length l = omega arith in
     ap (λ k. name_of 10 k []) (key_is l p h)
@@ -123,5 +123,5 @@ name_of_lem l p h =
     ∙ append-nil l
 
 -- names of at most ten letters with one key are one name
-pub keys_tell : (a b : List ℕ) → Letters a → Letters b → length a ≤ 10 → length b ≤ 10 → (word_on no_word a).value ≡ (word_on no_word b).value → a ≡ b
+pub keys_tell : (a b : List ℕ) → Letters a → Letters b → length a ≤ 10 → length b ≤ 10 → value_of (word_on no_word a) ≡ value_of (word_on no_word b) → a ≡ b
 keys_tell a b p q m n e = sym (name_of_lem a p m) ∙ ap (λ k. name_of 10 k []) e ∙ name_of_lem b q n

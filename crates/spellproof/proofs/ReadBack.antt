@@ -6,6 +6,7 @@ use native.Mathlib.Omega.{arith}
 use borrow.Author.Tests.{le-leb}
 use Rattle.lists.specs.Text.{text, decimal}
 use Rattle.page.specs.Printed.{newline}
+use Rattle.spelling.specs.declared.Grade.TheVariants.{Fits}
 use Rattle.spelling.specs.declared.Word.{Word}
 use Rattle.spelling.specs.Words.{no_word, number, letters, digit_more, letter_more, grown, no_line, ended, line_byte, word_on, key_of}
 use Rattle.spelling.specs.Lines.{act, grade, graded, key_in, shape_of, said_by, said, acts_from}
@@ -26,7 +27,7 @@ three u v w = u ∷ v ∷ w ∷ no_word ∷ no_word ∷ []
 abbrev four : Word → Word → Word → Word → List Word
 four u v w x = u ∷ v ∷ w ∷ x ∷ no_word ∷ []
 
-graded_good : (w : ℕ) (most : ℕ) → w ≤ most → grade (number w) most ≡ 0
+graded_good : (w : ℕ) (most : ℕ) → w ≤ most → grade (number w) most ≡ Fits
 unfolding grade
 graded_good w most h = rw (le-leb w most h)
 

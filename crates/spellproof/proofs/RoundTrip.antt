@@ -25,10 +25,9 @@ use Rattle.codec.proofs.Accepted as acc
 use Rattle.codec.proofs.ReadWrite as again
 use Rattle.spelling.specs.declared.Act.{Act}
 use Rattle.spelling.specs.declared.Survey.{Survey}
-use Rattle.spelling.specs.declared.Said.TheVariants.{Taken}
 use Rattle.spelling.specs.Lines.{act, acts_of}
 use Rattle.spelling.specs.Layout.{said_shape, node_start, events_start, events_place, size_of, node_said}
-use Rattle.spelling.specs.Reading.{blank_file, times, put_by, reach_by, put_all, file_of, read_answer}
+use Rattle.spelling.specs.Reading.{Taken, blank_file, times, put_by, reach_by, put_all, file_of, read_answer}
 use Rattle.spelling.specs.Writing.{image_form, heads_in, node_at, is_blank_node, follows, run_end, words_of}
 use Rattle.spellproof.proofs.Acts as acts
 use Rattle.spellproof.proofs.Parts.{six}

@@ -9,6 +9,7 @@ use native.Mathlib.Numerals.{add-one}
 use borrow.Author.Tests.{eqb-true, le-ltb, lt-ltb, le-leb}
 use lib.Dec.{eqb}
 use lib.ListN.{length}
+use Rattle.std.specs.Prelude.{None}
 use Rattle.lists.specs.Find.{pick}
 use Rattle.lists.specs.Tab.{joined}
 use Rattle.lists.proofs.BoolLaws.{no_way}
@@ -52,7 +53,7 @@ lines_sole z h =
 -- ---- the lines before the nodes
 
 abbrev pub begun : ℕ → ℕ → ℕ → ℕ → Survey
-begun f n t c = record { fault = 0; line = 0; begun = true; settled = true; form = f; n = n; t = t; count = c }
+begun f n t c = record { fault = None; begun = true; settled = true; form = f; n = n; t = t; count = c }
 
 abbrev shaped : ℕ → ℕ → ℕ → Shape
 shaped f n t = record { form = f; n = n; t = t }

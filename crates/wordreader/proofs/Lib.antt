@@ -1,4 +1,3 @@
 pub mod ByteLaws
 pub mod PutLaws
-pub mod SurveyLaws
 pub mod TurnLaws

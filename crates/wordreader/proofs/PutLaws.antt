@@ -3,14 +3,15 @@ use Prim.Native.Nat.{ℕ, suc, ◌+◌, ◌-◌, ◌*◌, ◌%◌, ◌/◌, ◌�
 use mathlib.Core.Path.{◌≡◌, refl, sym, ap, ap₂, ◌∙◌}
 use mathlib.Core.Bool.{true}
 use mathlib.Core.Logic.{◌≢◌}
-use mathlib.Core.List.{List, [], ◌∷◌, ◌++◌}
+use mathlib.Core.List.{List, [], ◌∷◌, ◌++◌, append_assoc}
 use native.Mathlib.Omega.{arith}
 use native.Mathlib.Numerals.{add-one, add-two}
 use native.Mathlib.Nat.{zero-add, zero-mul}
 use native.Mathlib.Decide.{dec_lt, ℕ_discrete}
 use borrow.Author.Tests.{eq-eqb, ne_eqb, lt-ltb, le-ltb, le-leb, lt-leb}
-use lib.ListN.{length, set, drop, replicate, length-append, length-set, length-replicate, replicate-append-replicate}
-use lib.Seq.{set-append_left, sets}
+use lib.ListN.{length, set, take, drop, replicate, length-append, length-set, length-replicate, replicate-append-replicate}
+use lib.Seq.{drop-drop, set-append_left, sets}
+use borrow.Rule.Slice.PartMut.{put_mid}
 use Rattle.lists.specs.Tab.{joined, over}
 use Rattle.lists.proofs.TabLaws as tabs
 use Rattle.image.specs.Bytes.{le4}
@@ -127,6 +128,14 @@ times_next b at i a =
     ∙ ap (over b at) (sym (times_suc i (event_said a)) ∙ ap (λ n. times n (event_said a)) (sym (add-one i)))
 
 -- ---- zeros
+
+-- a part of a list that became zs is zs written over it
+pub put_part : (b ys zs : List ℕ) (at k : ℕ) → ys ≡ zs → k ≡ length zs → at + length zs ≤ length b → put_mid at k b ys ≡ over b at zs
+put_part b ys zs at k e l h =
+    ap (λ y. put_mid at k b y) e
+    ∙ ap (λ d. take at b ++ (zs ++ d)) (drop-drop k at b ∙ ap (λ m. drop (at + m) b) l)
+    ∙ sym (append_assoc (take at b) zs (drop (at + length zs) b))
+    ∙ sym (tabs.over_is b at zs h)
 
 pub zeros_none : (b : List ℕ) (at : ℕ) → b ≡ over b at (replicate 0 0)
 unfolding over

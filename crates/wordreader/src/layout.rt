@@ -28,13 +28,11 @@ pub fn head_start(form: u8, k: usize) -> usize
     requires { (known form ≡ true) × (k ≤ 255) }
     ensures { result ≡ head_start form k }
 {
-    if form == 2 {
-        return 14 + k * 8;
+    match form {
+        2 => 14 + k * 8,
+        4 => 15 + k * 4,
+        _ => 14 + k * 4,
     }
-    if form == 4 {
-        return 15 + k * 4;
-    }
-    14 + k * 4
 }
 
 // Where node i begins.
@@ -43,13 +41,11 @@ pub fn node_start(g: Shape, i: usize) -> usize
     ensures start { result ≡ node_start g i }
     ensures few { result ≤ 3337 }
 {
-    if g.form == 2 {
-        return 22 + i * 13;
+    match g.form {
+        2 => 22 + i * 13,
+        4 => 15 + g.t as usize * 4 + i * 9,
+        _ => 18 + i * 9,
     }
-    if g.form == 4 {
-        return 15 + g.t as usize * 4 + i * 9;
-    }
-    18 + i * 9
 }
 
 pub fn put_node_at(b: &mut [u8], form: u8, at: usize, a: Act)
@@ -78,13 +74,10 @@ fn put_mark(b: &mut [u8], at: usize, c: u8, version: u8)
     requires { at + 5 ≤ length b.old }
     ensures { b.new ≡ over b.old at (85 ∷ 81 ∷ c ∷ version ∷ 0 ∷ []) }
 {
-    b[at] = 85;
-    b[at + 1] = 81;
-    b[at + 2] = c;
-    b[at + 3] = version;
-    b[at + 4] = 0;
+    b[at..at + 5].copy_from_slice(&[b'U', b'Q', c, version, 0]);
 }
 
+#[tactic(auto, unfolding(lists::specs::Tab::over))]
 fn put_low(b: &mut [u8], at: usize, x: u64)
     requires { at + 1 ≤ length b.old }
     ensures { b.new ≡ over b.old at (x % 256 ∷ []) }
@@ -98,12 +91,12 @@ fn put_shape(b: &mut [u8], g: Shape)
     ensures { b.new ≡ over b.old 8 (mark_bytes g) }
 {
     if g.form == 4 {
-        put_mark(b, 8, 80, 1);
+        put_mark(b, 8, b'P', 1);
         b[13] = g.n;
         b[14] = g.t;
         return;
     }
-    put_mark(b, 8, 73, g.form);
+    put_mark(b, 8, b'I', g.form);
     b[13] = g.n;
 }
 
@@ -112,7 +105,7 @@ pub fn put_header(b: &mut [u8], v: Survey)
     ensures { b.new ≡ over b.old 0 (head_of v) }
 {
     let g = shape_said(v);
-    put_mark(b, 0, 83, 1);
+    put_mark(b, 0, b'S', 1);
     put_low(b, 5, v.t);
     put_low(b, 6, v.count);
     put_low(b, 7, v.count / 256);

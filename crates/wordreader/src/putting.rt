@@ -17,10 +17,8 @@ fn put_times(b: &mut [u8], at: usize, a: Act, d: usize)
     requires { (d ≤ 100000) × (at + d * 6 ≤ length b.old) }
     ensures { b.new ≡ over b.old at (times d (event_said a)) }
 {
-    let mut i = 0;
-    while i < d {
+    for i in 0..d {
         put_event_at(b, at + i * EVENT, a);
-        i += 1;
     }
 }
 
@@ -81,11 +79,7 @@ fn put_zeros(b: &mut [u8], at: usize, n: usize)
     requires { at + n ≤ length b.old }
     ensures { b.new ≡ over b.old at (replicate n 0) }
 {
-    let mut i = 0;
-    while i < n {
-        b[at + i] = 0;
-        i += 1;
-    }
+    b[at..at + n].fill(0);
 }
 
 // The schedule with zeros for its head lines, nodes and events.

@@ -13,17 +13,18 @@ use crate::words::no_line;
 use image::Shape;
 use spelling::Line;
 
+#[tactic(auto, unfolding(crate::specs::Turns::put_next, crate::specs::Turns::reach_next))]
 fn next_put(b: &mut [u8], g: Shape, z: usize, p: usize, l: Line, x: u8) -> usize
     requires { (known g.form ≡ true) × (z ≤ length b.old) × (p ≤ z) × (z ≤ 500000) × (events_start g ≤ z) }
     ensures reach { result ≡ reach_next z p l x }
     ensures bytes { b.new ≡ put_next g z b.old p l x }
     ensures within { result ≤ z }
 {
-    if x == 10 {
-        let a = said_of(l);
-        return put_act(b, g, z, p, a);
+    if x == b'\n' {
+        put_act(b, g, z, p, said_of(l))
+    } else {
+        p
     }
-    p
 }
 
 // What the lines of the text put into the first z bytes; gives up to where the events reach.
@@ -33,15 +34,9 @@ pub fn put_text(t: &[u8], b: &mut [u8], g: Shape, z: usize, from: usize) -> usiz
 {
     let mut l = no_line();
     let mut p = from;
-    let mut i = 0;
-    while i < t.len() {
-        let x = t[i];
-        let q = next_put(b, g, z, p, l, x);
-        let m = next_line(l, x);
-        p = q;
-        l = m;
-        i += 1;
+    for &x in t {
+        p = next_put(b, g, z, p, l, x);
+        l = next_line(l, x);
     }
-    let a = said_of(l);
-    put_act(b, g, z, p, a)
+    put_act(b, g, z, p, said_of(l))
 }

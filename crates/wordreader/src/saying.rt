@@ -1,9 +1,10 @@
 // What a line says.
 ghost use Rattle.std.specs.Prelude.{◌≡◌, ◌<◌, ◌≤◌};
+ghost use Rattle.spelling.specs.Words.{value_of};
 ghost use Rattle.spelling.specs.Lines.{act, grade, worse, graded, key_in, shape_of, said_by, said};
 
 use crate::words::end_word;
-use spelling::{Act, Line, Word};
+use spelling::{Act, Grade, Line, Word};
 
 const BYTE: u64 = 255;
 
@@ -11,42 +12,65 @@ const WORD: u64 = 4294967295;
 
 const WIDE: u64 = 18446744073709551615;
 
-// 0: a number of at most `most`; 1: a larger number; 2: no number.
-fn grade_of(w: Word, most: u64) -> u8
+// The shapes of the lines that are known, as `said_by` has them: how many words, and the key of the first or of the second.
+const NODES: u64 = 242813746;
+
+const THREADS: u64 = 348196981042;
+
+const HEAD: u64 = 4276802;
+
+const HEAD_OF_DESK: u64 = 4276803;
+
+const NODE: u64 = 7587925;
+
+const ENQUEUE: u64 = 93711854171;
+
+const DEQUEUE: u64 = 71700146778;
+
+const STEP: u64 = 10291978;
+
+const STEPS: u64 = 10291979;
+
+const WRITE_BACK: u64 = 13269802815604402;
+
+const CRASH: u64 = 59795073;
+
+const EVENT: u64 = 95509828;
+
+const VERSION: u64 = 380953583330;
+
+const DESKS: u64 = 70047538;
+
+#[tactic(auto, unfolding(spelling::specs::Lines::grade))]
+fn grade_of(w: Word, most: u64) -> Grade
     ensures { result ≡ grade w most }
 {
-    let k = w.kind;
-    if k == 2 {
-        if w.value <= most {
-            return 0;
-        }
-        return 1;
+    match w {
+        Word::Number(x) if x <= most => Grade::Fits,
+        Word::Number(_) | Word::Beyond => Grade::Large,
+        Word::None | Word::Letters(_) | Word::Other => Grade::Strange,
     }
-    if k == 3 {
-        return 1;
-    }
-    2
 }
 
-fn worse_of(a: u8, b: u8) -> u8
+fn worse_of(a: Grade, b: Grade) -> Grade
     ensures { result ≡ worse a b }
 {
-    if a < b {
-        return b;
+    match (a, b) {
+        (Grade::Strange, _) | (_, Grade::Strange) => Grade::Strange,
+        (Grade::Large, _) | (_, Grade::Large) => Grade::Large,
+        _ => Grade::Fits,
     }
-    a
 }
 
-fn graded_act(g: u8, a: Act) -> Act
+#[tactic(auto, unfolding(spelling::specs::Lines::graded))]
+fn graded_act(g: Grade, a: Act) -> Act
     ensures { result ≡ graded g a }
 {
-    if g == 0 {
-        return a;
+    match g {
+        Grade::Fits => a,
+        Grade::Large => an_act(9, 0, 0, 0, 0),
+        Grade::Strange => an_act(8, 0, 0, 0, 0),
     }
-    if g == 1 {
-        return an_act(9, 0, 0, 0, 0);
-    }
-    an_act(8, 0, 0, 0, 0)
 }
 
 fn an_act(tag: u8, a: u64, b: u64, c: u64, d: u64) -> Act
@@ -55,16 +79,27 @@ fn an_act(tag: u8, a: u64, b: u64, c: u64, d: u64) -> Act
     Act { tag, a, b, c, d }
 }
 
+#[tactic(auto, unfolding(spelling::specs::Lines::key_in))]
 fn key_in(w: Word) -> u64
     ensures key { result ≡ key_in w }
     ensures small { result < 1125899906842624 }
 {
-    if w.kind == 1 {
-        return w.value % 1125899906842624;
+    match w {
+        Word::Letters(k) => k % 1125899906842624,
+        _ => 0,
     }
-    0
 }
 
+fn value_of(w: Word) -> u64
+    ensures { result ≡ value_of w }
+{
+    match w {
+        Word::Letters(x) | Word::Number(x) => x,
+        Word::None | Word::Beyond | Word::Other => 0,
+    }
+}
+
+#[tactic(auto, unfolding(spelling::specs::Lines::shape_of))]
 fn shape_of(u: Word, v: Word, c: u8) -> u64
     ensures { result ≡ shape_of u v c }
 {
@@ -79,77 +114,54 @@ fn shape_of(u: Word, v: Word, c: u8) -> u64
     c as u64
 }
 
-// The kinds of lines by their shape; the numbers are those of the words in `said_by`.
+// The kinds of lines by their shape.
+#[tactic(auto, unfolding(spelling::specs::Lines::said_by, spelling::specs::Words::key_of, spelling::specs::Words::word_on, spelling::specs::Words::grown, spelling::specs::Words::letter_more, spelling::specs::Words::digit_more, lists::specs::Text::text))]
 fn said_by(shape: u64, u: Word, v: Word, w: Word, x: Word, y: Word) -> Act
     ensures { result ≡ said_by shape u v w x y }
 {
-    if shape == 0 {
-        return an_act(0, 0, 0, 0, 0);
+    let (a, b, c, d) = (value_of(u), value_of(v), value_of(w), value_of(x));
+    match shape {
+        0 => an_act(0, 0, 0, 0, 0),
+        NODES => graded_act(grade_of(v, WIDE), an_act(1, b, 0, 0, 0)),
+        THREADS => graded_act(grade_of(v, BYTE), an_act(2, b, 0, 0, 0)),
+        HEAD => graded_act(grade_of(v, WIDE), an_act(3, 0, b, 0, 0)),
+        NODE => {
+            let g = worse_of(grade_of(v, WIDE), grade_of(w, BYTE));
+            let h = worse_of(grade_of(x, WIDE), grade_of(y, WORD));
+            graded_act(worse_of(g, h), an_act(4, b, c, d, value_of(y)))
+        }
+        ENQUEUE => {
+            let g = worse_of(grade_of(u, BYTE), grade_of(w, WORD));
+            graded_act(g, an_act(5, 1, a, c, 1))
+        }
+        DEQUEUE => graded_act(grade_of(u, BYTE), an_act(5, 2, a, 0, 1)),
+        STEP => graded_act(grade_of(u, BYTE), an_act(5, 3, a, 0, 1)),
+        STEPS => {
+            let g = worse_of(grade_of(u, BYTE), grade_of(w, WIDE));
+            graded_act(g, an_act(5, 3, a, 0, c))
+        }
+        WRITE_BACK => graded_act(grade_of(v, BYTE), an_act(5, 4, b, 0, 1)),
+        CRASH => an_act(5, 5, 0, 0, 1),
+        EVENT => {
+            let g = worse_of(grade_of(w, BYTE), grade_of(x, WORD));
+            let h = worse_of(grade_of(v, BYTE), g);
+            graded_act(h, an_act(5, b, c, d, 1))
+        }
+        VERSION => graded_act(grade_of(v, WIDE), an_act(6, b, 0, 0, 0)),
+        DESKS => graded_act(grade_of(v, BYTE), an_act(7, b, 0, 0, 0)),
+        HEAD_OF_DESK => {
+            let g = worse_of(grade_of(v, WIDE), grade_of(w, WIDE));
+            graded_act(g, an_act(3, b, c, 1, 0))
+        }
+        _ => an_act(8, 0, 0, 0, 0),
     }
-    if shape == 242813746 {
-        return graded_act(grade_of(v, WIDE), an_act(1, v.value, 0, 0, 0));
-    }
-    if shape == 348196981042 {
-        return graded_act(grade_of(v, BYTE), an_act(2, v.value, 0, 0, 0));
-    }
-    if shape == 4276802 {
-        return graded_act(grade_of(v, WIDE), an_act(3, 0, v.value, 0, 0));
-    }
-    if shape == 7587925 {
-        let g = worse_of(grade_of(v, WIDE), grade_of(w, BYTE));
-        let h = worse_of(grade_of(x, WIDE), grade_of(y, WORD));
-        return graded_act(
-            worse_of(g, h),
-            an_act(4, v.value, w.value, x.value, y.value),
-        );
-    }
-    if shape == 93711854171 {
-        let g = worse_of(grade_of(u, BYTE), grade_of(w, WORD));
-        return graded_act(g, an_act(5, 1, u.value, w.value, 1));
-    }
-    if shape == 71700146778 {
-        return graded_act(grade_of(u, BYTE), an_act(5, 2, u.value, 0, 1));
-    }
-    if shape == 10291978 {
-        return graded_act(grade_of(u, BYTE), an_act(5, 3, u.value, 0, 1));
-    }
-    if shape == 10291979 {
-        let g = worse_of(grade_of(u, BYTE), grade_of(w, WIDE));
-        return graded_act(g, an_act(5, 3, u.value, 0, w.value));
-    }
-    if shape == 13269802815604402 {
-        return graded_act(grade_of(v, BYTE), an_act(5, 4, v.value, 0, 1));
-    }
-    if shape == 59795073 {
-        return an_act(5, 5, 0, 0, 1);
-    }
-    if shape == 95509828 {
-        let g = worse_of(grade_of(w, BYTE), grade_of(x, WORD));
-        let h = worse_of(grade_of(v, BYTE), g);
-        return graded_act(h, an_act(5, v.value, w.value, x.value, 1));
-    }
-    if shape == 380953583330 {
-        return graded_act(grade_of(v, WIDE), an_act(6, v.value, 0, 0, 0));
-    }
-    if shape == 70047538 {
-        return graded_act(grade_of(v, BYTE), an_act(7, v.value, 0, 0, 0));
-    }
-    if shape == 4276803 {
-        let g = worse_of(grade_of(v, WIDE), grade_of(w, WIDE));
-        return graded_act(g, an_act(3, v.value, w.value, 1, 0));
-    }
-    an_act(8, 0, 0, 0, 0)
 }
 
+#[tactic(auto, unfolding(spelling::specs::Lines::said))]
 pub fn said_of(l: Line) -> Act
     ensures { result ≡ said l }
 {
     let e = end_word(l);
-    let u = e.words[0];
-    let v = e.words[1];
-    let w = e.words[2];
-    let x = e.words[3];
-    let y = e.words[4];
-    let shape = shape_of(u, v, e.count);
-    said_by(shape, u, v, w, x, y)
+    let [u, v, w, x, y] = e.words;
+    said_by(shape_of(u, v, e.count), u, v, w, x, y)
 }

@@ -1,7 +1,8 @@
 // What the lines of a text say together.
-ghost use Rattle.std.specs.Prelude.{◌≡◌, ◌<◌, ◌≤◌, ltb};
+ghost use Rattle.std.specs.Prelude.{◌≡◌, ◌<◌, ltb};
 ghost use Rattle.spelling.specs.Lines.{acts_of};
 ghost use Rattle.lists.specs.Find.{pick};
+ghost use Rattle.spelling.specs.declared.Misread.TheVariants.{Large};
 ghost use Rattle.spelling.specs.Reading.{no_survey, faulted, with_index, version_form, head_named, index_said, nodes_said, version_said, desks_said, threads_said, heads_said, events_said, behind_nodes, surveyed, survey_of, last_from};
 ghost use Rattle.wordreader.specs.Turns.{line_next, number_next, survey_next};
 
@@ -9,7 +10,7 @@ use crate::layout::shape_said;
 use crate::saying::said_of;
 use crate::words::{line_byte, no_line};
 use image::{head_lines, top_of};
-use spelling::{Act, Line, Survey};
+use spelling::{Act, Line, Misread, Survey};
 
 // What the lines said, and the number of the last of them.
 #[derive(Clone, Copy)]
@@ -22,8 +23,7 @@ pub fn no_survey() -> Survey
     ensures { result ≡ no_survey }
 {
     Survey {
-        fault: 0,
-        line: 0,
+        fault: None,
         begun: false,
         settled: false,
         form: 1,
@@ -33,231 +33,214 @@ pub fn no_survey() -> Survey
     }
 }
 
-fn fault_at(v: Survey, f: u8, i: u64) -> Survey
-    ensures { result ≡ faulted v f i }
+fn fault_at(v: Survey, e: Misread) -> Survey
+    ensures { result ≡ faulted v e }
 {
-    let mut r = v;
-    r.fault = f;
-    r.line = i;
-    r
+    Survey {
+        fault: Some(e),
+        ..v
+    }
 }
 
-// The form of the image that a version's number names; 0 where it names none.
-fn version_form(x: u64) -> u8
+// The form of the image that a version's number names.
+#[tactic(auto, unfolding(spelling::specs::Reading::version_form))]
+fn version_form(x: u64) -> Option<u8>
     ensures { result ≡ version_form x }
 {
-    if x == 1 {
-        return 1;
+    match x {
+        1 => Some(1),
+        2 => Some(2),
+        _ => None,
     }
-    if x == 2 {
-        return 2;
-    }
-    0
 }
 
+// The index that a line says; 0 where it says none.
+#[tactic(auto, unfolding(spelling::specs::Reading::index_said))]
 fn index_said(a: Act) -> u64
     ensures { result ≡ index_said a }
 {
-    let k = a.tag;
-    if k == 3 {
-        return a.b;
+    match a.tag {
+        3 => a.b,
+        4 => a.c,
+        _ => 0,
     }
-    if k == 4 {
-        return a.c;
-    }
-    0
 }
 
+#[tactic(auto, unfolding(spelling::specs::Reading::nodes_said))]
 fn nodes_said(i: u64, v: Survey, x: u64) -> Survey
     ensures { result ≡ nodes_said i v x }
 {
     if v.begun {
-        return fault_at(v, 1, i);
+        return fault_at(v, Misread::Strange(i));
     }
     if 255 < x {
-        return fault_at(v, 2, i);
+        return fault_at(v, Misread::Large(i));
     }
-    let mut r = v;
-    r.begun = true;
-    r.n = x;
-    r
+    Survey {
+        begun: true,
+        n: x,
+        ..v
+    }
 }
 
+#[tactic(auto, unfolding(spelling::specs::Reading::version_said))]
 fn version_said(i: u64, v: Survey, x: u64) -> Survey
     ensures { result ≡ version_said i v x }
 {
     if v.settled {
-        return fault_at(v, 1, i);
+        return fault_at(v, Misread::Strange(i));
     }
-    let form = version_form(x);
-    if form == 0 {
-        return fault_at(v, 1, i);
+    match version_form(x) {
+        Some(form) => Survey {
+            settled: true,
+            form,
+            ..v
+        },
+        None => fault_at(v, Misread::Strange(i)),
     }
-    let mut r = v;
-    r.settled = true;
-    r.form = form;
-    r
 }
 
 // One head index per desk, and T.
+#[tactic(auto, unfolding(spelling::specs::Reading::desks_said))]
 fn desks_said(i: u64, v: Survey, x: u64) -> Survey
     ensures { result ≡ desks_said i v x }
 {
     if v.settled {
-        return fault_at(v, 1, i);
+        return fault_at(v, Misread::Strange(i));
     }
-    let mut r = v;
-    r.settled = true;
-    r.form = 4;
-    r.t = x;
-    r
+    Survey {
+        settled: true,
+        form: 4,
+        t: x,
+        ..v
+    }
 }
 
+#[tactic(auto, unfolding(spelling::specs::Reading::threads_said, image::specs::Form::per_desk))]
 fn threads_said(i: u64, v: Survey, x: u64) -> Survey
     ensures { result ≡ threads_said i v x }
 {
     if v.form == 4 {
-        return fault_at(v, 1, i);
+        return fault_at(v, Misread::Strange(i));
     }
-    let mut r = v;
-    r.t = x;
-    r
+    Survey { t: x, ..v }
 }
 
 // An index is said.
 fn index_at(v: Survey) -> Survey
     ensures { result ≡ with_index v }
 {
-    let mut r = v;
-    r.settled = true;
-    r
+    Survey { settled: true, ..v }
 }
 
 // Whether `head` names one of several head lines.
+#[tactic(auto, unfolding(spelling::specs::Reading::head_named, image::specs::Form::per_desk))]
 fn head_named(form: u8) -> u64
     ensures { result ≡ head_named form }
 {
-    if form == 4 {
-        return 1;
-    }
-    0
+    if form == 4 { 1 } else { 0 }
 }
 
+#[tactic(auto, unfolding(spelling::specs::Reading::heads_said))]
 fn heads_said(i: u64, v: Survey, a: Act) -> Survey
     ensures { result ≡ heads_said i v a }
 {
     if a.c != head_named(v.form) {
-        return fault_at(v, 1, i);
+        return fault_at(v, Misread::Strange(i));
     }
     let count = head_lines(shape_said(v)) as u64;
     if count <= a.a {
-        return fault_at(v, 2, i);
+        return fault_at(v, Misread::Large(i));
     }
     index_at(v)
 }
 
 fn nodes_index(i: u64, v: Survey, x: u64) -> Survey
-    ensures { result ≡ pick (ltb x v.n) (with_index v) (faulted v 2 i) }
+    ensures { result ≡ pick (ltb x v.n) (with_index v) (faulted v (Large i)) }
 {
     if v.n <= x {
-        return fault_at(v, 2, i);
+        return fault_at(v, Misread::Large(i));
     }
     index_at(v)
 }
 
+#[tactic(auto, unfolding(spelling::specs::Reading::events_said))]
 fn events_said(i: u64, v: Survey, x: u64) -> Survey
     ensures { result ≡ events_said i v x }
 {
-    if 65535 < x {
-        return fault_at(v, 3, i);
+    match v.count.checked_add(x) {
+        Some(count) if count <= 65535 => Survey { count, ..v },
+        _ => fault_at(v, Misread::Many(i)),
     }
-    if 65535 - x < v.count {
-        return fault_at(v, 3, i);
-    }
-    let mut r = v;
-    r.count = v.count + x;
-    r
 }
 
 // A line behind `nodes`.
+#[tactic(auto, unfolding(spelling::specs::Reading::behind_nodes))]
 fn behind_nodes(i: u64, v: Survey, a: Act) -> Survey
     ensures { result ≡ behind_nodes i v a }
 {
-    let k = a.tag;
-    if k == 2 {
-        return threads_said(i, v, a.a);
+    match a.tag {
+        2 => threads_said(i, v, a.a),
+        3 => heads_said(i, v, a),
+        4 => nodes_index(i, v, a.a),
+        5 => events_said(i, v, a.d),
+        6 => version_said(i, v, a.a),
+        7 => desks_said(i, v, a.a),
+        _ => fault_at(v, Misread::Strange(i)),
     }
-    if k == 3 {
-        return heads_said(i, v, a);
-    }
-    if k == 4 {
-        return nodes_index(i, v, a.a);
-    }
-    if k == 5 {
-        return events_said(i, v, a.d);
-    }
-    if k == 6 {
-        return version_said(i, v, a.a);
-    }
-    if k == 7 {
-        return desks_said(i, v, a.a);
-    }
-    fault_at(v, 1, i)
 }
 
 // Line i says a.
+#[tactic(auto, unfolding(spelling::specs::Reading::surveyed))]
 pub fn survey_act(i: u64, v: Survey, a: Act) -> Survey
     ensures { result ≡ surveyed i v a }
 {
-    let k = a.tag;
-    if v.fault != 0 {
+    if v.fault.is_some() || a.tag == 0 {
         return v;
     }
-    if k == 0 {
-        return v;
-    }
-    if k == 9 {
-        return fault_at(v, 2, i);
+    if a.tag == 9 {
+        return fault_at(v, Misread::Large(i));
     }
     if top_of(v.form) < index_said(a) {
-        return fault_at(v, 2, i);
+        return fault_at(v, Misread::Large(i));
     }
-    if k == 1 {
+    if a.tag == 1 {
         return nodes_said(i, v, a.a);
     }
     if v.begun {
         return behind_nodes(i, v, a);
     }
-    fault_at(v, 1, i)
+    fault_at(v, Misread::Strange(i))
 }
 
+#[tactic(auto, unfolding(crate::specs::Turns::line_next))]
 pub fn next_line(l: Line, x: u8) -> Line
     ensures { result ≡ line_next l x }
 {
-    if x == 10 {
-        return no_line();
+    if x == b'\n' {
+        no_line()
+    } else {
+        line_byte(l, x)
     }
-    line_byte(l, x)
 }
 
+#[tactic(auto, unfolding(crate::specs::Turns::number_next))]
 fn next_number(i: u64, x: u8) -> u64
     requires { i < 18446744073709551615 }
     ensures { result ≡ number_next i x }
 {
-    if x == 10 {
-        return i + 1;
-    }
-    i
+    if x == b'\n' { i + 1 } else { i }
 }
 
+#[tactic(auto, unfolding(crate::specs::Turns::survey_next))]
 fn next_survey(i: u64, v: Survey, l: Line, x: u8) -> Survey
     ensures { result ≡ survey_next i v l x }
 {
-    if x == 10 {
-        let a = said_of(l);
-        return survey_act(i, v, a);
+    if x == b'\n' {
+        survey_act(i, v, said_of(l))
+    } else {
+        v
     }
-    v
 }
 
 // What the lines of the text say, and the number of its last line.
@@ -268,18 +251,13 @@ pub fn survey_of(t: &[u8]) -> Surveyed
     let mut l = no_line();
     let mut v = no_survey();
     let mut line: u64 = 0;
-    let mut i = 0;
-    while i < t.len() {
-        let x = t[i];
-        let w = next_survey(line, v, l, x);
-        let n = next_number(line, x);
-        let m = next_line(l, x);
-        v = w;
-        line = n;
-        l = m;
-        i += 1;
+    for &x in t {
+        v = next_survey(line, v, l, x);
+        line = next_number(line, x);
+        l = next_line(l, x);
     }
-    let a = said_of(l);
-    let survey = survey_act(line, v, a);
-    Surveyed { survey, last: line }
+    Surveyed {
+        survey: survey_act(line, v, said_of(l)),
+        last: line,
+    }
 }

@@ -2,25 +2,7 @@
 
 #![tactic(auto)]
 
-use answer::Told;
-
-fn refused(rt: &impl Eprint, t: Told) {
-    let _ = eprintln!(rt; "words: refused {} at {}", t.number, t.place);
-}
-
-// The first n bytes, or all where there are fewer.
-fn write_front(rt: &impl Print, s: &[u8], n: usize) -> bool {
-    if n < s.len() {
-        return rt.write_all(&s[..n]).is_ok();
-    }
-    rt.write_all(s).is_ok()
-}
-
-fn print(rt: &(impl Print + Eprint), b: &[u8], n: usize) {
-    if !write_front(rt, b, n) {
-        let _ = eprintln!(rt; "words: standard output took no more, the text is not whole");
-    }
-}
+use answer::told_of;
 
 fn main(rt: HostRuntime) {
     // The longest schedule has 25,430 bytes: what is longer than this is refused as its first part is.
@@ -33,12 +15,16 @@ fn main(rt: HostRuntime) {
     };
     // 4,170 entries of at most 64 bytes: there is room for the whole text.
     let mut b = [0u8; 266880];
-    let w = desk::spell_lines(&s[..got], 0, &mut b);
-    let a = w.answer;
-    let n = w.bytes;
-    if !answer::is_taken(a) {
-        refused(&rt, answer::told_of(a));
-        return;
+    match desk::spell_lines(&s[..got], 0, &mut b) {
+        Ok(spelled) => {
+            let text = b.get(..spelled.bytes).unwrap_or(&b);
+            if rt.write_all(text).is_err() {
+                let _ = eprintln!(rt; "words: standard output took no more, the text is not whole");
+            }
+        }
+        Err(refusal) => {
+            let told = told_of(Err(refusal));
+            let _ = eprintln!(rt; "words: refused {} at {}", told.number, told.place);
+        }
     }
-    print(&rt, &b, n);
 }

@@ -1,21 +1,9 @@
-use native.Mathlib.Numerals.{add-one, add-two, add-three, add-four}
-use Rattle.lists.specs.Tab.{over}
-use lib.ListN.{length-set}
+use mathlib.Core.List.{[], ◌∷◌}
+use Prim.Native.Nat.{◌+◌, ◌-◌}
+use mathlib.Core.Path.{refl}
 use native.Mathlib.Omega.{arith}
+use Rattle.wordreader.proofs.PutLaws as puts
 use Rattle.wordreader.proofs.layout.put_mark.Goals as goal
 
-pub bounds-b-at-2 : goal.bounds-b-at-2
-bounds-b-at-2 c = simp length-set (omega arith)
-
-pub bounds-b-at-3 : goal.bounds-b-at-3
-bounds-b-at-3 c = simp length-set (omega arith)
-
-pub bounds-b-at-4 : goal.bounds-b-at-4
-bounds-b-at-4 c = simp length-set (omega arith)
-
-pub bounds-b-at-5 : goal.bounds-b-at-5
-bounds-b-at-5 c = simp length-set (omega arith)
-
 pub returns : goal.returns
-unfolding over
-returns c = simp (add-one, add-two, add-three, add-four)
+returns c = puts.put_part c.args.b.now c.copy_from_slice.new.self (85 ∷ 81 ∷ c.args.c ∷ c.args.version ∷ 0 ∷ []) c.args.at (c.args.at + 5 - c.args.at) c.copy_from_slice.ensures.after (omega arith) (omega arith)
