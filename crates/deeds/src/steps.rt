@@ -1,264 +1,222 @@
 // What a step did, in words: from the records before and after it.
-use compare::text::{Output, put_all};
 use machine::{Machine, Thread};
+use std::fmt;
 use telling::fences::{fence_line, is_over};
-use telling::lines::{cached_of, thread_of};
-use telling::shapes::{per_desk, shape_of};
-use telling::text::{said, said_both, step_name};
+use telling::lines::{cached_of, node_of, thread_of};
+use telling::shapes::per_desk;
+use telling::text::Step;
 
-fn index_of(m: Machine, i: u8) -> u64 {
-    let k = i as usize;
-    if k < 64 {
-        let v = m.nodes[k];
-        return v.index;
-    }
-    0
+// What the step of a desk did.
+#[derive(Clone, Copy, Debug)]
+pub struct Deed<'a> {
+    pub desk: u8,
+    pub before: &'a Machine,
+    pub after: &'a Machine,
 }
 
-// A node's number, or none.
-fn node_or_none(out: &mut Output, at: usize, i: u8) -> usize {
-    if i == 255 {
-        return put_all(out, at, b"none");
+// A node by its number, or none.
+#[derive(Clone, Copy, Debug)]
+struct NodeName(u8);
+
+impl fmt::Display for NodeName {
+    fn fmt<W: fmt::Write>(&self, f: &mut fmt::Formatter<W>) -> fmt::Result {
+        match self.0 {
+            255 => write!(f, "none"),
+            i => write!(f, "node {i}"),
+        }
     }
-    said(out, at, b"node ", i as u64, b"")
 }
 
-fn next_of(m: Machine, i: u8) -> u8 {
-    let k = i as usize;
-    if k < 64 {
-        let v = m.nodes[k];
-        return v.next;
+fn index_of(m: &Machine, i: u8) -> u64 {
+    match node_of(m, i) {
+        Some(v) => v.index,
+        None => 0,
     }
-    255
+}
+
+// The head line that the desk flushes and waits for.
+fn own_line(m: &Machine) -> &'static str {
+    if per_desk(m.shape()) {
+        "its head line"
+    } else {
+        "the line of Head"
+    }
 }
 
 // A6 and D2.
-fn next_read(out: &mut Output, at: usize, m: Machine, of: u8, step: u8) -> usize {
-    let first = said(out, at, b"next of node ", of as u64, b" read: ");
-    let second = node_or_none(out, first, next_of(m, of));
-    let third = put_all(out, second, b", on to ");
-    step_name(out, third, step)
-}
-
-fn a7(out: &mut Output, at: usize, b: Thread, th: Thread, after: Machine) -> usize {
-    if th.step == 0 {
-        return said(
-            out,
-            at,
-            b"the index of node ",
-            b.tail as u64,
-            b" is the largest: the node is free again",
-        );
-    }
-    said_both(
-        out,
-        at,
-        b"index of node ",
-        b.node as u64,
-        b" set to ",
-        index_of(after, b.node),
+fn next_read<W: fmt::Write>(
+    f: &mut fmt::Formatter<W>,
+    m: &Machine,
+    of: u8,
+    step: u8,
+) -> fmt::Result {
+    let next = match node_of(m, of) {
+        Some(v) => v.next,
+        None => 255,
+    };
+    write!(
+        f,
+        "next of node {of} read: {}, on to {}",
+        NodeName(next),
+        Step(step)
     )
 }
 
-fn a8(out: &mut Output, at: usize, b: Thread, th: Thread) -> usize {
-    if th.step == Machine::A9 {
-        return said_both(
-            out,
-            at,
-            b"node ",
-            b.node as u64,
-            b" becomes the next of node ",
-            b.tail as u64,
-        );
-    }
-    said(
-        out,
-        at,
-        b"next of node ",
-        b.tail as u64,
-        b" is no longer none, on to A12",
-    )
-}
-
-// A11 and A12: Tail becomes `to` if it is still `from`.
-fn tail_moves(out: &mut Output, at: usize, m: Machine, after: Machine, from: u8) -> usize {
+// A11 and A12: Tail becomes another node if it is still `from`.
+fn tail_moves<W: fmt::Write>(
+    f: &mut fmt::Formatter<W>,
+    m: &Machine,
+    after: &Machine,
+    from: u8,
+) -> fmt::Result {
     if m.tail == from {
-        return said(out, at, b"Tail becomes node ", after.tail as u64, b"");
+        return write!(f, "Tail becomes node {}", after.tail);
     }
-    said(
-        out,
-        at,
-        b"Tail is no longer node ",
-        from as u64,
-        b" and stays",
-    )
+    write!(f, "Tail is no longer node {from} and stays")
 }
 
-fn enqueue_deed(
-    out: &mut Output,
-    at: usize,
+fn a7<W: fmt::Write>(
+    f: &mut fmt::Formatter<W>,
     b: Thread,
     th: Thread,
-    m: Machine,
-    after: Machine,
-) -> usize {
-    let node = b.node as u64;
-    let step = b.step;
-    match step {
-        Machine::A1 => {
-            if th.step == 0 {
-                return put_all(out, at, b"no node is free");
-            }
-            said(out, at, b"takes node ", th.node as u64, b"")
-        }
-        Machine::A2 => said_both(out, at, b"item of node ", node, b" set to ", b.item as u64),
-        Machine::A3 => said(out, at, b"next of node ", node, b" set to none"),
-        Machine::A4 => said(out, at, b"linked of node ", node, b" set to 0"),
-        Machine::A5 => said(out, at, b"Tail read: node ", th.tail as u64, b""),
-        Machine::A6 => next_read(out, at, m, b.tail, th.step),
-        Machine::A7 => a7(out, at, b, th, after),
-        Machine::A8 => a8(out, at, b, th),
-        Machine::A9 => said(out, at, b"linked of node ", node, b" set to 1"),
-        Machine::A10 => said(out, at, b"the line of node ", node, b" is flushed"),
-        _ => tail_moves(out, at, m, after, b.tail),
+    after: &Machine,
+) -> fmt::Result {
+    if th.step == 0 {
+        return write!(
+            f,
+            "the index of node {} is the largest: the node is free again",
+            b.tail
+        );
+    }
+    write!(
+        f,
+        "index of node {} set to {}",
+        b.node,
+        index_of(after, b.node)
+    )
+}
+
+fn a8<W: fmt::Write>(f: &mut fmt::Formatter<W>, b: Thread, th: Thread) -> fmt::Result {
+    if th.step == Machine::A9 {
+        return write!(f, "node {} becomes the next of node {}", b.node, b.tail);
+    }
+    write!(f, "next of node {} is no longer none, on to A12", b.tail)
+}
+
+fn enqueue_deed<W: fmt::Write>(
+    f: &mut fmt::Formatter<W>,
+    d: Deed<'_>,
+    b: Thread,
+    th: Thread,
+) -> fmt::Result {
+    let node = b.node;
+    match b.step {
+        Machine::A1 if th.step == 0 => write!(f, "no node is free"),
+        Machine::A1 => write!(f, "takes node {}", th.node),
+        Machine::A2 => write!(f, "item of node {node} set to {}", b.item),
+        Machine::A3 => write!(f, "next of node {node} set to none"),
+        Machine::A4 => write!(f, "linked of node {node} set to 0"),
+        Machine::A5 => write!(f, "Tail read: node {}", th.tail),
+        Machine::A6 => next_read(f, d.before, b.tail, th.step),
+        Machine::A7 => a7(f, b, th, d.after),
+        Machine::A8 => a8(f, b, th),
+        Machine::A9 => write!(f, "linked of node {node} set to 1"),
+        Machine::A10 => write!(f, "the line of node {node} is flushed"),
+        _ => tail_moves(f, d.before, d.after, b.tail),
     }
 }
 
 // D1. Where each desk has a head line, Head is a node number alone.
-fn head_read(out: &mut Output, at: usize, th: Thread, m: Machine) -> usize {
-    let first = said(out, at, b"Head read: node ", th.head as u64, b"");
-    if per_desk(shape_of(m)) {
-        return first;
+fn d1<W: fmt::Write>(f: &mut fmt::Formatter<W>, th: Thread, m: &Machine) -> fmt::Result {
+    write!(f, "Head read: node {}", th.head)?;
+    if per_desk(m.shape()) {
+        return Ok(());
     }
-    said(out, first, b", index ", th.index, b"")
+    write!(f, ", index {}", th.index)
 }
 
-// D4 of "UQP".
-fn node_moves(out: &mut Output, at: usize, b: Thread, th: Thread) -> usize {
-    if th.step == Machine::D5 {
-        return said(out, at, b"Head becomes node ", b.next as u64, b"");
+// D4. Where each desk has a head line, what is read of Head is a node number alone.
+fn d4<W: fmt::Write>(
+    f: &mut fmt::Formatter<W>,
+    b: Thread,
+    th: Thread,
+    after: &Machine,
+) -> fmt::Result {
+    let alone = per_desk(after.shape());
+    if th.step != Machine::D5 {
+        let read = if alone { "node" } else { "pair" };
+        return write!(f, "Head is no longer the {read} read, back to D1");
     }
-    put_all(out, at, b"Head is no longer the node read, back to D1")
-}
-
-fn d4(out: &mut Output, at: usize, b: Thread, th: Thread, after: Machine) -> usize {
-    if per_desk(shape_of(after)) {
-        return node_moves(out, at, b, th);
+    write!(f, "Head becomes node {}", b.next)?;
+    if alone {
+        return Ok(());
     }
-    if th.step == Machine::D5 {
-        let head = cached_of(after, 0);
-        return said_both(
-            out,
-            at,
-            b"Head becomes node ",
-            b.next as u64,
-            b" with index ",
-            head.index,
-        );
-    }
-    put_all(out, at, b"Head is no longer the pair read, back to D1")
+    write!(f, " with index {}", cached_of(after, 0).index)
 }
 
 // S3 and S6: the index of node i.
-fn index_stored(out: &mut Output, at: usize, m: Machine, i: u8) -> usize {
-    let x = index_of(m, i);
-    said_both(
-        out,
-        at,
-        b"its head line set to index ",
-        x,
-        b", that of node ",
-        i as u64,
+fn index_stored<W: fmt::Write>(f: &mut fmt::Formatter<W>, m: &Machine, i: u8) -> fmt::Result {
+    write!(
+        f,
+        "its head line set to index {}, that of node {i}",
+        index_of(m, i)
     )
 }
 
-// The head line that the desk flushes and waits for.
-fn own_line(out: &mut Output, at: usize, m: Machine) -> usize {
-    if per_desk(shape_of(m)) {
-        return put_all(out, at, b"its head line");
+fn d7<W: fmt::Write>(f: &mut fmt::Formatter<W>, b: Thread) -> fmt::Result {
+    write!(f, "node {} is held", b.head)?;
+    match b.held {
+        255 => Ok(()),
+        held => write!(f, ", node {held}, held before, is retired"),
     }
-    put_all(out, at, b"the line of Head")
 }
 
-// D3 and D6.
-fn head_flushed(out: &mut Output, at: usize, m: Machine) -> usize {
-    let first = own_line(out, at, m);
-    put_all(out, first, b" is flushed")
-}
-
-fn d7(out: &mut Output, at: usize, b: Thread) -> usize {
-    let first = said(out, at, b"node ", b.head as u64, b" is held");
-    if b.held == 255 {
-        return first;
-    }
-    said(
-        out,
-        first,
-        b", node ",
-        b.held as u64,
-        b", held before, is retired",
-    )
-}
-
-fn dequeue_deed(
-    out: &mut Output,
-    at: usize,
+fn dequeue_deed<W: fmt::Write>(
+    f: &mut fmt::Formatter<W>,
+    d: Deed<'_>,
     b: Thread,
     th: Thread,
-    m: Machine,
-    after: Machine,
-) -> usize {
-    let step = b.step;
-    match step {
-        Machine::D1 => head_read(out, at, th, m),
-        Machine::D2 => next_read(out, at, m, b.head, th.step),
-        Machine::D4 => d4(out, at, b, th, after),
-        Machine::D5 => said_both(
-            out,
-            at,
-            b"item of node ",
-            b.next as u64,
-            b" read: ",
-            th.item as u64,
-        ),
-        Machine::D7 => d7(out, at, b),
-        Machine::S3 => index_stored(out, at, m, b.head),
-        Machine::S6 => index_stored(out, at, m, b.next),
-        _ => head_flushed(out, at, m),
+) -> fmt::Result {
+    match b.step {
+        Machine::D1 => d1(f, th, d.before),
+        Machine::D2 => next_read(f, d.before, b.head, th.step),
+        Machine::D4 => d4(f, b, th, d.after),
+        Machine::D5 => write!(f, "item of node {} read: {}", b.next, th.item),
+        Machine::D7 => d7(f, b),
+        Machine::S3 => index_stored(f, d.before, b.head),
+        Machine::S6 => index_stored(f, d.before, b.next),
+        _ => write!(f, "{} is flushed", own_line(d.before)),
     }
 }
 
 // F10, F3 and F6, of the line.
-fn fence_deed(out: &mut Output, at: usize, k: u8, b: Thread, m: Machine, line: u8) -> usize {
-    let first = put_all(out, at, b"waits at the fence: ");
-    if is_over(m, line, k) {
-        return put_all(
-            out,
-            first,
-            b"what is persisted is later than the flush and stays",
-        );
+fn fence_deed<W: fmt::Write>(
+    f: &mut fmt::Formatter<W>,
+    d: Deed<'_>,
+    b: Thread,
+    line: u8,
+) -> fmt::Result {
+    write!(f, "waits at the fence: ")?;
+    if is_over(d.before, line, d.desk) {
+        return write!(f, "what is persisted is later than the flush and stays");
     }
-    let mut second = first;
-    if b.step == Machine::F10 {
-        let next = said(out, first, b"the line of node ", b.node as u64, b"");
-        second = next;
-    } else {
-        let next = own_line(out, first, m);
-        second = next;
+    match b.step {
+        Machine::F10 => write!(f, "the line of node {}", b.node)?,
+        _ => write!(f, "{}", own_line(d.before))?,
     }
-    put_all(out, second, b" is persisted as it was at the flush")
+    write!(f, " is persisted as it was at the flush")
 }
 
-// What the step of thread k did.
-pub fn deed(out: &mut Output, at: usize, k: u8, m: Machine, after: Machine) -> usize {
-    let b = thread_of(m, k);
-    let th = thread_of(after, k);
-    let line = fence_line(shape_of(m), k, b);
-    if line < 255 {
-        return fence_deed(out, at, k, b, m, line);
+impl fmt::Display for Deed<'_> {
+    fn fmt<W: fmt::Write>(&self, f: &mut fmt::Formatter<W>) -> fmt::Result {
+        let b = thread_of(self.before, self.desk);
+        let th = thread_of(self.after, self.desk);
+        if let Some(line) = fence_line(self.before.shape(), self.desk, b) {
+            return fence_deed(f, *self, b, line);
+        }
+        if b.step <= Machine::A12 {
+            return enqueue_deed(f, *self, b, th);
+        }
+        dequeue_deed(f, *self, b, th)
     }
-    if b.step <= Machine::A12 {
-        return enqueue_deed(out, at, b, th, m, after);
-    }
-    dequeue_deed(out, at, b, th, m, after)
 }

@@ -1,153 +1,125 @@
 // A refusal: its row, or its sentence with what stands at its place.
+use crate::Telling;
 use crate::shapes::per_desk;
-use crate::text::{end, field, line_words, said};
-use answer::Told;
-use compare::text::{Output, put_all};
+use crate::text::{LineName, LineWords};
+use answer::{Refusal, told_of};
 use image::Shape;
 use machine::Event;
+use std::io::Write;
+use std::{fmt, io};
 
-// Whether a number refuses an event: its place is one.
-fn is_event(number: u8) -> bool {
-    if number == 19 {
-        return true;
-    }
-    9 <= number && number <= 13
+// Why the bytes, an event of them or what was asked of them is refused; the shape is that of the image, as far as the bytes say it.
+#[derive(Clone, Copy, Debug)]
+struct Reason {
+    why: Refusal,
+    event: Option<Event>,
+    shape: Shape,
 }
 
-fn kind_words(out: &mut Output, at: usize, kind: u8) -> usize {
-    match kind {
-        1 => put_all(out, at, b"begin an enqueue"),
-        2 => put_all(out, at, b"begin a dequeue"),
-        3 => put_all(out, at, b"take a step"),
-        4 => put_all(out, at, b"be written back"),
-        _ => put_all(out, at, b"crash"),
-    }
-}
+// What an event was to do.
+#[derive(Clone, Copy, Debug)]
+struct Wanted(Event);
 
-// 4: an image that holds the number of threads holds the schedule's.
-fn threads_words(out: &mut Output, at: usize, z: Shape) -> usize {
-    if per_desk(z) {
-        return put_all(
-            out,
-            at,
-            b"the number of threads is not 1 to 8, or the image has another than the schedule",
-        );
-    }
-    put_all(out, at, b"the number of threads is not 1 to 8")
-}
-
-// Refusals of the bytes: 1 to 8.
-fn bytes_words(out: &mut Output, at: usize, t: Told, z: Shape) -> usize {
-    let number = t.number;
-    match number {
-        1 => put_all(
-            out,
-            at,
-            b"the length is wrong: the bytes end too early, or go on behind the last event",
-        ),
-        2 => put_all(
-            out,
-            at,
-            b"mark or version is wrong: no schedule with an image that is read here",
-        ),
-        3 => put_all(out, at, b"the number of nodes is not 2 to 64"),
-        4 => threads_words(out, at, z),
-        5 => put_all(out, at, b"there are more than 4,096 events"),
-        6 => said(
-            out,
-            at,
-            b"the linked byte of node ",
-            t.place as u64,
-            b" is above 1",
-        ),
-        7 => said(
-            out,
-            at,
-            b"node ",
-            t.place as u64,
-            b" has a lower-numbered twin: two recovered nodes with one index",
-        ),
-        _ => put_all(
-            out,
-            at,
-            b"every node is recovered, none is left to be the dummy",
-        ),
-    }
-}
-
-// Refusals of event e: 9 to 13, and 19.
-fn event_words(out: &mut Output, at: usize, t: Told, e: Event) -> usize {
-    if t.number == 9 {
-        return said(
-            out,
-            at,
-            b"its kind is ",
-            e.kind as u64,
-            b", which is none that is known",
-        );
-    }
-    let mut place = at;
-    if e.kind == 4 {
-        let next = said(out, place, b"line ", e.number as u64, b" was to ");
-        place = next;
-    } else {
-        let next = said(out, place, b"desk ", e.number as u64, b" was to ");
-        place = next;
-    }
-    let asked = kind_words(out, place, e.kind);
-    let number = t.number;
-    match number {
-        10 => put_all(out, asked, b", but there is none of that number"),
-        11 => put_all(out, asked, b", but it still has an operation"),
-        12 => put_all(out, asked, b", but it has no operation"),
-        19 => put_all(
-            out,
-            asked,
-            b", but it is clean: its cached and persisted contents are equal",
-        ),
-        _ => put_all(out, asked, b", but a field that should be zero is not"),
-    }
-}
-
-fn refusal_words(out: &mut Output, at: usize, t: Told, e: Event, z: Shape) -> usize {
-    if t.number <= 8 {
-        return bytes_words(out, at, t, z);
-    }
-    if is_event(t.number) {
-        return event_words(out, at, t, e);
-    }
-    let number = t.number;
-    match number {
-        14 => {
-            let first = line_words(out, at, z, (t.place % 256) as u8);
-            put_all(out, first, b" has more than 16 contents")
+impl fmt::Display for Wanted {
+    fn fmt<W: fmt::Write>(&self, f: &mut fmt::Formatter<W>) -> fmt::Result {
+        let number = self.0.number;
+        match self.0.kind {
+            1 => write!(f, "desk {number} was to begin an enqueue"),
+            2 => write!(f, "desk {number} was to begin a dequeue"),
+            3 => write!(f, "desk {number} was to take a step"),
+            4 => write!(f, "line {number} was to be written back"),
+            _ => write!(f, "desk {number} was to crash"),
         }
-        15 => put_all(out, at, b"there are more than 65,536 endings"),
-        16 => put_all(out, at, b"there is no ending of that number"),
-        _ => put_all(out, at, b"a record is outside its ranges"),
     }
 }
 
-fn event_fields(out: &mut Output, at: usize, t: Told, e: Event) -> usize {
-    if is_event(t.number) {
-        let first = field(out, at, e.kind as u64);
-        let second = field(out, first, e.number as u64);
-        return field(out, second, e.item as u64);
+fn event_words<W: fmt::Write>(f: &mut fmt::Formatter<W>, why: Refusal, e: Event) -> fmt::Result {
+    let wanted = Wanted(e);
+    match why {
+        Refusal::Kind(_) => write!(f, "its kind is {}, which is none that is known", e.kind),
+        Refusal::Number(_) => write!(f, "{wanted}, but there is none of that number"),
+        Refusal::Busy(_) => write!(f, "{wanted}, but it still has an operation"),
+        Refusal::Idle(_) => write!(f, "{wanted}, but it has no operation"),
+        Refusal::Clean(_) => write!(
+            f,
+            "{wanted}, but it is clean: its cached and persisted contents are equal"
+        ),
+        _ => write!(f, "{wanted}, but a field that should be zero is not"),
     }
-    put_all(out, at, b"\t-\t-\t-")
 }
 
-// The last row, or the last line; z is the shape, as far as the bytes say it.
-pub fn refused(out: &mut Output, at: usize, columns: bool, t: Told, e: Event, z: Shape) -> usize {
-    if columns {
-        let first = put_all(out, at, b"refused");
-        let second = field(out, first, t.number as u64);
-        let third = field(out, second, t.place as u64);
-        let last = event_fields(out, third, t, e);
-        return end(out, last);
+fn bytes_words<W: fmt::Write>(f: &mut fmt::Formatter<W>, why: Refusal, z: Shape) -> fmt::Result {
+    match why {
+        Refusal::Length => write!(
+            f,
+            "the length is wrong: the bytes end too early, or go on behind the last event"
+        ),
+        Refusal::Mark => write!(
+            f,
+            "mark or version is wrong: no schedule with an image that is read here"
+        ),
+        Refusal::Nodes => write!(f, "the number of nodes is not 2 to 64"),
+        // An image that holds the number of threads holds the schedule's.
+        Refusal::Threads if per_desk(z) => write!(
+            f,
+            "the number of threads is not 1 to 8, or the image has another than the schedule"
+        ),
+        Refusal::Threads => write!(f, "the number of threads is not 1 to 8"),
+        Refusal::Events => write!(f, "there are more than 4,096 events"),
+        Refusal::Linked(i) => write!(f, "the linked byte of node {i} is above 1"),
+        Refusal::Twin(i) => write!(
+            f,
+            "node {i} has a lower-numbered twin: two recovered nodes with one index"
+        ),
+        Refusal::NoDummy => write!(f, "every node is recovered, none is left to be the dummy"),
+        _ => write!(f, "a record is outside its ranges"),
     }
-    let first = said(out, at, b"refused ", t.number as u64, b" at ");
-    let second = said(out, first, b"", t.place as u64, b": ");
-    let last = refusal_words(out, second, t, e, z);
-    end(out, last)
+}
+
+impl fmt::Display for Reason {
+    fn fmt<W: fmt::Write>(&self, f: &mut fmt::Formatter<W>) -> fmt::Result {
+        if let Some(e) = self.event {
+            return event_words(f, self.why, e);
+        }
+        match self.why {
+            Refusal::Contents(l) => {
+                let name = LineName {
+                    shape: self.shape,
+                    line: (l % 256) as u8,
+                };
+                write!(f, "{} has more than 16 contents", LineWords(name))
+            }
+            Refusal::Endings => write!(f, "there are more than 65,536 endings"),
+            Refusal::NoEnding => write!(f, "there is no ending of that number"),
+            _ => bytes_words(f, self.why, self.shape),
+        }
+    }
+}
+
+// The last row, or the last line: of an event where one is refused, whose number is then the place; z is the shape, as far as the bytes say it.
+pub fn refused<W: Write>(
+    t: &mut Telling<W>,
+    why: Refusal,
+    at: Option<(u16, Event)>,
+    z: Shape,
+) -> io::Result<()> {
+    let told = told_of(Err(why));
+    let (place, event) = match at {
+        Some((i, e)) => (i as u32, Some(e)),
+        None => (told.place, None),
+    };
+    let number = told.number;
+    if !t.columns {
+        let reason = Reason {
+            why,
+            event,
+            shape: z,
+        };
+        return writeln!(t.out, "refused {number} at {place}: {reason}");
+    }
+    write!(t.out, "refused\t{number}\t{place}")?;
+    match event {
+        Some(e) => writeln!(t.out, "\t{}\t{}\t{}", e.kind, e.number, e.item),
+        None => writeln!(t.out, "\t-\t-\t-"),
+    }
 }

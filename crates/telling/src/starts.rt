@@ -1,160 +1,141 @@
 // A start: the queue it gave, and what each line holds then.
-use crate::lines::{begun, cached_of, joined, kept_of, same};
-use crate::shapes::{head_index, line_total, shape_of};
-use crate::text::{content_fields, end, event_field, field, said};
-use compare::text::{Output, put, put_all, put_decimal};
-use image::{Content, Shape};
+use crate::Telling;
+use crate::lines::{cached_of, kept_of, node_of};
+use crate::shapes::{head_index, line_total};
+use crate::text::{At, Fields, Held};
 use machine::{Machine, Node};
+use std::io::Write;
+use std::{fmt, io};
 
-fn node_of(m: Machine, i: u8) -> Node {
-    let k = i as usize;
-    if k < 64 {
-        let v = m.nodes[k];
-        return v;
-    }
-    Node {
-        item: 0,
-        next: 255,
-        linked: 0,
-        index: 0,
-        waits: 0,
-    }
+// What a row says of the queue's nodes.
+#[derive(Clone, Copy, Debug)]
+pub enum Part {
+    Items,
+    Indices,
 }
 
-fn item_or_index(v: Node, items: bool) -> u64 {
-    if items {
-        return v.item as u64;
-    }
-    v.index
-}
-
-// The items of the queue, or their indices, apart by blanks, as the links run from the dummy on; - where there is none.
-pub fn queue(out: &mut Output, at: usize, m: Machine, items: bool) -> usize {
-    let mut place = at;
-    let mut i = m.head;
-    let mut turns: u8 = 0;
-    while turns < 64 {
-        let v = node_of(m, i);
-        i = v.next;
-        if i == 255 {
-            break;
+impl Part {
+    fn of(self, v: Node) -> u64 {
+        match self {
+            Part::Items => v.item as u64,
+            Part::Indices => v.index,
         }
-        let mut next = place;
-        if turns > 0 {
-            next = put(out, place, b' ');
-        }
-        let w = node_of(m, i);
-        place = put_decimal(out, next, item_or_index(w, items));
-        turns += 1;
     }
-    if turns == 0 {
-        return put(out, place, b'-');
-    }
-    place
 }
 
-// A content of a line: moment, line, place in its list.
-pub fn content_row(
-    out: &mut Output,
-    at: usize,
-    moment: usize,
-    z: Shape,
-    line: u8,
-    j: u8,
-    c: Content,
-) -> usize {
-    let first = put_all(out, at, b"content");
-    let second = event_field(out, first, moment);
-    let third = field(out, second, line as u64);
-    let fourth = field(out, third, j as u64);
-    let last = content_fields(out, fourth, z, line, c);
-    end(out, last)
+// The queue, apart by blanks, as the links run from the dummy on; - where there is none.
+#[derive(Clone, Copy, Debug)]
+pub struct Queue<'a> {
+    pub machine: &'a Machine,
+    pub part: Part,
+}
+
+impl fmt::Display for Queue<'_> {
+    fn fmt<W: fmt::Write>(&self, f: &mut fmt::Formatter<W>) -> fmt::Result {
+        let m = self.machine;
+        let Some(dummy) = node_of(m, m.head) else {
+            return write!(f, "-");
+        };
+        let mut i = dummy.next;
+        for turn in 0..64 {
+            let Some(v) = node_of(m, i) else {
+                return if turn == 0 { write!(f, "-") } else { Ok(()) };
+            };
+            if turn > 0 {
+                write!(f, " ")?;
+            }
+            write!(f, "{}", self.part.of(v))?;
+            i = v.next;
+        }
+        Ok(())
+    }
+}
+
+// A content of a line at an event: its place in the line's list.
+pub fn content_row<W: Write>(out: &mut W, at: Option<u16>, held: Held, j: usize) -> io::Result<()> {
+    writeln!(
+        out,
+        "content\t{}\t{}\t{j}\t{}",
+        At(at),
+        held.line,
+        Fields(held)
+    )
 }
 
 // What a line holds after a start: the persisted content, and the cached one where it is another.
-fn line_begun(
-    out: &mut Output,
-    at: usize,
-    columns: bool,
-    book: &mut [u64; 10328],
-    moment: usize,
+fn line_begun<W: Write>(
+    t: &mut Telling<W>,
+    at: Option<u16>,
     line: u8,
-    m: Machine,
-) -> usize {
-    let p = kept_of(m, line);
-    let c = cached_of(m, line);
-    begun(book, line, p);
-    let j = joined(book, line, c);
-    if !columns {
-        return at;
+    m: &Machine,
+) -> io::Result<()> {
+    let kept = kept_of(m, line);
+    let cached = cached_of(m, line);
+    t.book.begin(line, kept);
+    let j = t.book.join(line, cached);
+    if !t.columns {
+        return Ok(());
     }
-    let z = shape_of(m);
-    let place = content_row(out, at, moment, z, line, 0, p);
-    if same(p, c) {
-        return place;
+    let shape = m.shape();
+    content_row(
+        &mut t.out,
+        at,
+        Held {
+            shape,
+            line,
+            content: kept,
+        },
+        0,
+    )?;
+    if kept == cached {
+        return Ok(());
     }
-    content_row(out, place, moment, z, line, j, c)
-}
-
-fn lines_begun(
-    out: &mut Output,
-    at: usize,
-    columns: bool,
-    book: &mut [u64; 10328],
-    moment: usize,
-    m: Machine,
-    n: u8,
-) -> usize {
-    let mut place = at;
-    let mut line: u8 = 0;
-    while line < n {
-        let next = line_begun(out, place, columns, book, moment, line, m);
-        place = next;
-        line += 1;
-    }
-    place
+    content_row(
+        &mut t.out,
+        at,
+        Held {
+            shape,
+            line,
+            content: cached,
+        },
+        j,
+    )
 }
 
 // In words: the dummy, the head index, the queue.
-pub fn recovered(out: &mut Output, at: usize, m: Machine) -> usize {
-    let first = said(out, at, b"the dummy is node ", m.head as u64, b", ");
-    let second = said(out, first, b"head index ", head_index(m), b", queue ");
-    let last = queue(out, second, m, true);
-    end(out, last)
-}
-
-fn start_row(out: &mut Output, at: usize, columns: bool, moment: usize, m: Machine) -> usize {
-    if columns {
-        let first = put_all(out, at, b"start");
-        let second = event_field(out, first, moment);
-        let third = field(out, second, m.head as u64);
-        let fourth = put(out, third, b'\t');
-        let last = queue(out, fourth, m, true);
-        return end(out, last);
-    }
-    if moment == 0 {
-        let first = put_all(out, at, b"start: ");
-        return recovered(out, first, m);
-    }
-    let first = said(
+pub fn recovered<W: Write>(out: &mut W, m: &Machine) -> io::Result<()> {
+    let queue = Queue {
+        machine: m,
+        part: Part::Items,
+    };
+    writeln!(
         out,
-        at,
-        b"",
-        (moment - 1) as u64,
-        b"  crash, and recovery: ",
-    );
-    recovered(out, first, m)
+        "the dummy is node {}, head index {}, queue {queue}",
+        m.head,
+        head_index(m)
+    )
 }
 
-pub fn started(
-    out: &mut Output,
-    at: usize,
-    columns: bool,
-    book: &mut [u64; 10328],
-    moment: usize,
-    m: Machine,
-) -> usize {
-    let place = start_row(out, at, columns, moment, m);
-    let lines = line_total(shape_of(m));
-    lines_begun(out, place, columns, book, moment, m, lines)
+fn start_row<W: Write>(t: &mut Telling<W>, at: Option<u16>, m: &Machine) -> io::Result<()> {
+    if t.columns {
+        let queue = Queue {
+            machine: m,
+            part: Part::Items,
+        };
+        return writeln!(t.out, "start\t{}\t{}\t{queue}", At(at), m.head);
+    }
+    match at {
+        None => write!(t.out, "start: ")?,
+        Some(event) => write!(t.out, "{event}  crash, and recovery: ")?,
+    }
+    recovered(&mut t.out, m)
+}
+
+// A start at an event that is a crash, or before the first.
+pub fn started<W: Write>(t: &mut Telling<W>, at: Option<u16>, m: &Machine) -> io::Result<()> {
+    start_row(t, at, m)?;
+    for line in 0..line_total(m.shape()) {
+        line_begun(t, at, line, m)?;
+    }
+    Ok(())
 }
