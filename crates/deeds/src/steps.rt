@@ -21,7 +21,7 @@ struct NodeName(u8);
 impl fmt::Display for NodeName {
     fn fmt<W: fmt::Write>(&self, f: &mut fmt::Formatter<W>) -> fmt::Result {
         match self.0 {
-            255 => write!(f, "none"),
+            Machine::NONE => write!(f, "none"),
             i => write!(f, "node {i}"),
         }
     }
@@ -52,7 +52,7 @@ fn next_read<W: fmt::Write>(
 ) -> fmt::Result {
     let next = match node_of(m, of) {
         Some(v) => v.next,
-        None => 255,
+        None => Machine::NONE,
     };
     write!(
         f,
@@ -166,7 +166,7 @@ fn index_stored<W: fmt::Write>(f: &mut fmt::Formatter<W>, m: &Machine, i: u8) ->
 fn d7<W: fmt::Write>(f: &mut fmt::Formatter<W>, b: Thread) -> fmt::Result {
     write!(f, "node {} is held", b.head)?;
     match b.held {
-        255 => Ok(()),
+        Machine::NONE => Ok(()),
         held => write!(f, ", node {held}, held before, is retired"),
     }
 }
