@@ -67,25 +67,19 @@ pub fn is_in8(w: u8, i: u32) -> bool
     requires { i < 8 }
     ensures { result ≡ has w i }
 {
-    (w >> i) % 2 == 1
+    is_in(w as u64, i)
 }
 
 pub fn with_bit8(w: u8, i: u32) -> u8
     requires { i < 8 }
     ensures { result ≡ with w i }
 {
-    if is_in8(w, i) {
-        return w;
-    }
-    w + (1u8 << i)
+    with_bit(w as u64, i) as u8
 }
 
 pub fn without_bit8(w: u8, i: u32) -> u8
     requires { i < 8 }
     ensures { result ≡ without w i }
 {
-    if is_in8(w, i) {
-        return w - (1u8 << i);
-    }
-    w
+    without_bit(w as u64, i) as u8
 }

@@ -23,13 +23,9 @@ fn late_from(late: [u8; 8], t: u8, k: usize) -> [u8; 8]
     requires { (k < 8) × (t ≤ 8) }
     ensures { result ≡ late_from late k t }
 {
-    let n = t as usize;
     let mut r = late;
-    let mut u = 0;
-    while u < n {
-        let w = late_of(late[u], u, k);
-        r[u] = w;
-        u += 1;
+    for u in 0..t as usize {
+        r[u] = late_of(late[u], u, k);
     }
     r
 }
@@ -53,13 +49,9 @@ fn over_below(over: u8, late: u8, t: u8) -> u8
     requires { t ≤ 8 }
     ensures { result ≡ over_below over late t }
 {
-    let n = t as usize;
     let mut r = 0;
-    let mut u = 0;
-    while u < n {
-        let next = over_with(over, late, u, r);
-        r = next;
-        u += 1;
+    for u in 0..t as usize {
+        r = over_with(over, late, u, r);
     }
     r
 }
@@ -77,23 +69,14 @@ pub fn flush_line(m: Machine, k: usize, l: Line) -> Machine
         Line::OfHead(x) => {
             let h = x as usize;
             let w = bits::without_bit8(r.over_heads[h], k as u32);
-            r.flushed[k] = Content {
-                linked: 0,
-                index: r.heads[h],
-                item: 0,
-            };
+            r.flushed[k] = Content::of_head(r.heads[h]);
             r.over_heads[h] = w;
             r
         }
         Line::OfNode(x) => {
             let i = x as usize;
             let w = bits::without_bit8(r.over[i], k as u32);
-            let v = r.nodes[i];
-            r.flushed[k] = Content {
-                linked: v.linked,
-                index: v.index,
-                item: v.item,
-            };
+            r.flushed[k] = Content::from(r.nodes[i]);
             r.over[i] = w;
             r
         }

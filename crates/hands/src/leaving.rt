@@ -26,10 +26,8 @@ pub fn leave(m: Machine, k: usize, x: u8) -> Machine
     requires { (k < 8) × (m.n ≤ 64) }
     ensures { result ≡ left m k x }
 {
-    let n = m.n as usize;
     let mut r = m;
-    let mut i = 0;
-    while i < n {
+    for i in 0..m.n as usize {
         let mut v = r.nodes[i];
         let w = v.waits;
         let rest = bits::without_bit8(w, k as u32);
@@ -37,17 +35,7 @@ pub fn leave(m: Machine, k: usize, x: u8) -> Machine
         v.waits = rest;
         r.nodes[i] = v;
         r.free = f;
-        i += 1;
     }
-    r.threads[k] = Thread {
-        step: 0,
-        node: 255,
-        tail: 255,
-        head: 255,
-        index: 0,
-        next: 255,
-        item: 0,
-        held: x,
-    };
+    r.threads[k] = Thread::idle(x);
     r
 }

@@ -31,12 +31,7 @@ pub fn persist_line(m: Machine, l: Line) -> Machine
         }
         Line::OfNode(x) => {
             let i = x as usize;
-            let v = r.nodes[i];
-            r.kept[i] = Content {
-                linked: v.linked,
-                index: v.index,
-                item: v.item,
-            };
+            r.kept[i] = Content::from(r.nodes[i]);
             r.over[i] = all;
             r
         }

@@ -26,13 +26,9 @@ fn all_others(m: Machine, k: usize) -> u8
     requires { m.t ≤ 8 }
     ensures { result ≡ others m k }
 {
-    let n = m.t as usize;
     let mut w = 0;
-    let mut u = 0;
-    while u < n {
-        let next = join(m, k, u, w);
-        w = next;
-        u += 1;
+    for u in 0..m.t as usize {
+        w = join(m, k, u, w);
     }
     w
 }

@@ -1,15 +1,6 @@
-use Rattle.lists.proofs.WordLaws as laws
-use Rattle.lists.specs.Word.{with}
-use mathlib.Core.Path.{sym, ◌∙◌}
+use native.Mathlib.Omega.{arith}
+use Rattle.bits.proofs.SmallSets as laws
 use Rattle.bits.proofs.with_bit8.Goals as goal
 
-pub returns-then-is_in8 : goal.returns-then-is_in8
-unfolding with
-returns-then-is_in8 c = rw (sym c.is_in8.ensures ∙ c.if-is_in8.true)
-
-pub overflow_add-result : goal.overflow_add-result
-overflow_add-result c = record { fits = rw (laws.one_shifted 8 c.args.i c.requires) (laws.add_lt 8 c.args.w c.args.i c.requires c.ranges.w.fits (sym c.is_in8.ensures ∙ c.if-is_in8.false)) }
-
-pub returns : goal.returns
-unfolding with
-returns c = rw (laws.one_shifted 8 c.args.i c.requires, sym c.is_in8.ensures ∙ c.if-is_in8.false)
+pub overflow_cast-result : goal.overflow_cast-result
+overflow_cast-result c = record { fits = omega (arith, c.with_bit.ensures, laws.with_lt 8 c.args.w c.args.i c.requires c.ranges.w.fits) }

@@ -21,7 +21,7 @@ pub bounds-r-i-in-OfNode-2 : goal.bounds-r-i-in-OfNode-2
 bounds-r-i-in-OfNode-2 c = places.place_node _ _ c.in-OfNode.is c.requires.2
 
 pub returns-in-OfHead : goal.returns-in-OfHead
-returns-in-OfHead c = laws.flush_head c.args.m c.args.k _ _ _ _ c.in-OfHead.is c.late_from-late.ensures c.without_bit8-w.ensures
+returns-in-OfHead c = rw c.of_head.ensures (laws.flush_head c.args.m c.args.k _ _ _ _ c.in-OfHead.is c.late_from-late.ensures c.without_bit8-w.ensures)
 
 pub returns-in-OfNode : goal.returns-in-OfNode
-returns-in-OfNode c = laws.flush_node c.args.m c.args.k _ _ _ _ c.in-OfNode.is c.late_from-late.ensures c.without_bit8-w-in-OfNode.ensures
+returns-in-OfNode c = rw c.from.ensures (laws.flush_node c.args.m c.args.k _ _ _ _ c.in-OfNode.is c.late_from-late.ensures c.without_bit8-w-in-OfNode.ensures)

@@ -6,12 +6,9 @@ use borrow.Author.Rules.{rules}
 use Rattle.hands.proofs.flushing.late_from.Goals as goal
 
 pub loop-u-init : goal.loop-u-init
-loop-u-init c = (omega arith, laws.late_none _ _)
+loop-u-init c = laws.late_none _ _
 
 pub loop-u-preserved : goal.loop-u-preserved
 loop-u-preserved c =
     let n : length c.args.late ≡ 8 = search rules in
-    (omega arith, rw (c.late_of-w.ensures, c.loop-u.invariant.1) (laws.late_next c.args.late c.args.k c.loop-u.u (omega arith)))
-
-pub returns : goal.returns
-returns c = let e : c.loop-u.u ≡ c.args.t = omega arith in rw (c.loop-u.invariant.1, e)
+    rw (c.late_of.ensures, c.loop-u.invariant) (laws.late_next c.args.late c.args.k c.loop-u.u (omega arith))

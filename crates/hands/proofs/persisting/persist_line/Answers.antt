@@ -23,4 +23,4 @@ pub returns-in-OfHead : goal.returns-in-OfHead
 returns-in-OfHead c = laws.persist_head _ _ _ _ c.in-OfHead.is c.all_below-all.ensures
 
 pub returns-in-OfNode : goal.returns-in-OfNode
-returns-in-OfNode c = laws.persist_node _ _ _ _ c.in-OfNode.is c.all_below-all.ensures
+returns-in-OfNode c = rw c.from.ensures (laws.persist_node _ _ _ _ c.in-OfNode.is c.all_below-all.ensures)
