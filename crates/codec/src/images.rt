@@ -8,7 +8,7 @@ ghost use Rattle.codec.specs.Parts.{Lies};
 use crate::bytes::shape_in;
 use crate::lines::{heads_in, put_head};
 use crate::nodes::{nodes_in, put_nodes};
-use image::{Image, Shape};
+use image::Image;
 
 // What the bytes hold, where they are long enough.
 pub fn image_in(s: &[u8]) -> Image
@@ -32,13 +32,7 @@ pub fn put_image(b: &mut [u8], g: Image)
     requires { (known g.form ≡ true) × ((g.n ≤ 64) × ((head_lines (image_shape g) ≤ 8) × (image_size (image_shape g) ≤ length b.old))) }
     ensures { b.new ≡ over b.old 0 (image_bytes g) }
 {
-    let z = Shape {
-        form: g.form,
-        n: g.n,
-        t: g.t,
-    };
-    let heads = g.heads;
-    put_head(b, z, heads);
-    let nodes = g.nodes;
-    put_nodes(b, z, nodes);
+    let z = g.shape();
+    put_head(b, z, g.heads);
+    put_nodes(b, z, g.nodes);
 }
