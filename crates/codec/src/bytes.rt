@@ -93,6 +93,7 @@ pub fn put_index(b: &mut [u8], form: u8, at: usize, x: u64)
 }
 
 // Whether the bytes begin with these three letters and this version.
+// Each test has its own return: joined by && they are values that meet, and the proof is twice as long.
 pub fn is_marked(s: &[u8], x: u8, y: u8, z: u8, v: u8) -> bool
     requires { 5 ≤ length s.now }
     ensures { result ≡ marked x y z v s.now }
