@@ -4,4 +4,4 @@ use Rattle.calls.specs.Packed.{packed}
 use Rattle.imagecalls.proofs.import_desks.Goals as goal
 
 pub returns : goal.returns
-returns c = record { answers = c.packed_of.ensures ∙ ap (λ (t : Told). packed t 0) c.import_desks-one.ensures.answers; bytes = c.import_desks-one.ensures.bytes }
+returns c = record { answers = c.packed_answer.ensures ∙ ap (λ (t : Told). packed t 0) c.import_desks-one.ensures.answers; bytes = c.import_desks-one.ensures.bytes }
