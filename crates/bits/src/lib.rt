@@ -62,7 +62,7 @@ pub fn without_bit(w: u64, i: u32) -> u64
     w
 }
 
-// The same three for a set of numbers below 8.
+// The same three for a set of numbers below 8, a byte of the record: each is the one above, at a wider word.
 pub fn is_in8(w: u8, i: u32) -> bool
     requires { i < 8 }
     ensures { result ≡ has w i }

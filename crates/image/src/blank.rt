@@ -1,9 +1,8 @@
 // What stands where an image holds nothing.
 ghost use Rattle.std.specs.Prelude.{◌≡◌};
 ghost use Rattle.image.specs.Layout.{no_contents, no_heads};
-ghost use Rattle.image.specs.Refusals.{blank_image};
 
-use super::{Content, Image};
+use super::Content;
 
 // A table of contents that are all zero. Behind a contract, so that no goal has the 64 elements written out.
 pub fn no_contents() -> [Content; 64]
@@ -22,19 +21,4 @@ pub fn no_heads() -> [u64; 8]
     ensures { result ≡ no_heads }
 {
     [0; 8]
-}
-
-// What is handed back beside a refusal.
-pub fn blank_image() -> Image
-    ensures { result ≡ blank_image }
-{
-    let heads = no_heads();
-    let nodes = no_contents();
-    Image {
-        heads,
-        nodes,
-        form: 0,
-        n: 0,
-        t: 0,
-    }
 }

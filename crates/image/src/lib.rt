@@ -14,7 +14,7 @@ pub mod same;
 pub mod shapes;
 pub mod sound;
 
-pub use blank::{blank_image, no_contents, no_heads};
+pub use blank::{no_contents, no_heads};
 pub use form::{fitting_of, head_lines, is_known, place_of, size_of, top_of, width_of};
 pub use heads::{head_of, largest_of};
 pub use recovered::{dummy_of, is_recovered, recovered_in, startable_of};
@@ -30,7 +30,7 @@ pub struct Content {
     pub linked: u8,
 }
 
-// What fixes an image's layout and a machine's lines: the form (docs/DECISIONS.md), N, T.
+// What fixes an image's layout and a machine's lines: the form (docs/DECISIONS.md), N, T. The form is a byte and no enum: start_from answers 2 to one that is none.
 #[derive(Clone, Copy, Debug, PartialEq, Eq)]
 pub struct Shape {
     pub form: u8,
