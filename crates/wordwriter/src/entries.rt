@@ -14,6 +14,7 @@ use image::{Content, Image, Shape, head_lines};
 use schedule::Schedule;
 
 // Whether event j is a step like the one before it.
+#[tactic(auto, unfolding(spelling::specs::Writing::follows))]
 fn is_following(s: &[u8], z: Shape, j: usize) -> bool
     requires { (z ≡ schedule_shape s.now) × (known z.form ≡ true) × (event_place z j + 6 ≤ length s.now) }
     ensures { result ≡ follows s.now j }
@@ -22,14 +23,8 @@ fn is_following(s: &[u8], z: Shape, j: usize) -> bool
         return false;
     }
     let e = event_at(s, z, j);
-    if !is_step(e) {
-        return false;
-    }
     let f = event_at(s, z, j - 1);
-    if !is_step(f) {
-        return false;
-    }
-    e.number == f.number
+    is_step(e) && is_step(f) && e.number == f.number
 }
 
 // Where the run of steps that event j begins ends.
@@ -39,26 +34,18 @@ fn run_end(s: &[u8], z: Shape, count: usize, j: usize) -> usize
     ensures run { result ≡ run_end s.now j }
     ensures within { (j < result) × (result ≤ 4096) }
 {
-    let mut i = j + 1;
-    while i < count {
+    for i in j + 1..count {
         if !is_following(s, z, i) {
             return i;
         }
-        i += 1;
     }
-    i
+    count
 }
 
 fn is_blank(v: Content) -> bool
     ensures { result ≡ is_blank_node v }
 {
-    if v.linked != 0 {
-        return false;
-    }
-    if v.index != 0 {
-        return false;
-    }
-    v.item == 0
+    v.linked == 0 && v.index == 0 && v.item == 0
 }
 
 // Head line k.

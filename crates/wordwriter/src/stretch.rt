@@ -11,7 +11,7 @@ use printing::put;
 use schedule::Schedule;
 
 // How far it went: the first entry that is not written, and the place behind the last that is.
-#[derive(Clone, Copy)]
+#[derive(Clone, Copy, Debug, PartialEq, Eq)]
 pub struct Reach {
     pub next: usize,
     pub place: usize,
@@ -25,17 +25,14 @@ pub fn put_entries(s: &[u8], d: Schedule, from: usize, to: usize, b: &mut [u8]) 
     ensures bytes { b.new ≡ over b.old 0 (lines_on (entry_of s.now) from (result.next - from)) }
     ensures within { (from ≤ result.next) × (result.next ≤ to) }
 {
-    let mut k = from;
     let mut p = 0;
-    while k < to {
+    for k in from..to {
         let mut line = [0u8; 64];
         let n = put_entry(s, d, k, &mut line);
         if b.len() - p < n {
             return Reach { next: k, place: p };
         }
-        let q = put(b, p, &line[..n]);
-        p = q;
-        k += 1;
+        p = put(b, p, &line[..n]);
     }
-    Reach { next: k, place: p }
+    Reach { next: to, place: p }
 }

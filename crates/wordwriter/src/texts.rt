@@ -19,7 +19,7 @@ fn put_named(b: &mut [u8], at: usize, word: &[u8], x: u32) -> usize
     put_decimal(b, p, x as u64)
 }
 
-// The same with a number of up to 64 bits.
+// The same with a number of up to 64 bits, which needs room for twenty digits: not one function, since a node's line has 64 bytes with ten for its item alone.
 fn put_far(b: &mut [u8], at: usize, word: &[u8], x: u64) -> usize
     requires { (at ≤ 64) × (length word.now ≤ 64) × (at + length word.now + 20 ≤ length b.old) }
     ensures put { (result ≡ at + length (word.now ++ decimal x)) × (b.new ≡ over b.old at (word.now ++ decimal x)) }
@@ -59,15 +59,16 @@ pub fn put_nodes(b: &mut [u8], n: u8) -> usize
 }
 
 // T, which says in "UQP" that each desk has a head index.
+#[tactic(auto, unfolding(spelling::specs::Writing::threads_line, image::specs::Form::per_desk, lists::specs::Text::text))]
 pub fn put_threads(b: &mut [u8], form: u8, t: u8) -> usize
     requires { 64 ≤ length b.old }
     ensures put { (result ≡ length (threads_line form t)) × (b.new ≡ over b.old 0 (threads_line form t)) }
     ensures room { result ≤ 64 }
 {
-    if form == 4 {
-        return put_one(b, b"desks ", t as u32, b"\n");
+    match form {
+        4 => put_one(b, b"desks ", t as u32, b"\n"),
+        _ => put_one(b, b"threads ", t as u32, b"\n"),
     }
-    put_one(b, b"threads ", t as u32, b"\n")
 }
 
 // The version, unless it is 1; gives the place behind it.
@@ -108,15 +109,16 @@ fn put_named_head(b: &mut [u8], k: u32, h: u64) -> usize
 }
 
 // Head line k.
+#[tactic(auto, unfolding(spelling::specs::Writing::head_line, image::specs::Form::per_desk, lists::specs::Text::text))]
 pub fn put_head(b: &mut [u8], form: u8, k: u32, h: u64) -> usize
     requires { 64 ≤ length b.old }
     ensures put { (result ≡ length (head_line form k h)) × (b.new ≡ over b.old 0 (head_line form k h)) }
     ensures room { result ≤ 64 }
 {
-    if form == 4 {
-        return put_named_head(b, k, h);
+    match form {
+        4 => put_named_head(b, k, h),
+        _ => put_sole(b, form, h),
     }
-    put_sole(b, form, h)
 }
 
 // Node i with its content.
@@ -148,40 +150,23 @@ fn put_plain(b: &mut [u8], e: Event) -> usize
 pub fn is_step(e: Event) -> bool
     ensures { result ≡ is_step e }
 {
-    if e.kind != 3 {
-        return false;
-    }
-    e.item == 0
+    e.kind == 3 && e.item == 0
 }
 
 // r like events.
+#[tactic(auto, unfolding(spelling::specs::Writing::event_line, lists::specs::Text::text))]
 pub fn put_event(b: &mut [u8], e: Event, r: u32) -> usize
     requires { 64 ≤ length b.old }
     ensures put { (result ≡ length (event_line e r)) × (b.new ≡ over b.old 0 (event_line e r)) }
     ensures room { result ≤ 64 }
 {
-    let k = e.kind;
     let n = e.number as u32;
-    if k == 1 {
-        return put_two(b, n, b" enqueue ", e.item);
+    match e.kind {
+        1 => put_two(b, n, b" enqueue ", e.item),
+        2 if e.item == 0 => put_one(b, b"", n, b" dequeue\n"),
+        3 if e.item == 0 => put_two(b, n, b" step ", r),
+        4 if e.item == 0 => put_one(b, b"write-back ", n, b"\n"),
+        5 if e.number == 0 && e.item == 0 => put(b, 0, b"crash\n"),
+        _ => put_plain(b, e),
     }
-    if e.item != 0 {
-        return put_plain(b, e);
-    }
-    if k == 2 {
-        return put_one(b, b"", n, b" dequeue\n");
-    }
-    if k == 3 {
-        return put_two(b, n, b" step ", r);
-    }
-    if k == 4 {
-        return put_one(b, b"write-back ", n, b"\n");
-    }
-    if k != 5 {
-        return put_plain(b, e);
-    }
-    if n != 0 {
-        return put_plain(b, e);
-    }
-    put(b, 0, b"crash\n")
 }
