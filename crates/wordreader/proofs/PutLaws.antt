@@ -9,7 +9,7 @@ use native.Mathlib.Numerals.{add-one, add-two}
 use native.Mathlib.Nat.{zero-add, zero-mul}
 use native.Mathlib.Decide.{dec_lt, ℕ_discrete}
 use borrow.Author.Tests.{eq-eqb, ne_eqb, lt-ltb, le-ltb, le-leb, lt-leb}
-use lib.ListN.{length, set, take, drop, replicate, length-append, length-set, length-replicate, replicate-append-replicate}
+use lib.ListN.{length, set, take, drop, replicate, length-append, length-set, length-replicate}
 use lib.Seq.{drop-drop, set-append_left, sets}
 use borrow.Rule.Slice.PartMut.{put_mid}
 use Rattle.lists.specs.Tab.{joined, over}
@@ -136,16 +136,6 @@ put_part b ys zs at k e l h =
     ∙ ap (λ d. take at b ++ (zs ++ d)) (drop-drop k at b ∙ ap (λ m. drop (at + m) b) l)
     ∙ sym (append_assoc (take at b) zs (drop (at + length zs) b))
     ∙ sym (tabs.over_is b at zs h)
-
-pub zeros_none : (b : List ℕ) (at : ℕ) → b ≡ over b at (replicate 0 0)
-unfolding over
-zeros_none b at = refl
-
-pub zeros_next : (b : List ℕ) (at i : ℕ) → set (over b at (replicate i 0)) (at + i) 0 ≡ over b at (replicate (i + 1) 0)
-zeros_next b at i =
-    ap (λ n. set (over b at (replicate i 0)) (at + n) 0) (sym (length-replicate {A = ℕ} i 0))
-    ∙ written.byte_more b at (replicate i 0) 0
-    ∙ ap (over b at) (replicate-append-replicate {A = ℕ} i 1 0)
 
 rest_is : (v : Survey) → size_of v - head_start v.form 0 ≡ rest_of v
 rest_is v = let g = said_shape v in omega (arith, zero-mul (width_of v.form), forms.header_is g, forms.place_from g g.n)

@@ -27,50 +27,6 @@ use Rattle.codec.proofs.Accepted as acc
 use Rattle.spelling.proofs.PlaceLaws as places
 use Rattle.spelling.specs.Writing.{threads_line, version_line, head_line, node_line, event_line, image_form, heads_in, head_at, is_blank_node, is_step, follows, run_end, node_at, node_entry, event_entry, entry_of}
 
--- ---- an event's line
-
-never : (b : Bool) → pick b false false ≡ false
-never true = refl
-never false = refl
-
-module _ (e : Event) (r : ℕ) where
-  abbrev pub plain : List ℕ
-  plain = text "event " ++ decimal e.kind ++ text " " ++ decimal e.number ++ text " " ++ decimal e.item ++ newline
-
-  pub line_enqueue : e.kind ≡ 1 → event_line e r ≡ decimal e.number ++ text " enqueue " ++ decimal e.item ++ newline
-  unfolding event_line
-  line_enqueue k = rw (eq-eqb e.kind 1 k)
-
-  pub line_item : (e.kind ≡ 1 → ⊥) → (e.item ≡ 0 → ⊥) → event_line e r ≡ plain
-  unfolding event_line
-  line_item k v =
-      rw (ne_eqb e.kind 1 k, ne_eqb e.item 0 v, never (eqb e.kind 2), never (eqb e.kind 3), never (eqb e.kind 4), never (eqb e.number 0), never (eqb e.kind 5))
-
-  pub line_dequeue : e.kind ≡ 2 → e.item ≡ 0 → event_line e r ≡ decimal e.number ++ (text " dequeue" ++ newline)
-  unfolding event_line
-  line_dequeue k v = rw (k, v) (append_assoc (decimal e.number) (text " dequeue") newline)
-
-  pub line_step : e.kind ≡ 3 → e.item ≡ 0 → event_line e r ≡ decimal e.number ++ text " step " ++ decimal r ++ newline
-  unfolding event_line
-  line_step k v = rw (k, v)
-
-  pub line_write_back : e.kind ≡ 4 → e.item ≡ 0 → event_line e r ≡ text "write-back " ++ decimal e.number ++ newline
-  unfolding event_line
-  line_write_back k v = rw (k, v)
-
-  pub line_crash : e.kind ≡ 5 → e.item ≡ 0 → e.number ≡ 0 → event_line e r ≡ text "crash" ++ newline
-  unfolding event_line
-  line_crash k v n = rw (k, v, n)
-
-  pub line_odd : e.kind ≡ 5 → (e.number ≡ 0 → ⊥) → event_line e r ≡ plain
-  unfolding event_line
-  line_odd k n =
-      rw (ne_eqb e.number 0 n, eq-eqb e.kind 5 k, ne_eqb e.kind 1 (λ q. omega arith), ne_eqb e.kind 2 (λ q. omega arith), ne_eqb e.kind 3 (λ q. omega arith), ne_eqb e.kind 4 (λ q. omega arith))
-
-  pub line_other : (e.kind ≡ 1 → ⊥) → (e.kind ≡ 2 → ⊥) → (e.kind ≡ 3 → ⊥) → (e.kind ≡ 4 → ⊥) → (e.kind ≡ 5 → ⊥) → event_line e r ≡ plain
-  unfolding event_line
-  line_other a b c d f = rw (ne_eqb e.kind 1 a, ne_eqb e.kind 2 b, ne_eqb e.kind 3 c, ne_eqb e.kind 4 d, ne_eqb e.kind 5 f)
-
 -- ---- the version's line
 
 pub version_none : (f : ℕ) → f ≡ 1 → version_line f ≡ []
@@ -84,44 +40,6 @@ version_some f e = rw (ne_eqb f 1 e)
 -- the head's line behind it
 pub sole_line : (f x : ℕ) → version_line f ++ (text "head " ++ decimal x ++ newline) ≡ version_line f ++ (text "head " ++ decimal x) ++ newline
 sole_line f x = sym (append_assoc (version_line f) (text "head " ++ decimal x) newline)
-
--- ---- lines by the form
-
-pub head_desks : (f k x : ℕ) → f ≡ 4 → head_line f k x ≡ text "head " ++ decimal k ++ text " " ++ decimal x ++ newline
-unfolding head_line per_desk
-head_desks f k x e = rw e
-
-pub head_sole : (f k x : ℕ) → (f ≡ 4 → ⊥) → head_line f k x ≡ version_line f ++ (text "head " ++ decimal x ++ newline)
-unfolding head_line per_desk
-head_sole f k x e = rw (ne_eqb f 4 e)
-
-pub threads_desks : (f t : ℕ) → f ≡ 4 → threads_line f t ≡ text "desks " ++ decimal t ++ newline
-unfolding threads_line per_desk
-threads_desks f t e = rw e
-
-pub threads_plain : (f t : ℕ) → (f ≡ 4 → ⊥) → threads_line f t ≡ text "threads " ++ decimal t ++ newline
-unfolding threads_line per_desk
-threads_plain f t e = rw (ne_eqb f 4 e)
-
--- ---- whether an event follows
-
-module _ (s : List ℕ) (j : ℕ) where
-  pub follows_none : j ≡ 0 → false ≡ follows s j
-  unfolding follows
-  follows_none h = rw h
-
-  pub follows_no : 0 < j → is_step (event_in s j) ≡ false → false ≡ follows s j
-  unfolding follows
-  follows_no h e = rw (lt-ltb 0 j h, e)
-
-  pub follows_back : 0 < j → is_step (event_in s j) ≡ true → is_step (event_in s (j - 1)) ≡ false → false ≡ follows s j
-  unfolding follows
-  follows_back h e f = rw (lt-ltb 0 j h, e, f)
-
-  pub follows_last : 0 < j → is_step (event_in s j) ≡ true → is_step (event_in s (j - 1)) ≡ true
-      → eqb (event_in s j).number (event_in s (j - 1)).number ≡ follows s j
-  unfolding follows
-  follows_last h e f = rw (lt-ltb 0 j h, e, f)
 
 -- the event that the code reads, by the schedule's shape
 pub event_is : (s : List ℕ) (z : Shape) (j : ℕ) → z ≡ schedule_shape s → event_from s (event_place z j) ≡ event_in s j
