@@ -3,7 +3,7 @@ ghost use Rattle.std.specs.Prelude.{◌≡◌};
 ghost use Rattle.machine.specs.Event.{clean};
 ghost use Rattle.hands.specs.Places.{HasPlace};
 
-use image::{Content, is_same};
+use image::Content;
 use machine::{Line, Machine};
 
 pub fn is_clean(m: Machine, l: Line) -> bool
@@ -17,14 +17,7 @@ pub fn is_clean(m: Machine, l: Line) -> bool
         }
         Line::OfNode(x) => {
             let i = x as usize;
-            let v = m.nodes[i];
-            let cached = Content {
-                linked: v.linked,
-                index: v.index,
-                item: v.item,
-            };
-            let persisted = m.kept[i];
-            is_same(cached, persisted)
+            Content::from(m.nodes[i]) == m.kept[i]
         }
     }
 }

@@ -7,15 +7,15 @@ mod arms;
 mod clean;
 
 ghost use Rattle.std.specs.Prelude.{◌≡◌, length};
-ghost use Rattle.answer.specs.Answers.{told};
+ghost use Rattle.answer.specs.Answers.{told, given};
 ghost use Rattle.machine.specs.Event.{event_on};
 ghost use Rattle.machine.specs.Place.{count_places};
 ghost use Rattle.machine.specs.Saved.{save_answer, saved};
 ghost use Rattle.events.specs.Applied.{Applied};
 
-use answer::{Answer, Refusal, Reply};
+use answer::{Answer, Refusal};
 pub use arms::{act, kept_image};
-use machine::{Counted, Event, Machine, Out, Places};
+use machine::{Event, Machine, Out, Places};
 use range::in_range;
 
 // A single event. A refused one changes nothing.
@@ -30,9 +30,7 @@ pub fn on_event(m: Machine, e: Event) -> Out
         };
     }
     let r = act(0, m, e);
-    let answer = r.answer;
-    let machine = r.machine;
-    Out { answer, machine }
+    Out::from(r)
 }
 
 // The same on the record that the caller keeps. A refused event leaves it as it was.
@@ -52,32 +50,16 @@ pub fn save(m: Machine, b: &mut [u8]) -> Answer
     if !in_range(m) {
         return Err(Refusal::Record);
     }
-    let g = kept_image(m);
-    codec::write_image(g, b)
+    codec::write_image(kept_image(m), b)
 }
 
 // How many nodes are in each of the six places.
-pub fn count_places(m: Machine) -> Counted
-    ensures answers { told result.answer ≡ told (count_places m).answer }
-    ensures places { result.places ≡ (count_places m).places }
+pub fn count_places(m: Machine) -> Result<Places, Refusal>
+    ensures { result ≡ given (count_places m).answer (count_places m).places }
 {
-    if !in_range(m) {
-        let places = Places {
-            queue: 0,
-            free: 0,
-            waiting: 0,
-            held: 0,
-            enqueue: 0,
-            dequeue: 0,
-        };
-        return Counted {
-            answer: Err(Refusal::Record),
-            places,
-        };
-    }
-    let places = range::places_of(m);
-    Counted {
-        answer: Ok(Reply::Taken),
-        places,
+    if in_range(m) {
+        Ok(range::places_of(m))
+    } else {
+        Err(Refusal::Record)
     }
 }

@@ -5,6 +5,7 @@
 use answer::{Answer, Refusal};
 use image::{Content, Image, Shape, no_contents, no_heads};
 
+mod outcomes;
 pub mod blank;
 pub mod lines;
 pub mod queue;

@@ -1,5 +1,4 @@
 use mathlib.Core.Path.{sym, ap, ◌∙◌}
-use borrow.Author.Tests.{not-true, not-false}
 use lib.ListN.{length}
 use Rattle.answer.specs.Answers.{told}
 use Rattle.image.specs.Refusals.{write_answer, written}
@@ -8,7 +7,14 @@ use Rattle.events.proofs.ByAnswer as by
 use Rattle.events.proofs.save.Goals as goal
 
 pub returns-then-not-in_range : goal.returns-then-not-in_range
-returns-then-not-in_range c = let h = by.save_out c.args.m c.args.b.now (sym c.in_range.ensures ∙ not-true c.in_range.result c.if-not-in_range.true-raw) in record { answers = ap told (sym h.0); bytes = sym h.1 }
+returns-then-not-in_range c =
+    let h = by.save_out c.args.m c.args.b.now (sym c.in_range.ensures ∙ c.if-not-in_range.true) in
+    record { answers = ap told (sym h.0); bytes = sym h.1 }
 
 pub returns : goal.returns
-returns c = let h = by.save_in c.args.m c.args.b.now (sym c.in_range.ensures ∙ not-false c.in_range.result c.if-not-in_range.false-raw) in record { answers = rw h.0 (c.write_image.ensures.answers ∙ ap (λ (g : Image). told (write_answer g (length c.args.b.now))) c.kept_image-g.ensures); bytes = rw h.1 (c.write_image.ensures.bytes ∙ ap (λ (g : Image). written g c.args.b.now) c.kept_image-g.ensures) }
+returns c =
+    let h = by.save_in c.args.m c.args.b.now (sym c.in_range.ensures ∙ c.if-not-in_range.false) in
+    record {
+      answers = rw h.0 (c.write_image.ensures.answers ∙ ap (λ (g : Image). told (write_answer g (length c.args.b.now))) c.kept_image.ensures);
+      bytes = rw h.1 (c.write_image.ensures.bytes ∙ ap (λ (g : Image). written g c.args.b.now) c.kept_image.ensures);
+    }

@@ -14,7 +14,7 @@ use Rattle.machine.specs.declared.Machine.{Machine}
 use Rattle.steps.proofs.Own.{own_lines}
 use Rattle.image.specs.declared.Image.{Image}
 use Rattle.machine.specs.Event.{crashes}
-use Rattle.events.proofs.ByAnswer as by
+use Rattle.answer.proofs.Results.{gave, gave_none}
 use Rattle.range.proofs.InRange as range
 use Rattle.events.proofs.arms.crash.Goals as goal
 
@@ -25,23 +25,23 @@ startable-in m g h e =
     subst (λ (g : Image). (g.n ≤ 64) × (head_lines (image_shape g) ≤ 8)) (sym e) (s.nodes_high, omega (arith, own_lines m, lines_few (shape_of m) s.threads_high))
 
 pub returns-then-e-ne0 : goal.returns-then-e-ne0
-returns-then-e-ne0 c = by.refused c.args.p c.args.m c.args.e crashes (NotZero c.args.p) (rw (ne_eqb _ _ c.if-e-ne0.true)) refl
+returns-then-e-ne0 c = rw (ne_eqb _ _ c.if-e-ne0.true)
 
 pub returns-then-e-ne0-2 : goal.returns-then-e-ne0-2
-returns-then-e-ne0-2 c = by.refused c.args.p c.args.m c.args.e crashes (NotZero c.args.p) (rw (eq-eqb _ _ c.if-e-ne0.false, ne_eqb _ _ c.if-e-ne0-2.true)) refl
+returns-then-e-ne0-2 c = rw (eq-eqb _ _ c.if-e-ne0.false, ne_eqb _ _ c.if-e-ne0-2.true)
 
-pub startable_of-a-requires : goal.startable_of-a-requires
-startable_of-a-requires c = startable-in c.args.m _ c.requires c.kept_image-g.ensures
+pub startable_of-requires : goal.startable_of-requires
+startable_of-requires c = startable-in c.args.m _ c.requires c.kept_image-g.ensures
 
-pub returns-then-not-is_taken : goal.returns-then-not-is_taken
-returns-then-not-is_taken c =
-    let z = c.startable_of-a.ensures ∙ ap (λ (g : Image). startable g Taken) c.kept_image-g.ensures in
-    by.refused c.args.p c.args.m c.args.e crashes c.startable_of-a.result (rw (eq-eqb _ _ c.if-e-ne0.false, eq-eqb _ _ c.if-e-ne0-2.false) (sym z)) (sym c.is_taken.ensures ∙ not-true c.is_taken.result c.if-not-is_taken.true-raw)
+pub returns-in_err-startable_of : goal.returns-in_err-startable_of
+returns-in_err-startable_of c =
+    rw (eq-eqb _ _ c.if-e-ne0.false, eq-eqb _ _ c.if-e-ne0-2.false)
+    (gave_none _ (c.startable_of.ensures ∙ ap (λ (g : Image). startable g Taken) c.kept_image-g.ensures) c.in_err-startable_of.was c.from_residual.ensures.1)
 
 pub start-machine-requires : goal.start-machine-requires
 start-machine-requires c = startable-in c.args.m _ c.requires c.kept_image-g.ensures
 
 pub returns : goal.returns
 returns c =
-    let z = c.startable_of-a.ensures ∙ ap (λ (g : Image). startable g Taken) c.kept_image-g.ensures in
-    rw (c.start-machine.ensures, c.kept_image-g.ensures) (by.taken c.args.p c.args.m c.args.e crashes c.startable_of-a.result (rw (eq-eqb _ _ c.if-e-ne0.false, eq-eqb _ _ c.if-e-ne0-2.false) (sym z)) (sym c.is_taken.ensures ∙ not-false c.is_taken.result c.if-not-is_taken.false-raw))
+    rw (eq-eqb _ _ c.if-e-ne0.false, eq-eqb _ _ c.if-e-ne0-2.false, c.quiet.ensures, c.start-machine.ensures, c.kept_image-g.ensures)
+    (gave _ (c.startable_of.ensures ∙ ap (λ (g : Image). startable g Taken) c.kept_image-g.ensures) c.in_ok-startable_of.was)

@@ -3,7 +3,10 @@ use mathlib.Core.Path.{◌≡◌, refl, sym, ap, ◌∙◌}
 use mathlib.Core.Bool.{Bool, true, false}
 use lib.Dec.{eqb}
 use Rattle.lists.specs.Find.{both}
+use Rattle.machine.specs.Record.{kept}
+use Rattle.image.specs.declared.Content.{Content}
 use Rattle.image.specs.Layout.{same_content}
+use Rattle.image.proofs.EqualLaws.{equal_is}
 use Rattle.machine.specs.Line.{head_content}
 use Rattle.machine.specs.Event.{clean}
 use Rattle.hands.proofs.HandLaws as laws
@@ -34,4 +37,4 @@ pub returns-in-OfHead : goal.returns-in-OfHead
 returns-in-OfHead c = heads-same _ _ ∙ sym (ap (clean c.args.m) c.in-OfHead.is)
 
 pub returns-in-OfNode : goal.returns-in-OfNode
-returns-in-OfNode c = c.is_same.ensures ∙ sym (ap (clean c.args.m) c.in-OfNode.is)
+returns-in-OfNode c = c.eq.ensures ∙ equal_is c.from.result (kept c.args.m c.in-OfNode.x) ∙ ap (λ (v : Content). same_content v (kept c.args.m c.in-OfNode.x)) c.from.ensures ∙ sym (ap (clean c.args.m) c.in-OfNode.is)
