@@ -6,5 +6,3 @@ pub mod contents;
 pub mod items;
 pub mod output;
 pub mod sums;
-// For the crates of a run explained.
-pub mod text;
