@@ -23,8 +23,7 @@ use Rattle.machine.specs.declared.Touch.{Touch}
 use Rattle.machine.specs.declared.Machine.{Machine}
 use Rattle.machine.specs.declared.Event.{Event}
 use Rattle.schedule.specs.Run.{Bench, begins, goes_on, turned, forward, bench_at, and_before, run}
-use Rattle.endtable.specs.Touched.{touched_row}
-use Rattle.endtable.specs.declared.touched.Touched.{Touched}
+use Rattle.endtable.specs.Touched.{Touched, touched_row}
 use Rattle.endtable.specs.Opened.{opened_table, opened_counts}
 use Rattle.endtable.specs.Since.{since_after}
 use Rattle.endtable.specs.Tables.{over_line, table_after, counts_after}

@@ -1,7 +1,6 @@
 pub mod Digits
 pub mod Turns
 pub mod RowLaws
-pub mod TouchedLaws
 pub mod SinceRows
 pub mod Flushing
 pub mod SinceLaws

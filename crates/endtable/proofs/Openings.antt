@@ -6,12 +6,12 @@ use lib.ListN.{length, get_or, set, get_or-eq_default}
 use native.Mathlib.Omega.{arith}
 use Rattle.lists.specs.Tab.{front}
 use Rattle.lists.proofs.TabLaws as tabs
-use Rattle.image.specs.Layout.{no_contents, content_at, no_heads}
+use Rattle.image.specs.Layout.{no_content, no_contents, content_at, no_heads}
 use Rattle.image.specs.Form.{head_lines}
 use Rattle.image.specs.declared.Shape.{Shape}
 use Rattle.image.specs.declared.Content.{Content}
 use Rattle.machine.specs.Record.{zero_node, node, kept, head_at, kept_head, content_of}
-use Rattle.machine.specs.Line.{shape_of, head_content, line_at, cached_at}
+use Rattle.machine.specs.Line.{shape_of, head_content, line_at, cached_at, persisted_at}
 use Rattle.machine.specs.declared.Machine.{Machine}
 use Rattle.machine.specs.declared.Node.{Node}
 use Rattle.image.proofs.HeadLaws.{length_no_heads}
@@ -96,6 +96,15 @@ cached_head m l h = rw (line_head (shape_of m) l h)
 pub cached_node : (m : Machine) (l : ℕ) → head_lines (shape_of m) ≤ l → content_of (node m (l - head_lines (shape_of m))) ≡ cached_at m (line_at (shape_of m) l)
 cached_node m l h = rw (line_behind (shape_of m) l h)
 
+pub persisted_head : (m : Machine) (l : ℕ) → l < head_lines (shape_of m) → head_content (kept_head m l) ≡ persisted_at m (line_at (shape_of m) l)
+persisted_head m l h = rw (line_head (shape_of m) l h)
+
+pub persisted_node : (m : Machine) (l : ℕ) → head_lines (shape_of m) ≤ l → kept m (l - head_lines (shape_of m)) ≡ persisted_at m (line_at (shape_of m) l)
+persisted_node m l h = rw (line_behind (shape_of m) l h)
+
 -- beyond the nodes the line is blank
 pub held_none : (l : List Node) (i : ℕ) → length l ≤ i → head_content 0 ≡ content_of (get_or l i zero_node)
 held_none l i h = sym (ap content_of (get_or-eq_default l zero_node {n = i} h))
+
+pub kept_none : (l : List Content) (i : ℕ) → length l ≤ i → head_content 0 ≡ get_or l i no_content
+kept_none l i h = sym (get_or-eq_default l no_content {n = i} h)

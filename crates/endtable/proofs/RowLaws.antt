@@ -14,7 +14,8 @@ use Rattle.image.specs.Layout.{no_content, content_at, same_content}
 use Rattle.image.specs.declared.Content.{Content}
 use Rattle.page.specs.Contents.{joins}
 use Rattle.moments.specs.Seats.{is_at, seat_of}
-use Rattle.endtable.specs.Rows.{row_joined, count_joined, row_of}
+use Rattle.endtable.specs.Rows.{row_joined, count_joined, joined_row, row_of}
+use Rattle.endtable.specs.declared.row.Row.{Row}
 use Rattle.endtable.specs.Opened.{opened_row, opened_count}
 use Rattle.endtable.specs.Tables.{Held}
 use Rattle.moments.proofs.Joins as joined
@@ -59,6 +60,33 @@ module _ (row : List Content) (n : ℕ) (c : Content) where
   count_more : n ≤ 16 → n ≤ seat_of row n c → count_joined row n c ≡ n + 1
   unfolding count_joined
   count_more h p = rw (le-ltb 16 n h, le-ltb (seat_of row n c) n p)
+
+-- ---- the row and its count as one
+
+module _ (r : Row) (c : Content) where
+  pub joined_over : 16 < r.count → r ≡ joined_row r c false
+  unfolding joined_row
+  joined_over h = sym (rw (row_full r.at r.count c (omega arith), count_over r.at r.count c h))
+
+  -- the row has the content
+  pub joined_again : r.count ≤ 16 → seat_of r.at r.count c < r.count → r ≡ joined_row r c false
+  unfolding joined_row
+  joined_again h p = by (dec_lt r.count 16)
+    where
+      by : Dec (r.count < 16) → r ≡ record { count = count_joined r.at r.count c; at = row_joined r.at r.count c }
+      by (yes q) = sym (rw (row_again r.at r.count c q p, count_again r.at r.count c h p))
+      by (no q) = sym (rw (row_full r.at r.count c (omega arith), count_again r.at r.count c h p))
+
+  -- a new content, and there is room; or there is none
+  pub joined_new : r.count < 16 → r.count ≤ seat_of r.at r.count c → record { count = r.count + 1; at = set r.at r.count c } ≡ joined_row r c false
+  unfolding joined_row
+  joined_new h p =
+      let e : r.count ≡ seat_of r.at r.count c = omega (arith, seat_le r.at r.count c) in
+      sym (rw (row_set r.at r.count c h, count_more r.at r.count c (omega arith) p, ← e))
+
+  pub joined_more : r.count ≡ 16 → r.count ≤ seat_of r.at r.count c → record { count = r.count + 1; at = r.at } ≡ joined_row r c false
+  unfolding joined_row
+  joined_more h p = sym (rw (row_full r.at r.count c (omega arith), count_more r.at r.count c (omega arith) p))
 
 -- ---- what the row stands for after an event
 

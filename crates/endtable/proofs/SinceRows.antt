@@ -1,14 +1,15 @@
 -- #104: which line a thread is at its fence of, and the rows since the flushes as the code fills them.
-use Prim.Native.Nat.{ℕ, ◌+◌, ◌≤◌, ◌<◌}
+use Prim.Native.Nat.{ℕ, ◌+◌, ◌-◌, ◌≤◌, ◌<◌}
 use mathlib.Core.Path.{◌≡◌, refl, sym, ap, ◌∙◌}
 use mathlib.Core.Bool.{Bool, false}
-use mathlib.Core.List.{List, ◌++◌}
+use mathlib.Core.List.{List}
 use native.Mathlib.Omega.{arith}
-use lib.ListN.{length, get_or, set, drop, take-append-drop}
+use lib.ListN.{length, get_or, set, drop}
+use Rattle.std.proofs.lemmas.List.{get_or-append_right, get_or-drop}
+use lib.Seq.{set-get_or}
 use borrow.Author.Tests.{eq-eqb, ne_eqb, le-leb, lt-leb}
 use Rattle.lists.specs.Find.{pick}
-use Rattle.lists.specs.Tab.{front}
-use Rattle.lists.proofs.FindLaws as find
+use Rattle.lists.specs.Tab.{tab, front}
 use Rattle.lists.proofs.TabLaws as tabs
 use Rattle.image.specs.declared.Content.{Content}
 use Rattle.image.specs.declared.Shape.{Shape}
@@ -19,7 +20,7 @@ use Rattle.machine.specs.declared.Line.TheVariants.{OfHead as of_head, OfNode as
 use Rattle.machine.specs.declared.Thread.{Thread}
 use Rattle.moments.specs.Marked.{fence_line}
 use Rattle.endtable.specs.Rows.{no_row, joined_row}
-use Rattle.endtable.specs.Since.{no_since, fence_row, waits_at, first_waiting, stored_row, since_joined}
+use Rattle.endtable.specs.Since.{no_since, fence_row, stored_row, since_joined}
 use Rattle.endtable.specs.declared.row.Row.{Row}
 
 -- ---- the line that a thread is at its fence of
@@ -55,11 +56,12 @@ pub length_no_since : length no_since ≡ 8
 unfolding no_since
 length_no_since = refl
 
--- a list filled from itself
-own : (r : List Row) (n : ℕ) → n ≤ length r → front (λ k. get_or r k no_row) n r ≡ r
+-- what the first n of a list are filled with leaves the others
+front_rest : (f : ℕ → Row) (n i : ℕ) (l : List Row) → n ≤ i → get_or (front f n l) i no_row ≡ get_or l i no_row
 unfolding front
-own r n h =
-    ap (λ (a : List Row). a ++ drop n r) (tabs.tab_same (λ k. get_or r k no_row) (λ k. get_or r (0 + k) no_row) n (λ k q. ap (λ j. get_or r j no_row) (let z : k ≡ 0 + k = omega arith in z)) ∙ sym (tabs.take_drop_tab r no_row 0 n (omega arith))) ∙ take-append-drop n r
+front_rest f n i l h =
+    let e : n + (i - n) ≡ i = omega arith in
+    get_or-append_right (tab f n) (drop n l) n i no_row (tabs.length_tab f n) h ∙ get_or-drop n l (i - n) no_row ∙ ap (λ j. get_or l j no_row) e
 
 module _ (z : Shape) (ts : List Thread) (since : List Row) (l : ℕ) (c : Content) where
   pub joined_none : since ≡ since_joined z ts since l c 0
@@ -79,6 +81,23 @@ module _ (z : Shape) (ts : List Thread) (since : List Row) (l : ℕ) (c : Conten
   pub other_row : (k x : ℕ) → x ≡ fence_row z k (get_or ts k zero_thread) → (x ≡ l → ⊥) → get_or since k no_row ≡ stored_row z ts since l c k
   other_row k x e q = sym (ap (λ (b : Bool). pick b (joined_row (get_or since k no_row) c false) (get_or since k no_row)) (ne_eqb _ l (λ w. q (e ∙ w))))
 
+  -- the row of thread k is changed at k only
+  joined_rest : (k : ℕ) → k < length since → get_or (since_joined z ts since l c k) k no_row ≡ get_or since k no_row
+  unfolding since_joined
+  joined_rest k h = front_rest (stored_row z ts since l c) k k since (omega arith)
+
+  -- thread k waits at line l, or does not
+  pub joined_wait : (k x : ℕ) → length since ≡ 8 → k < 8 → x ≡ fence_row z k (get_or ts k zero_thread) → x ≡ l
+      → (r : Row) → r ≡ joined_row (get_or (since_joined z ts since l c k) k no_row) c false → set (since_joined z ts since l c k) k r ≡ since_joined z ts since l c (k + 1)
+  joined_wait k x e h q w r d =
+      joined_next k e h r (waits_row k x q w r (d ∙ ap (λ (y : Row). joined_row y c false) (joined_rest k (omega (arith, e)))))
+
+  pub joined_pass : (k x : ℕ) → length since ≡ 8 → k < 8 → x ≡ fence_row z k (get_or ts k zero_thread) → (x ≡ l → ⊥)
+      → since_joined z ts since l c k ≡ since_joined z ts since l c (k + 1)
+  joined_pass k x e h q w =
+      sym (set-get_or (since_joined z ts since l c k) k no_row)
+      ∙ joined_next k e h _ (joined_rest k (omega (arith, e)) ∙ other_row k x q w)
+
   pub joined_at : (k : ℕ) → k < 8 → get_or (since_joined z ts since l c 8) k no_row ≡ stored_row z ts since l c k
   unfolding since_joined
   joined_at k h = tabs.front_at (stored_row z ts since l c) 8 since k no_row h
@@ -86,11 +105,3 @@ module _ (z : Shape) (ts : List Thread) (since : List Row) (l : ℕ) (c : Conten
   pub joined_length : length since ≡ 8 → length (since_joined z ts since l c 8) ≡ 8
   unfolding since_joined
   joined_length e = tabs.front_size (stored_row z ts since l c) 8 since (omega (arith, e)) ∙ e
-
-  -- where no thread is, the rows stay
-  pub joined_still : length since ≡ 8 → 8 ≤ first_waiting z ts l → since ≡ since_joined z ts since l c 8
-  unfolding first_waiting since_joined
-  joined_still e h =
-      sym (tabs.front_same (stored_row z ts since l c) (λ k. get_or since k no_row) 8 since
-      (λ k p. ap (λ (b : Bool). pick b (joined_row (get_or since k no_row) c false) (get_or since k no_row)) (find.least_clear (waits_at z ts l) 8 0 (omega arith) k (omega arith) (omega arith)))
-      ∙ own since 8 (omega (arith, e)))

@@ -31,11 +31,10 @@ use Rattle.moments.specs.Marked.{Waits, FlushesBy, fence_line, since_of}
 use Rattle.moments.proofs.Waiting.{Came}
 use Rattle.moments.proofs.Known.{Known}
 use Rattle.endtable.specs.Rows.{no_row, joined_row, row_of}
-use Rattle.endtable.specs.Touched.{touched_row}
+use Rattle.endtable.specs.Touched.{Touched, touched_row}
 use Rattle.endtable.specs.Since.{fence_row, since_joined, since_after}
 use Rattle.endtable.specs.Benches.{Sinces}
 use Rattle.endtable.specs.declared.row.Row.{Row}
-use Rattle.endtable.specs.declared.touched.Touched.{Touched}
 use Rattle.endtable.proofs.SinceRows as filled
 use Rattle.endtable.proofs.SinceLaws.{Holds, since_held, since_still, since_begins}
 use Rattle.endtable.proofs.TableLaws.{not_stored}

@@ -25,9 +25,8 @@ use Rattle.schedule.specs.Run.{Bench, begins, goes_on}
 use Rattle.page.specs.Contents.{contents_of, table_of}
 use Rattle.machine.specs.declared.Touch.{Touch}
 use Rattle.machine.specs.declared.Touch.TheVariants.{Nothing as nothing, Store as a_store, Persist as a_persist, Flush as a_flush, Fence as a_fence}
-use Rattle.endtable.specs.declared.touched.Touched.{Touched}
 use Rattle.endtable.specs.Rows.{row_after, count_after, no_row}
-use Rattle.endtable.specs.Touched.{touched_row}
+use Rattle.endtable.specs.Touched.{Touched, touched_row}
 use Rattle.endtable.specs.Opened.{blank_table, blank_counts, line_opened, line_counted, opened_table, opened_counts}
 use Rattle.endtable.specs.Tables.{Held, Tables, over_line, table_after, counts_after}
 use Rattle.endtable.specs.Benches.{Sinces}

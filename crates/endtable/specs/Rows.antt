@@ -1,6 +1,7 @@
 -- A line's row in the table, and its count: up to sixteen contents, 17 standing for more.
 use Rattle.std.specs.Prelude.{ℕ, ◌+◌, Bool, true, false, List, [], set, replicate, ltb}
 use Rattle.lists.specs.Find.{pick}
+use Rattle.image.specs.Layout.{no_content}
 use Rattle.image.specs.declared.Content.{Content}
 use Rattle.moments.specs.Seats.{seat_of}
 use Rattle.endtable.specs.declared.row.Row.{Row}
@@ -22,6 +23,10 @@ count_after row n c true = 1
 count_after row n c false = count_joined row n c
 
 -- ---- both as one
+
+-- the row of no content
+unfoldable pub blank_row : Row
+blank_row = record { count = 0; at = replicate 16 no_content }
 
 abbrev pub no_row : Row
 no_row = record { count = 0; at = [] }

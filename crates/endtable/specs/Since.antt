@@ -11,9 +11,8 @@ use Rattle.machine.specs.Line.{number_of}
 use Rattle.machine.specs.declared.Thread.{Thread}
 use Rattle.moments.specs.Marked.{fence_line}
 use Rattle.endtable.specs.Rows.{no_row, joined_row, row_of}
-use Rattle.endtable.specs.Touched.{by_touch}
+use Rattle.endtable.specs.Touched.{Touched, by_touch}
 use Rattle.endtable.specs.declared.row.Row.{Row}
-use Rattle.endtable.specs.declared.touched.Touched.{Touched}
 
 unfoldable pub no_since : List Row
 no_since = replicate 8 (record { count = 0; at = replicate 16 no_content })

@@ -7,9 +7,8 @@ use Rattle.image.specs.declared.Content.{Content}
 use Rattle.machine.specs.Line.{shape_of, line_at, over_at}
 use Rattle.machine.specs.declared.Machine.{Machine}
 use Rattle.endtable.specs.Rows.{row_after, count_after, no_row}
-use Rattle.endtable.specs.Touched.{by_touch}
+use Rattle.endtable.specs.Touched.{Touched, by_touch}
 use Rattle.endtable.specs.declared.row.Row.{Row}
-use Rattle.endtable.specs.declared.touched.Touched.{Touched}
 
 -- a row and its count stand for the list l: its first sixteen contents, and how many they are, 17 where there are more
 pub record Held (row : List Content) (n : ℕ) (l : List Content) : Type 0 where

@@ -1,12 +1,16 @@
--- The row that a touch changes: the number of its line, 72 where there is none; the thread that flushes or fences it, 8 where none does; and whether the present
--- content is then the only one.
+-- The row that a touch changes.
 use Rattle.std.specs.Prelude.{ℕ, Bool, true, false, ltb}
 use Rattle.lists.specs.Find.{pick}
 use Rattle.image.specs.declared.Shape.{Shape}
 use Rattle.machine.specs.Line.{number_of}
 use Rattle.machine.specs.declared.Touch.{Touch}
 use Rattle.machine.specs.declared.Touch.TheVariants.{Nothing as nothing, Store as a_store, Persist as a_persist, Flush as a_flush, Fence as a_fence}
-use Rattle.endtable.specs.declared.touched.Touched.{Touched}
+
+-- the number of its line, 72 where there is none; the thread that flushes or fences it, 8 where none does; and whether the present content is then the only one
+pub record Touched : Type 0 where
+  pub line : ℕ
+  pub thread : ℕ
+  pub persisted : Bool
 
 abbrev pub touching : ℕ → ℕ → Bool → Touched
 touching l k p = record { line = l; thread = k; persisted = p }

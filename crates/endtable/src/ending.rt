@@ -14,14 +14,12 @@ pub fn first_crowded(counts: [u8; 72], lines: usize) -> usize
     requires { lines ≤ 72 }
     ensures { result ≡ crowded_at counts lines }
 {
-    let mut i = 0;
-    while i < lines {
+    for i in 0..lines {
         if 16 < counts[i] {
             return i;
         }
-        i += 1;
     }
-    i
+    lines
 }
 
 // How many endings there are; 65,537 stands for any number above 65,536, and the product stops there.
@@ -30,14 +28,12 @@ pub fn ending_count(counts: [u8; 72], lines: usize) -> u32
     ensures { result ≡ capped (prod counts lines) }
 {
     let mut p: u32 = 1;
-    let mut i = 0;
-    while i < lines {
+    for i in 0..lines {
         let c = counts[i] as u32;
         p = p * c;
         if Machine::ENDINGS < p {
             return 65537;
         }
-        i += 1;
     }
     p
 }
@@ -98,12 +94,10 @@ fn picked_heads(t: [[Content; 16]; 72], picks: [u8; 72], z: Shape) -> [u64; 8]
 {
     let lines = head_lines(z);
     let mut heads = no_heads();
-    let mut k = 0;
-    while k < lines {
+    for k in 0..lines {
         let j = picks[k] as usize;
         let c = t[k][j];
         heads[k] = c.index;
-        k += 1;
     }
     heads
 }
@@ -116,11 +110,9 @@ pub fn ending_image(t: [[Content; 16]; 72], picks: [u8; 72], z: Shape) -> Image
     let lines = head_lines(z);
     let mut nodes = no_contents();
     let count = z.n as usize;
-    let mut i = 0;
-    while i < count {
+    for i in 0..count {
         let j = picks[lines + i] as usize;
         nodes[i] = t[lines + i][j];
-        i += 1;
     }
     let heads = picked_heads(t, picks, z);
     let held = own_threads(z);

@@ -6,5 +6,4 @@ pub mod ending;
 pub mod opened;
 pub mod row;
 pub mod since;
-pub mod touched;
 pub mod turn;

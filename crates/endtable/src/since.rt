@@ -2,9 +2,9 @@
 // since its flush.
 ghost use Rattle.std.specs.Prelude.{◌≡◌, ℕ, ◌<◌, ◌≤◌};
 ghost use Rattle.image.specs.Form.{head_lines};
-ghost use Rattle.endtable.specs.Since.{fence_row, first_waiting, since_joined, no_since};
+ghost use Rattle.endtable.specs.Since.{fence_row, since_joined, no_since};
 
-use crate::row::{Row, row_joined};
+use crate::row::Row;
 use image::{Content, Shape, head_lines};
 use machine::Thread;
 
@@ -12,19 +12,10 @@ use machine::Thread;
 pub fn no_since() -> [Row; 8]
     ensures { result ≡ no_since }
 {
-    let zero = Content {
-        linked: 0,
-        index: 0,
-        item: 0,
-    };
-    let row = Row {
-        count: 0,
-        at: [zero; 16],
-    };
-    [row; 8]
+    [Row::blank(); 8]
 }
 
-// The number of the line that thread k, which is v, is at its fence of; 72 where it is at none. Its step says it.
+// The number of the line that thread k, which is v, is at its fence of; 72 where it is at none, as the definition fence_row counts. Its step says it.
 fn fence_row(z: Shape, k: usize, v: Thread) -> usize
     requires { head_lines z ≤ 8 }
     ensures { result ≡ fence_row z k v }
@@ -41,47 +32,14 @@ fn fence_row(z: Shape, k: usize, v: Thread) -> usize
     0
 }
 
-// The first thread that is at its fence of line l, and 8 where none is.
-pub fn first_waiting(z: Shape, threads: [Thread; 8], l: usize) -> usize
-    requires { head_lines z ≤ 8 }
-    ensures { result ≡ first_waiting z threads l }
-{
-    let mut k = 0;
-    while k < 8 {
-        let v = threads[k];
-        let at = fence_row(z, k, v);
-        if at == l {
-            return k;
-        }
-        k += 1;
-    }
-    k
-}
-
 // The rows since the flushes after a store that left line l with the content c.
-pub fn since_joined(
-    z: Shape,
-    threads: [Thread; 8],
-    since: [Row; 8],
-    l: usize,
-    c: Content,
-) -> [Row; 8]
+pub fn join_since(z: Shape, threads: &[Thread; 8], since: &mut [Row; 8], l: usize, c: Content)
     requires { head_lines z ≤ 8 }
-    ensures { result ≡ since_joined z threads since l c 8 }
+    ensures { since.new ≡ since_joined z threads.now since.old l c 8 }
 {
-    let mut r = since;
-    let mut k = 0;
-    while k < 8 {
-        let v = threads[k];
-        let at = fence_row(z, k, v);
-        let row = since[k];
-        if at == l {
-            r[k] = row_joined(row, c, false);
-            k += 1;
-            continue;
+    for k in 0..8 {
+        if fence_row(z, k, threads[k]) == l {
+            since[k] = since[k].joined(c, false);
         }
-        r[k] = row;
-        k += 1;
     }
-    r
 }

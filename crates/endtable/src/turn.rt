@@ -13,9 +13,7 @@ pub fn turned(counts: [u8; 72], z: Shape, picks: [u8; 72]) -> [u8; 72]
     ensures { result ≡ turned_of counts (line_count z) picks }
 {
     let mut p = picks;
-    let mut i = head_lines(z) + z.n as usize;
-    while 0 < i {
-        i -= 1;
+    for i in (0..head_lines(z) + z.n as usize).rev() {
         let d = p[i];
         if d < counts[i] - 1 {
             p[i] = d + 1;

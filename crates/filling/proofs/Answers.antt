@@ -1,6 +1,6 @@
 -- The answers of the calls that write lines, and what the lent buffer holds.
-use Prim.Native.Nat.{ℕ, zero, suc, ◌+◌, ◌-◌, ◌≤◌, ◌<◌}
-use mathlib.Core.Path.{◌≡◌, refl, sym, ap, subst, ◌∙◌}
+use Prim.Native.Nat.{ℕ, suc, ◌-◌, ◌≤◌, ◌<◌}
+use mathlib.Core.Path.{◌≡◌, refl, sym, ap, ap₂, ◌∙◌}
 use mathlib.Core.Bool.{true, false}
 use mathlib.Core.List.{List, []}
 use native.Mathlib.Omega.{arith}
@@ -9,13 +9,17 @@ use lib.Dec.{ltb}
 use borrow.Author.Tests.{lt-ltb, le-ltb}
 use Rattle.lists.specs.Tab.{over}
 use Rattle.lists.proofs.BoolLaws.{yes_of, no_of}
-use Rattle.answer.specs.Answers.{told, check, accepted, Answer, Taken, NoEnding, Room}
+use Rattle.std.specs.Prelude.{Result, Ok, Err}
+use Rattle.answer.specs.declared.Refusal.{Refusal}
+use Rattle.answer.specs.declared.Refusal.TheVariants as why
+use Rattle.answer.specs.Answers.{given, check, accepted, Answer, Taken, NoEnding, Room}
+use Rattle.answer.proofs.Results.{came_back}
 use Rattle.page.specs.Refusals.{page_answer, ending_count}
 use Rattle.page.specs.Filled.{lines_on, fitting, page_line, lines_left, lines_answer, lines_taken, lines_bytes, lines_written}
 use Rattle.printing.specs.Lines.{refused_text, if_fits}
 use Rattle.printing.proofs.Written.{Put}
 use Rattle.printing.proofs.Fittings as fits
-use Rattle.filling.specs.Lines.{refusal_answer, refusal_bytes, refusal_written}
+use Rattle.filling.specs.Lines.{lines_said, refusal_answer, refusal_bytes, refusal_written}
 use Rattle.filling.specs.declared.calls.Lines.{Lines}
 use Rattle.filling.proofs.Lined.{Lined}
 
@@ -51,53 +55,51 @@ pub bytes_none : (s : List ℕ) (k room : ℕ) → accepted (lines_answer s k ro
 unfolding lines_bytes
 bytes_none s k room h = ap (lines_on (page_line s) k) (taken_none s k room h) ∙ fits.on_none (page_line s) k
 
--- the call on a refusal, and where lines were written
-abbrev pub Said : List ℕ → ℕ → List ℕ → Answer → ℕ → ℕ → List ℕ → Type 0
-Said s k b a n p m =
-    (told a ≡ told (lines_answer s k (length b))) × ((n ≡ lines_taken s k (length b)) × ((p ≡ length (lines_bytes s k (length b))) × (m ≡ lines_written s k b)))
+-- the call's result, and what the lent buffer holds
+abbrev pub Said : List ℕ → ℕ → List ℕ → Result Lines Refusal → List ℕ → Type 0
+Said s k b r m = (r ≡ given (lines_answer s k (length b)) (lines_said s k (length b))) × (m ≡ lines_written s k b)
 
-pub said_none_lem : (s : List ℕ) (k : ℕ) (b : List ℕ) (a : Answer) (m : List ℕ) → a ≡ lines_answer s k (length b) → accepted a ≡ false → m ≡ b → Said s k b a 0 0 m
+-- on a refusal, and where lines were written
+pub said_none_lem : (s : List ℕ) (k : ℕ) (b : List ℕ) {r : Result Lines Refusal} (e : Refusal) (m : List ℕ) → r ≡ Err e → Err e ≡ lines_answer s k (length b) → m ≡ b → Said s k b r m
 unfolding lines_written over
-said_none_lem s k b a m e f g =
-    let r = ap accepted (sym e) ∙ f in
-    let y = bytes_none s k (length b) r in
-    (ap told e, (sym (taken_none s k (length b) r), (sym (ap length y), g ∙ ap (over b 0) (sym y))))
-
--- what a call answered with no lines
-pub said_as : (s : List ℕ) (k : ℕ) (b : List ℕ) (r : Lines) (m : List ℕ) {a : Answer} → r ≡ record { answer = a; lines = 0; bytes = 0 }
-    → Said s k b a 0 0 m → Said s k b r.answer r.lines r.bytes m
-said_as s k b r m e x = subst (λ (r : Lines). Said s k b r.answer r.lines r.bytes m) (sym e) x
+said_none_lem s k b e m is q g =
+    let y = bytes_none s k (length b) (came_back refl (sym q)) in
+    (is ∙ ap (λ (a : Answer). given a (lines_said s k (length b))) q, g ∙ ap (over b 0) (sym y))
 
 pub said_some : (s : List ℕ) (k : ℕ) (b m : List ℕ) (n p : ℕ) → Taken ≡ lines_answer s k (length b)
-    → Lined (page_line s) b 0 k (suc (ending_count s)) (length b) m n p → Said s k b Taken (n - k) p m
+    → Lined (page_line s) b 0 k (suc (ending_count s)) (length b) m n p → Said s k b (Ok (record { lines = n - k; bytes = p })) m
 unfolding lines_written lines_bytes lines_left
 said_some s k b m n p e x =
     let t : n - k ≡ lines_taken s k (length b) = omega (arith, x.0, taken_some s k (length b) (ap accepted (sym e))) in
     let l = ap (lines_on (page_line s) k) t in
-    (ap told e, (t, (omega (arith, x.1.0, ap length l), x.1.1 ∙ ap (over b 0) l)))
+    let c : p ≡ length (lines_on (page_line s) k (lines_taken s k (length b))) = omega (arith, x.1.0, ap length l) in (
+      ap Ok (ap₂ (λ (i j : ℕ). record { lines = i; bytes = j }) t c) ∙ ap (λ (a : Answer). given a (lines_said s k (length b))) e,
+      x.1.1 ∙ ap (over b 0) l,
+    )
 
 -- ---- the line of a refusal
 
 module _ (n p : ℕ) (b : List ℕ) {m : List ℕ} {q : ℕ} (x : Put b 0 (if_fits (length b - 0) (refused_text n p)) m q) where
-  abbrev Line : Answer → ℕ → Type 0
-  Line a c = (told a ≡ told (refusal_answer n p (length b))) × ((c ≡ length (refusal_bytes n p (length b))) × (m ≡ refusal_written n p b))
+  abbrev Line : Result ℕ Refusal → Type 0
+  Line r = (r ≡ given (refusal_answer n p (length b)) (length (refusal_bytes n p (length b)))) × (m ≡ refusal_written n p b)
 
   same : if_fits (length b - 0) (refused_text n p) ≡ refusal_bytes n p (length b)
   unfolding refusal_bytes
   same = let e : length b - 0 ≡ length b = omega arith in ap (λ r. if_fits r (refused_text n p)) e
 
-  said : (c : ℕ) → c ≡ q → (c ≡ length (refusal_bytes n p (length b))) × (m ≡ refusal_written n p b)
+  written : m ≡ refusal_written n p b
   unfolding refusal_written
-  said c e = (omega (arith, x.0, ap length same), x.1 ∙ ap (over b 0) same)
+  written = x.1 ∙ ap (over b 0) same
 
-  pub refusal_room : 0 < length (refused_text n p) → q ≡ 0 → Line Room 0
+  pub refusal_room : 0 < length (refused_text n p) → q ≡ 0 → Line (Err why.Room)
   unfolding refusal_answer
   refusal_room h e =
       let l = fits.put_left b 0 (length b - 0) (refused_text n p) x e h in
-      (rw (lt-ltb (length b) (length (refused_text n p)) (omega (arith, l.0))), said 0 (sym e))
+      (rw (lt-ltb (length b) (length (refused_text n p)) (omega (arith, l.0))), written)
 
-  pub refusal_taken : (q ≡ 0 → ⊥) → Line Taken q
+  pub refusal_taken : (q ≡ 0 → ⊥) → Line (Ok q)
   unfolding refusal_answer
   refusal_taken e =
       let l = fits.put_taken b 0 (length b - 0) (refused_text n p) x e in
-      (rw (le-ltb (length b) (length (refused_text n p)) (omega (arith, l.0))), said q refl)
+      let c : q ≡ length (refusal_bytes n p (length b)) = omega (arith, x.0, ap length same) in
+      (rw (le-ltb (length b) (length (refused_text n p)) (omega (arith, l.0))) (ap Ok c), written)

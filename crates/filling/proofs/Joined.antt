@@ -1,22 +1,19 @@
 -- All lines of a page are the page, and so are the pieces that lent buffers take one after the other. A refused page is its refusal's line.
 use Prim.Native.Nat.{ℕ, zero, suc, ◌+◌, ◌-◌, ◌≤◌, ◌<◌}
-use mathlib.Core.Path.{◌≡◌, refl, sym, ap, ap₂, ◌∙◌}
+use mathlib.Core.Path.{◌≡◌, sym, ap, ◌∙◌}
 use mathlib.Core.Bool.{true, false}
 use mathlib.Core.List.{List, [], ◌++◌}
 use native.Mathlib.Omega.{arith}
 use native.Mathlib.Decide.{dec_lt}
-use native.Mathlib.Nat.{add-zero}
 use lib.ListN.{length, get_or}
 use Rattle.answer.specs.Answers.{told, accepted}
 use Rattle.image.specs.declared.Image.{Image}
 use Rattle.image.specs.declared.Shape.{Shape}
-use Rattle.machine.specs.declared.Machine.{Machine}
 use Rattle.schedule.specs.Layout.{threads_in, nodes_in, count_in, schedule_shape}
-use Rattle.schedule.specs.Run.{Bench, Ran, ran}
-use Rattle.page.specs.Endings.{endings, ending, image_of, product}
+use Rattle.page.specs.Endings.{endings, ending, image_of}
 use Rattle.page.specs.Printed.{first_line, ending_line, lines_from, refused_line, printed}
 use Rattle.page.specs.Refusals.{table_in, page_answer, ending_count, ending_in}
-use Rattle.page.specs.Filled.{lines_on, fitting, page_line, lines_left, lines_answer, lines_taken, lines_bytes}
+use Rattle.page.specs.Filled.{lines_on, page_line, lines_left, lines_taken, lines_bytes}
 use Rattle.lawful.specs.Demand3.{Bytes}
 use Rattle.printing.specs.Bounds.{line_room}
 use Rattle.printing.specs.Lines.{refused_text}

@@ -1,5 +1,5 @@
 -- A page that is not refused: its numbers, as the code reads them.
-use Prim.Native.Nat.{ℕ, ◌+◌, ◌≤◌}
+use Prim.Native.Nat.{ℕ, ◌≤◌}
 use mathlib.Core.Path.{◌≡◌, refl, sym, ap, subst, ◌∙◌}
 use mathlib.Core.Bool.{Bool, true, false}
 use mathlib.Core.List.{List}
@@ -7,7 +7,7 @@ use native.Mathlib.Omega.{arith}
 use lib.ListN.{length}
 use lib.Dec.{ltb}
 use borrow.Author.Tests.{ltb-false}
-use Rattle.answer.specs.Answers.{accepted, Answer, Contents, Endings, Taken}
+use Rattle.answer.specs.Answers.{accepted, Contents, Endings, Taken}
 use Rattle.image.specs.Layout.{shape_in, image_in}
 use Rattle.image.specs.declared.Shape.{Shape}
 use Rattle.machine.specs.Line.{shape_of, line_count}
@@ -15,10 +15,9 @@ use Rattle.image.specs.declared.Content.{Content}
 use Rattle.machine.specs.Start.{start_of, start_with}
 use Rattle.machine.specs.declared.Machine.{Machine}
 use Rattle.image.proofs.ShapeLaws as shapes
-use Rattle.schedule.specs.Layout.{schedule_answer, schedule_in, read_schedule, threads_in, count_in, nodes_in, events_in, schedule_shape}
-use Rattle.schedule.specs.Run.{Bench, Ran, ran, begins}
+use Rattle.schedule.specs.Layout.{schedule_answer, schedule_in, threads_in, count_in, nodes_in, events_in, schedule_shape}
+use Rattle.schedule.specs.Run.{ran, begins}
 use Rattle.schedule.specs.declared.Schedule.{Schedule}
-use Rattle.schedule.specs.Layout.{Opened}
 use Rattle.page.specs.Endings.{product}
 use Rattle.page.specs.Refusals.{table_in, table_answer, page_answer, ending_count, first_crowded}
 use Rattle.endtable.specs.Picks.{prod, capped}
@@ -26,7 +25,7 @@ use Rattle.codec.proofs.Accepted as codec
 use Rattle.pageproof.proofs.Runs as runs
 use Rattle.pageproof.proofs.Holds as holds
 use Rattle.runs.specs.Rows.{counts_of}
-use Rattle.runs.specs.Paged.{PageIs}
+use Rattle.runs.specs.Paged.{PageTaken}
 use Rattle.runs.specs.declared.running.Run.{Run}
 use Rattle.runs.proofs.PageLaws as laws
 
@@ -51,17 +50,13 @@ unfolding ending_count
 count_few s h = limit (table_in s) (ap accepted (laws.page_table s (schedule_first s h) (holds.page_ran s h)) ∙ h)
 
 -- T and the event count
-pub opened_numbers : (s : List ℕ) (o : Opened) → o ≡ read_schedule s → accepted (schedule_answer s) ≡ true
-    → (o.schedule.t ≡ threads_in s) × (o.schedule.count ≡ count_in s)
+pub opened_numbers : (s : List ℕ) (d : Schedule) → d ≡ schedule_in s → (d.t ≡ threads_in s) × (d.count ≡ count_in s)
 unfolding schedule_in
-opened_numbers s o e h =
-    let d : o.schedule ≡ schedule_in s = ap (λ (x : Opened). x.schedule) e ∙ codec.opened_schedule s h in
-    (ap (λ (x : Schedule). x.t) d, ap (λ (x : Schedule). x.count) d)
+opened_numbers s d e = (ap (λ (x : Schedule). x.t) e, ap (λ (x : Schedule). x.count) e)
 
-pub opened_limits : (s : List ℕ) (o : Opened) → o ≡ read_schedule s → accepted (schedule_answer s) ≡ true
-    → (o.schedule.t ≤ 8) × (o.schedule.count ≤ 4096)
-opened_limits s o e h =
-    let n = opened_numbers s o e h in
+pub opened_limits : (s : List ℕ) (d : Schedule) → d ≡ schedule_in s → accepted (schedule_answer s) ≡ true → (d.t ≤ 8) × (d.count ≤ 4096)
+opened_limits s d e h =
+    let n = opened_numbers s d e in
     let k = codec.schedule_taken s h in
     (omega (arith, n.0, (shapes.threads_range (threads_in s) k.threads).1), omega (arith, n.1, k.count))
 
@@ -81,16 +76,16 @@ ran_shape s h =
 pub ran_nodes : (s : List ℕ) → accepted (ran s).answer ≡ true → (ran s).bench.machine.n ≡ nodes_in s
 ran_nodes s h = ap (λ (z : Shape). z.n) (ran_shape s h)
 
-module _ (s : List ℕ) (r : Run) (p : PageIs s r) (a : accepted r.answer ≡ true) where
+module _ (s : List ℕ) (r : Run) (p : PageTaken s r) where
   pub page_yes : accepted (page_answer s) ≡ true
-  page_yes = subst (λ (x : Answer). accepted x ≡ true) p.answer a
+  page_yes = laws.page_yes s r p
 
   pub schedule_yes : accepted (schedule_answer s) ≡ true
   schedule_yes = schedule_first s page_yes
 
   pub count_limit : capped (prod (counts_of r.rows) (line_count (shape_of r.machine))) ≤ 65536
   unfolding ending_count
-  count_limit = subst (λ (x : ℕ). x ≤ 65536) (sym (laws.page_count s r p a)) (limit (table_in s) (p.taken a).limits)
+  count_limit = subst (λ (x : ℕ). x ≤ 65536) (sym (laws.page_count s r p)) (limit (table_in s) p.limits)
 
   pub page_nodes : r.machine.n ≡ nodes_in s
-  page_nodes = ap (λ (x : Machine). x.n) (p.taken a).machine ∙ ran_nodes s (holds.page_ran s page_yes)
+  page_nodes = ap (λ (x : Machine). x.n) p.machine ∙ ran_nodes s (holds.page_ran s page_yes)

@@ -1,28 +1,26 @@
 -- The lines of the code's table are the lines of the page.
 use Prim.Native.Nat.{ℕ, zero, suc, ◌+◌, ◌<◌}
-use mathlib.Core.Path.{◌≡◌, sym, ap, ap₂, subst, ◌∙◌}
-use mathlib.Core.Bool.{Bool, true}
+use mathlib.Core.Path.{◌≡◌, ap, ap₂, subst, ◌∙◌}
 use mathlib.Core.List.{List}
 use native.Mathlib.Omega.{arith}
 use native.Mathlib.Numerals.{add-one}
-use Rattle.answer.specs.Answers.{accepted}
 use Rattle.image.specs.declared.Content.{Content}
 use Rattle.machine.specs.Line.{shape_of}
-use Rattle.schedule.specs.Layout.{threads_in, count_in, nodes_in}
+use Rattle.schedule.specs.Layout.{threads_in, count_in}
 use Rattle.page.specs.Printed.{first_line, ending_line}
-use Rattle.page.specs.Refusals.{ending_count, ending_in}
+use Rattle.page.specs.Refusals.{ending_count}
 use Rattle.page.specs.Filled.{page_line}
 use Rattle.endtable.specs.Picks.{ending_from}
 use Rattle.printing.specs.Lines.{line_from}
 use Rattle.runs.specs.Rows.{ats_of, counts_of}
-use Rattle.runs.specs.Paged.{PageIs}
+use Rattle.runs.specs.Paged.{PageTaken}
 use Rattle.runs.specs.declared.running.Run.{Run}
 use Rattle.runs.proofs.PageLaws as laws
 use Rattle.filling.specs.Lines.{table_line}
 use Rattle.filling.proofs.Lined.{Lined, lined_same}
 use Rattle.filling.proofs.Numbers as numbers
 
-module _ (s : List ℕ) (r : Run) (p : PageIs s r) (a : accepted r.answer ≡ true) where
+module _ (s : List ℕ) (r : Run) (p : PageTaken s r) where
   abbrev t : List (List Content)
   t = ats_of r.rows
 
@@ -31,9 +29,9 @@ module _ (s : List ℕ) (r : Run) (p : PageIs s r) (a : accepted r.answer ≡ tr
 
   pub line_is : (i : ℕ) → i < suc (ending_count s) → table_line t cs (shape_of r.machine) (threads_in s) (count_in s) (ending_count s) i ≡ page_line s i
   unfolding table_line page_line line_from ending_from
-  line_is zero h = ap (λ (n : ℕ). first_line (threads_in s) n (count_in s) (ending_count s)) (numbers.page_nodes s r p a)
+  line_is zero h = ap (λ (n : ℕ). first_line (threads_in s) n (count_in s) (ending_count s)) (numbers.page_nodes s r p)
   line_is (suc k) h =
-      ap (ending_line k) (laws.page_ending s r p a k (omega arith))
+      ap (ending_line k) (laws.page_ending s r p k (omega arith))
 
   pub page_lined : (t' : List (List Content)) (cs' : List ℕ) (threads events count : ℕ)
       → t' ≡ t → cs' ≡ cs → threads ≡ threads_in s → events ≡ count_in s → count ≡ ending_count s

@@ -5,25 +5,18 @@ use mathlib.Core.List.{List}
 use contract.Lifetimes.{Lfts}
 use denote.Ref.{Bor}
 use denote.MutBor.{MutBor}
-use Rattle.answer.proofs.Injective.{told_injective}
+use Rattle.std.specs.Prelude.{Result}
+use Rattle.answer.specs.declared.Refusal.{Refusal}
 use Rattle.filling.specs.declared.calls.Lines.{Lines}
-use Rattle.filling.specs.declared.calls.Filled.{Filled}
 use Rattle.filling.proofs.calls.page_lines.Reads as lining
 use Rattle.filling.proofs.calls.refusal_line.Reads as refusing
 
 pub lines_one :
-    (κs : Lfts 2) (s : Bor (List ℕ)) (k : ℕ) (b z z' : MutBor (List ℕ)) (r r' : Lines) →
+    (κs : Lfts 2) (s : Bor (List ℕ)) (k : ℕ) (b z z' : MutBor (List ℕ)) (r r' : Result Lines Refusal) →
     lining.Post κs (s, (k, (b, tt))) r (s, (k, (z, tt))) → lining.Post κs (s, (k, (b, tt))) r' (s, (k, (z', tt))) → (r ≡ r') × (z.now ≡ z'.now)
-lines_one κs s k b z z' r r' p q =
-    let a = told_injective r.answer r'.answer (p.0 ∙ sym q.0) in
-    let n = p.1.0 ∙ sym q.1.0 in
-    let c = p.1.1.0 ∙ sym q.1.1.0 in
-    (λ i. record { answer = a i; lines = n i; bytes = c i }, p.1.1.1.0 ∙ sym q.1.1.1.0)
+lines_one κs s k b z z' r r' p q = (p.0 ∙ sym q.0, p.1.0 ∙ sym q.1.0)
 
 pub refusal_one :
-    (κs : Lfts 1) (n p : ℕ) (b z z' : MutBor (List ℕ)) (r r' : Filled) →
+    (κs : Lfts 1) (n p : ℕ) (b z z' : MutBor (List ℕ)) (r r' : Result ℕ Refusal) →
     refusing.Post κs (n, (p, (b, tt))) r (n, (p, (z, tt))) → refusing.Post κs (n, (p, (b, tt))) r' (n, (p, (z', tt))) → (r ≡ r') × (z.now ≡ z'.now)
-refusal_one κs n p b z z' r r' x y =
-    let a = told_injective r.answer r'.answer (x.0 ∙ sym y.0) in
-    let c = x.1.0 ∙ sym y.1.0 in
-    (λ i. record { answer = a i; bytes = c i }, x.1.1 ∙ sym y.1.1)
+refusal_one κs n p b z z' r r' x y = (x.0 ∙ sym y.0, x.1 ∙ sym y.1)

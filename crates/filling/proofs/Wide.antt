@@ -1,21 +1,20 @@
 -- Every line of a page of bytes goes into 731 bytes.
 use Prim.Native.Nat.{ℕ, zero, suc, ◌+◌, ◌*◌, ◌≤◌, ◌<◌}
-use mathlib.Core.Path.{◌≡◌, refl, sym, ap, subst, ◌∙◌}
+use mathlib.Core.Path.{◌≡◌, sym, subst}
 use mathlib.Core.Bool.{Bool, true, false}
 use mathlib.Core.List.{List, [], ◌∷◌, ◌++◌, map}
-use mathlib.Core.Logic.{◌⊎◌, inl, inr}
+use mathlib.Core.Logic.{inl, inr}
 use native.Mathlib.Omega.{arith}
 use lib.ListN.{length, get_or, drop}
 use lib.Seq.{get_or-drop}
-use Rattle.lists.specs.Tab.{tab, front}
-use Rattle.answer.specs.Answers.{accepted, Answer}
+use Rattle.lists.specs.Tab.{tab}
+use Rattle.answer.specs.Answers.{accepted}
 use Rattle.image.specs.Bytes.{at4, at_w}
 use Rattle.image.specs.Form.{width_of, top_of, heads_at, head_lines, node_place, own_threads, per_desk}
 use Rattle.image.specs.declared.Shape.{Shape}
 use Rattle.image.proofs.FormLaws.{top_small}
-use Rattle.image.specs.Layout.{no_content, no_contents, content_at, image_shape, shape_in, read_content, read_nodes, image_in, same_content, head_in, heads_of, read_heads}
+use Rattle.image.specs.Layout.{no_content, no_contents, content_at, image_shape, shape_in, read_content, read_nodes, image_in, same_content, head_in, read_heads}
 use Rattle.image.specs.declared.Content.{Content}
-use Rattle.image.specs.declared.Image.{Image}
 use Rattle.machine.specs.Line.{shape_of, line_count, line_at, cached_at, persisted_at}
 use Rattle.machine.specs.declared.Line.{Line}
 use Rattle.machine.specs.declared.Line.TheVariants.{OfHead as of_head, OfNode as of_node}
@@ -27,11 +26,11 @@ use Rattle.machine.specs.declared.Event.{Event}
 use Rattle.machine.specs.declared.Acted.{Acted}
 use Rattle.image.proofs.ShapeLaws as shapes
 use Rattle.schedule.specs.Layout.{schedule_in, event_in, events_in, threads_in, nodes_in, count_in}
-use Rattle.schedule.specs.Run.{Bench, Ran, run, ran, turned, opened}
+use Rattle.schedule.specs.Run.{Bench, run, ran, turned, opened}
 use Rattle.page.specs.Contents.{joins, gathered, contents_of, table_of}
 use Rattle.page.specs.Endings.{choices, product, image_of, ending}
 use Rattle.page.specs.Printed.{first_line, ending_line}
-use Rattle.page.specs.Refusals.{table_in, table_answer, page_answer, ending_count, ending_in}
+use Rattle.page.specs.Refusals.{table_in, page_answer, ending_count, ending_in}
 use Rattle.page.specs.Filled.{page_line}
 use Rattle.lawful.specs.Demand3.{Bytes}
 use Rattle.moments.proofs.Moments as moments
@@ -42,7 +41,6 @@ use Rattle.pageproof.proofs.Among.{Among, choice_in}
 use Rattle.pageproof.proofs.Events.{onto}
 use Rattle.pageproof.proofs.Runs as runs
 use Rattle.pageproof.proofs.Holds as holds
-use Rattle.runs.proofs.PageLaws as laws
 use Rattle.printing.specs.Bounds.{line_room}
 use Rattle.printing.proofs.Short as short
 use Rattle.filling.proofs.Numbers as numbers

@@ -6,6 +6,8 @@ use Rattle.image.specs.declared.Content.{Content}
 use Rattle.image.specs.declared.Shape.{Shape}
 use Rattle.page.specs.Printed.{first_line}
 use Rattle.page.specs.Refusals.{page_answer, ending_count}
+use Rattle.page.specs.Filled.{lines_taken, lines_bytes}
+use Rattle.filling.specs.declared.calls.Lines.{Lines}
 use Rattle.printing.specs.Bounds.{line_room}
 use Rattle.printing.specs.Lines.{line_from, refused_text, if_fits}
 
@@ -13,6 +15,10 @@ use Rattle.printing.specs.Lines.{line_from, refused_text, if_fits}
 unfoldable pub table_line : List (List Content) → List ℕ → Shape → ℕ → ℕ → ℕ → ℕ → List ℕ
 table_line t cs z threads events count zero = first_line threads z.n events count
 table_line t cs z threads events count (suc k) = line_from t cs z k
+
+-- how many lines the call writes, and how many bytes they are
+abbrev pub lines_said : List ℕ → ℕ → ℕ → Lines
+lines_said s k room = record { lines = lines_taken s k room; bytes = length (lines_bytes s k room) }
 
 -- a buffer with room for the longest line takes line k, where the page is not refused and has that line
 abbrev pub TakesOne : List ℕ → ℕ → ℕ → Answer → Type 0

@@ -1,10 +1,11 @@
 -- The contents of one line of a schedule's page, as the call on it gives them.
-use Rattle.std.specs.Prelude.{ℕ, Bool, true, false, List, [], length, get_or, replicate, leb}
+use Rattle.std.specs.Prelude.{ℕ, List, [], length, get_or, replicate, leb}
 use Rattle.lists.specs.Find.{pick}
 use Rattle.lists.specs.Tab.{front}
 use Rattle.answer.specs.Answers.{check, accepted, Answer, Taken, Number}
 use Rattle.image.specs.Layout.{no_content, content_at}
 use Rattle.image.specs.declared.Content.{Content}
+use Rattle.pages.specs.declared.lines.LineContents.{LineContents}
 use Rattle.page.specs.Refusals.{and_then, table_in, page_answer}
 
 -- the page's refusals, in its order; then 10 where there is no line l
@@ -25,3 +26,7 @@ first_of c n = front (content_at c) n blank_row
 -- a line's contents as an array of sixteen
 abbrev pub sixteen : List Content → List Content
 sixteen c = first_of c (length c)
+
+-- how many contents line l has, and these
+abbrev pub line_shown : List ℕ → ℕ → LineContents
+line_shown s l = record { count = length (line_in s l); contents = sixteen (line_in s l) }

@@ -1,43 +1,22 @@
 // The public calls on a schedule's bytes: how many endings it has, and ending k as an image.
 ghost use Rattle.std.specs.Prelude.{◌≡◌, length};
-ghost use Rattle.answer.specs.Answers.{told};
+ghost use Rattle.answer.specs.Answers.{told, given};
 ghost use Rattle.page.specs.Refusals.{page_answer, ending_answer, ending_written};
 ghost use Rattle.runs.specs.Paged.{count_of};
 
 use answer::{Answer, Refusal, Reply};
-use image::Shape;
-use runs::paging::{lines_of, page_of};
+use endtable::ending::{ending_count, ending_image, ending_picks};
+use runs::paging::page_of;
+use runs::rows::lines_of;
 use runs::tables::{counts_of, table_of};
 
-#[derive(Clone, Copy)]
-pub struct Count {
-    pub answer: Answer,
-    pub count: u32,
-}
-
-// The count, or the refusal with a count of 0.
-pub fn count_endings(s: &[u8]) -> Count
-    ensures answers { told result.answer ≡ told (page_answer s.now) }
-    ensures counts { result.count ≡ count_of s.now }
+// The count.
+pub fn count_endings(s: &[u8]) -> Result<u32, Refusal>
+    ensures { result ≡ given (page_answer s.now) (count_of s.now) }
 {
-    let r = page_of(s);
-    let a = r.answer;
-    if !answer::is_taken(a) {
-        return Count {
-            answer: a,
-            count: 0,
-        };
-    }
-    let m = r.machine;
-    let rows = r.rows;
-    let counts = counts_of(rows);
-    let z = Shape {
-        form: m.form,
-        n: m.n,
-        t: m.t,
-    };
-    let count = endtable::ending::ending_count(counts, lines_of(z));
-    Count { answer: a, count }
+    let page = page_of(s)?;
+    let count = ending_count(counts_of(page.rows), lines_of(page.machine.shape()));
+    Ok(count)
 }
 
 // Ending k as an image, in the form of the schedule's image, in the first bytes of the lent buffer; the bytes after them stay. On a
@@ -46,29 +25,18 @@ pub fn ending_of(s: &[u8], k: u64, b: &mut [u8]) -> Answer
     ensures answers { told result ≡ told (ending_answer s.now k (length b.old)) }
     ensures bytes { b.new ≡ ending_written s.now k b.old }
 {
-    let r = page_of(s);
-    let a = r.answer;
-    if !answer::is_taken(a) {
-        return a;
-    }
-    let m = r.machine;
-    let rows = r.rows;
-    let counts = counts_of(rows);
-    let z = Shape {
-        form: m.form,
-        n: m.n,
-        t: m.t,
-    };
-    let count = endtable::ending::ending_count(counts, lines_of(z));
+    let r = page_of(s)?;
+    let z = r.machine.shape();
+    let counts = counts_of(r.rows);
+    let count = ending_count(counts, lines_of(z));
     if count as u64 <= k {
         return Err(Refusal::NoEnding);
     }
     if b.len() < image::size_of(z) {
         return Err(Refusal::Room);
     }
-    let picks = endtable::ending::ending_picks(counts, z, k as u32);
-    let t = table_of(rows);
-    let g = endtable::ending::ending_image(t, picks, z);
+    let picks = ending_picks(counts, z, k as u32);
+    let g = ending_image(table_of(r.rows), picks, z);
     codec::put_image(b, g);
     Ok(Reply::Taken)
 }

@@ -1,33 +1,35 @@
 -- A run goes on by one event, is refused, or comes to its end.
-use Prim.Native.Nat.{ℕ, zero, suc, ◌+◌, ◌-◌, ◌<◌, ◌≤◌}
+use Prim.Native.Nat.{ℕ, zero, suc, ◌+◌, ◌<◌, ◌≤◌}
 use mathlib.Core.Path.{◌≡◌, refl, sym, ap, ap₂, subst, ◌∙◌}
-use mathlib.Core.Bool.{Bool, true, false, not}
-use mathlib.Core.List.{List, [], ◌∷◌, ◌++◌}
+use mathlib.Core.Bool.{Bool, true, false}
+use mathlib.Core.List.{List, [], ◌∷◌}
 use native.Mathlib.Omega.{arith}
 use native.Mathlib.Numerals.{add-one}
-use lib.ListN.{length, get_or, drop}
+use lib.ListN.{length, drop}
 use lib.Dec.{eqb, eqb→eq}
 use Rattle.lists.specs.Find.{pick}
 use Rattle.lists.specs.Tab.{tab}
 use Rattle.lists.proofs.BoolLaws.{yes_of}
 use Rattle.lists.proofs.TabLaws as tabs
-use Rattle.answer.specs.Answers.{accepted, Answer, Taken}
+use Rattle.answer.specs.Answers.{accepted, Taken}
 use Rattle.image.specs.declared.Content.{Content}
-use Rattle.machine.specs.Line.{shape_of, line_count, cached_at}
-use Rattle.machine.specs.Event.{Deed, crashes, unknown, deed_of, event_at}
+use Rattle.machine.specs.Line.{shape_of, line_count}
+use Rattle.machine.specs.Event.{crashes, deed_of, event_at}
 use Rattle.machine.specs.declared.Machine.{Machine}
-use Rattle.machine.specs.Start.{start_of, start_with}
-use Rattle.image.proofs.HeadLaws.{lines_few}
 use Rattle.image.proofs.ShapeLaws.{nodes_range, threads_range}
 use Rattle.codec.proofs.Accepted as codec
 use Rattle.machine.specs.declared.Event.{Event}
 use Rattle.machine.specs.declared.Acted.{Acted}
-use Rattle.schedule.specs.declared.Schedule.{Schedule}
+use Rattle.machine.specs.declared.Touch.{Touch}
+use Rattle.machine.specs.declared.Touch.TheVariants.{Nothing as nothing, Store as a_store, Persist as a_persist, Flush as a_flush, Fence as a_fence}
+use Rattle.std.specs.Prelude.{Result, Ok, Err}
+use Rattle.std.specs.Result.{IsErrAnd}
+use Rattle.answer.specs.declared.Refusal.{Refusal}
 use Rattle.image.specs.Form.{known, head_lines}
 use Rattle.image.specs.declared.Shape.{Shape}
-use Rattle.image.specs.Layout.{form_in, shape_in, image_in}
-use Rattle.schedule.specs.Layout.{schedule_in, schedule_answer, event_from, event_place, event_in, events_in, threads_in, count_in, image_part, nodes_in, schedule_shape}
-use Rattle.schedule.specs.Run.{Ran, Bench, forward, bench_at, run, ran, opened, begins, and_before}
+use Rattle.image.specs.Layout.{shape_in, image_in}
+use Rattle.schedule.specs.Layout.{schedule_in, schedule_answer, event_from, event_place, event_in, events_in, threads_in, count_in, nodes_in, schedule_shape}
+use Rattle.schedule.specs.Run.{Ran, Bench, forward, bench_at, run, ran, opened, and_before}
 use Rattle.page.specs.Refusals.{table_in}
 use Rattle.page.specs.Contents.{table_of}
 use Rattle.moments.specs.Frame.{Even}
@@ -40,14 +42,16 @@ use Rattle.endtable.proofs.Benches as benches
 use Rattle.endtable.proofs.TableLaws as tables
 use Rattle.endtable.proofs.SinceRows.{length_no_since}
 use Rattle.moments.proofs.Steps.{frame_event}
+use Rattle.moments.proofs.Waiting.{Fencing, fencing_event}
+use Rattle.endtable.proofs.Flushing.{Flushing, flushing_event}
 use Rattle.moments.proofs.Moments as moments
 use Rattle.pageproof.proofs.Even as evens
 use Rattle.pageproof.proofs.Runs as runs
-use Rattle.runs.specs.Rows.{ats_of, counts_of, opened_rows, rows_touched, touch_of, left_at, finds_later, rows_after, since_now}
+use Rattle.runs.specs.Rows.{OfThreads, ats_of, counts_of, opened_rows, rows_touched, touch_of, left_at, finds_later, rows_after, since_now}
 use Rattle.schedule.specs.Running.{Reached, bench_to, ran_to, opened_run, forward_run}
 use Rattle.onward.proofs.Reached.{reached_opened, reached_next, shape_at, forward_is, event_lies}
 use Rattle.schedule.specs.declared.Running.{Running}
-use Rattle.runs.specs.Going.{Going, RunIs}
+use Rattle.runs.specs.Going.{Going, RunTaken, RunIs}
 use Rattle.runs.specs.declared.running.Run.{Run}
 use Rattle.runs.proofs.RowLaws as rowlaws
 use Rattle.runs.proofs.OverLaws.{over_is}
@@ -147,15 +151,15 @@ module _ (s : List ℕ) where
         q ∙ sym (g.answer ∙ ap (λ (r : Ran). r.answer) (benches.run_refused b₀ f (count_in s) i h (ap accepted (sym q) ∙ a)))
 
     -- no event is left
-    pub going_end : count_in s ≤ i → RunIs s (record { answer = Taken; machine = m; rows = rows })
+    pub going_end : count_in s ≤ i → RunTaken s (record { machine = m; rows = rows })
     unfolding events_in table_in
     going_end h =
         let e = benches.run_end b₀ f (count_in s) i h in
         record {
           answer = sym (g.answer ∙ ap (λ (r : Ran). r.answer) e);
-          machine = λ _. g.stands.machine ∙ sym (ap (λ (x : Bench). x.machine) (g.bench ∙ ap (λ (r : Ran). r.bench) e));
-          small = λ _. going_small;
-          tables = λ _. subst (λ (x : Bench). Tables (ats_of rows) (counts_of rows) (table_of x)) (sym (g.bench ∙ ap (λ (r : Ran). r.bench) e)) g.stands.tables;
+          machine = g.stands.machine ∙ sym (ap (λ (x : Bench). x.machine) (g.bench ∙ ap (λ (r : Ran). r.bench) e));
+          small = going_small;
+          tables = subst (λ (x : Bench). Tables (ats_of rows) (counts_of rows) (table_of x)) (sym (g.bench ∙ ap (λ (r : Ran). r.bench) e)) g.stands.tables;
         }
 
     -- an event that is taken
@@ -233,18 +237,6 @@ module _ (s : List ℕ) where
 
 -- ---- at the code's terms
 
-pub taken_or : {A : Type 0} (b : Bool) → b ≡ false → b ≡ true → A
-taken_or true p q = absurd (let z : ◌≡◌ {A = ℕ} 0 1 = cc in omega arith)
-taken_or false p q = absurd (let z : ◌≡◌ {A = ℕ} 0 1 = cc in omega arith)
-
-pub taken_of : (b : Bool) → not b ≡ false → b ≡ true
-taken_of true e = refl
-taken_of false e = taken_or true e refl
-
-pub refused_of : (b : Bool) → not b ≡ true → b ≡ false
-refused_of false e = refl
-refused_of true e = taken_or false refl e
-
 -- what an event forward answered, left and touched
 abbrev pub acted_of : Running → Acted
 acted_of r = record { answer = r.answer; machine = r.machine; touch = r.touch }
@@ -255,30 +247,23 @@ Next rows since g r x y = rowlaws.Behind rows since g.machine r.event (acted_of 
 
 -- the code's tests of one event: t says whether it was taken
 module _ (s : List ℕ) (g : Running) (rows since : List Row) (w : Going s g.place g.machine rows since) (c : g.count ≡ count_in s) (below : g.place < g.count)
-    (r : Running) (is : r ≡ forward_run s g) (t : Bool) (told : t ≡ accepted r.answer) where
+    (r : Running) (is : r ≡ forward_run s g) where
   lt : g.place < count_in s
   lt = omega (arith, c)
 
-  pub going_on : not t ≡ false → (x y : List Row) → Next rows since g r x y → Going s r.place r.machine x y
+  pub going_on : accepted r.answer ≡ true → (x y : List Row) → Next rows since g r x y → Going s r.place r.machine x y
   going_on h =
-      let n = going_next s g.place g.machine rows since w lt (subst (λ (z : Running). accepted z.answer ≡ true) is (sym told ∙ taken_of t h))
+      let n = going_next s g.place g.machine rows since w lt (subst (λ (z : Running). accepted z.answer ≡ true) is h)
       (going_even s g.place g.machine rows since w) in
       subst (λ (z : Running). (x y : List Row) → Next rows since g z x y → Going s z.place z.machine x y) (sym is)
       (λ x y q. subst (λ x. Going s (g.place + 1) (event_at g.place g.machine (event_in s g.place)).machine x y) (sym q.0)
       (subst (Going s (g.place + 1) (event_at g.place g.machine (event_in s g.place)).machine _) (sym q.1) n))
 
-  pub going_on_small : not t ≡ false → Small r.machine
+  pub going_on_small : accepted r.answer ≡ true → Small r.machine
   going_on_small h = going_small s r.place r.machine _ _ (going_on h (rows_after rows since g.machine r.event (acted_of r)) (since_now since r.event (acted_of r)) (refl, refl))
 
-  pub going_stop : not t ≡ true → (m : Machine) → RunIs s (record { answer = r.answer; machine = m; rows = rows })
-  going_stop h m =
-      let a = sym told ∙ refused_of t h in
-      record {
-        answer = ap (λ (x : Running). x.answer) is ∙ going_refused s g.place g.machine rows since w lt (subst (λ (x : Running). accepted x.answer ≡ false) is a);
-        machine = λ y. taken_or (accepted r.answer) a y;
-        small = λ y. taken_or (accepted r.answer) a y;
-        tables = λ y. taken_or (accepted r.answer) a y;
-      }
+  pub going_stop : accepted r.answer ≡ false → r.answer ≡ (ran s).answer
+  going_stop a = ap (λ (x : Running). x.answer) is ∙ going_refused s g.place g.machine rows since w lt (subst (λ (x : Running). accepted x.answer ≡ false) is a)
 
 -- ---- the beginning
 
@@ -315,14 +300,22 @@ under_begun s a g is rows since e l = (
 )
 
 pub under_next : (s : List ℕ) (g : Running) (rows since : List Row) → Under s g rows since → g.place < g.count → (r : Running) → r ≡ forward_run s g
-    → (t : Bool) → t ≡ accepted r.answer → not t ≡ false → (x y : List Row) → Next rows since g r x y → Under s r x y
-under_next s g rows since u below r is t told h x y q =
-    let a = subst (λ (z : Running). accepted z.answer ≡ true) is (sym told ∙ taken_of t h) in (
+    → accepted r.answer ≡ true → (x y : List Row) → Next rows since g r x y → Under s r x y
+under_next s g rows since u below r is h x y q =
+    let a = subst (λ (z : Running). accepted z.answer ≡ true) is h in (
       subst (λ (z : Running). z.place ≤ z.count) (sym is) (omega arith),
-      going_on s g rows since u.1 u.2.count below r is t told h x y q,
+      going_on s g rows since u.1 u.2.count below r is h x y q,
       subst (Reached s) (sym is) (reached_next s g u.2 a),
       ap (λ (x : Running). x.t) is ∙ u.3,
     )
+
+-- a thread that flushes or fences is one of the machine's
+of_threads : (m : Machine) (w : Touch) → m.t ≤ 8 → Flushing m w → Fencing m w → OfThreads w
+of_threads m nothing h fl fe = tt
+of_threads m (a_store l) h fl fe = tt
+of_threads m (a_persist l) h fl fe = tt
+of_threads m (a_flush k l) h fl fe = omega (arith, fl k refl)
+of_threads m (a_fence k l) h fl fe = omega (arith, (fe k l (refl, refl)).0)
 
 -- ---- the loop's own values: the opened run g, how many events were taken, and the machine after them
 
@@ -345,7 +338,7 @@ under_start s a g is rows since e l =
     subst (λ (z : Running). rows ≡ opened_rows z.machine → Under s (run_at z 0 z.machine) rows since) (sym is)
     (λ e. under_begun s a (opened_run s) refl rows since e (ap length l ∙ length_no_since)) e
 
--- an event e on the machine m, with the outcome o: t says whether it was taken
+-- an event e on the machine m, with the outcome o
 module _ (s : List ℕ) (g : Running) (i : ℕ) (m : Machine) (rows since : List Row) (u : Under s (run_at g i m) rows since) (below : i < g.count) where
   abbrev z : Shape
   z = record { form = g.form; n = g.n; t = g.t }
@@ -360,21 +353,33 @@ module _ (s : List ℕ) (g : Running) (i : ℕ) (m : Machine) (rows since : List
   pub under_count : i < 4096
   under_count = omega (arith, u.2.count, (codec.schedule_taken s u.2.schedule).count)
 
-  module _ (e : Event) (o : Acted) (is-e : e ≡ event_from s (event_place (record { form = g.form; n = g.n; t = g.t }) i)) (is-o : o ≡ event_at i m e) (t : Bool) (told : t ≡ accepted o.answer) where
+  module _ (e : Event) (o : Acted) (is-e : e ≡ event_from s (event_place (record { form = g.form; n = g.n; t = g.t }) i)) (is-o : o ≡ event_at i m e) where
     abbrev further : Running
     further = record { t = g.t; n = g.n; form = g.form; count = g.count; place = i + 1; answer = o.answer; machine = o.machine; event = e; touch = o.touch }
 
     is : further ≡ forward_run s (run_at g i m)
     is = forward_is s (run_at g i m) z shape_now e o is-e is-o
 
-    pub further_under : not t ≡ false → (x y : List Row) → rowlaws.Behind rows since m e o x y → Under s (run_at g (i + 1) o.machine) x y
+    pub further_under : accepted o.answer ≡ true → (x y : List Row) → rowlaws.Behind rows since m e o x y → Under s (run_at g (i + 1) o.machine) x y
     further_under h x y q =
-        let v = under_next s (run_at g i m) rows since u below further is t told h x y q in
+        let v = under_next s (run_at g i m) rows since u below further is h x y q in
         let r = v.2 in
         (v.0, v.1, record { schedule = r.schedule; nodes = r.nodes; form = r.form; count = r.count; machine = r.machine; taken = r.taken; come = r.come }, v.3)
 
-    pub further_small : not t ≡ false → Small o.machine
-    further_small = going_on_small s (run_at g i m) rows since u.1 u.2.count below further is t told
+    pub further_small : accepted o.answer ≡ true → Small o.machine
+    further_small = going_on_small s (run_at g i m) rows since u.1 u.2.count below further is
 
-    pub further_stop : not t ≡ true → (x : Machine) → RunIs s (record { answer = o.answer; machine = x; rows = rows })
-    further_stop = going_stop s (run_at g i m) rows since u.1 u.2.count below further is t told
+    pub further_stop : accepted o.answer ≡ false → o.answer ≡ (ran s).answer
+    further_stop = going_stop s (run_at g i m) rows since u.1 u.2.count below further is
+
+    pub further_threads : accepted o.answer ≡ true → OfThreads o.touch
+    further_threads a =
+        let st = u.1.stands in
+        let few : m.t ≤ 8 = subst (λ (x : Machine). x.t ≤ 8) (sym st.machine) st.known.threads in
+        let taken : accepted (event_at i m e).answer ≡ true = ap (λ (x : Acted). accepted x.answer) (sym is-o) ∙ a in
+        subst (λ (x : Acted). OfThreads x.touch) (sym is-o) (of_threads m (event_at i m e).touch few (flushing_event i m e taken) (fencing_event i m e taken))
+
+-- a run that is refused
+pub refused_run : (s : List ℕ) (r : Result Run Refusal) (x : Refusal) → IsErrAnd r (λ y. y ≡ x) → Err x ≡ (ran s).answer → RunIs s r
+refused_run s (Ok v) x h e = absurd h
+refused_run s (Err y) x h e = ap Err h ∙ e

@@ -1,41 +1,39 @@
 -- From the code's run to the page's answers and bytes.
 use Prim.Native.Nat.{ℕ, ◌<◌, ◌≤◌}
-use mathlib.Core.Path.{◌≡◌, refl, sym, ap, ap₂, subst, ◌∙◌}
+use mathlib.Core.Path.{◌≡◌, refl, sym, ap, subst, ◌∙◌}
 use mathlib.Core.Bool.{Bool, true, false}
 use mathlib.Core.List.{List}
 use native.Mathlib.Omega.{arith}
 use lib.ListN.{length}
 use lib.Dec.{ltb, leb}
 use borrow.Author.Tests.{lt-ltb, le-ltb, le-leb, lt-leb}
-use Rattle.lists.specs.Find.{pick}
 use Rattle.lists.specs.Tab.{over}
 use Rattle.lists.proofs.BoolLaws.{yes_of, no_of}
-use Rattle.answer.specs.Answers.{told, check, accepted, Answer, Taken, NoEnding, Room}
-use Rattle.answer.specs.declared.Told.{Told}
+use Rattle.std.specs.Prelude.{Result, Ok, Err}
+use Rattle.std.specs.Result.{IsErrAnd}
+use Rattle.answer.specs.declared.Refusal.{Refusal}
+use Rattle.answer.specs.Answers.{check, accepted, Taken, NoEnding, Room, Contents, Endings}
 use Rattle.image.specs.Form.{known, head_lines, own_threads, image_size}
 use Rattle.image.specs.Layout.{image_shape, shape_in, image_in, image_bytes}
 use Rattle.image.specs.declared.Content.{Content}
-use Rattle.image.specs.declared.Image.{Image}
 use Rattle.image.specs.declared.Shape.{Shape}
 use Rattle.machine.specs.Line.{shape_of, line_count}
 use Rattle.machine.specs.declared.Machine.{Machine}
 use Rattle.schedule.specs.Layout.{schedule_in, events_in, schedule_answer}
-use Rattle.schedule.specs.Run.{Ran, Bench, opened, ran}
+use Rattle.schedule.specs.Run.{Bench, opened, ran}
 use Rattle.machine.specs.Start.{start_with}
 use Rattle.codec.proofs.Accepted as codec
 use Rattle.pageproof.proofs.Form as runs
 use Rattle.pageproof.proofs.Holds as holds
 use Rattle.page.specs.Contents.{table_of}
-use Rattle.page.specs.Endings.{product, ending}
 use Rattle.page.specs.Refusals.{table_in, table_answer, page_answer, ending_count, ending_in, ending_answer, ending_written}
-use Rattle.endtable.specs.Picks.{prod, capped, counts_answer, Counted, Filled, Ready, picks_of, picked_image, ending_from}
+use Rattle.endtable.specs.Picks.{crowded_at, prod, capped, counts_answer, Counted, Filled, Ready, picks_of, picked_image, ending_from}
 use Rattle.endtable.specs.Tables.{Tables}
 use Rattle.endtable.proofs.Pages as endings
 use Rattle.runs.specs.Rows.{ats_of, counts_of}
-use Rattle.runs.specs.Going.{RunIs}
+use Rattle.runs.specs.Going.{RunTaken}
 use Rattle.runs.specs.Paged.{PageTaken, PageIs, count_of}
 use Rattle.runs.specs.declared.running.Run.{Run}
-use Rattle.runs.proofs.GoingLaws.{taken_or}
 
 -- ---- the page's answer, in its order
 
@@ -51,42 +49,51 @@ pub page_table : (s : List ℕ) → accepted (schedule_answer s) ≡ true → ac
 unfolding page_answer
 page_table s h e = sym (yes_of _ (schedule_answer s) (accepted (schedule_answer s)) h ∙ yes_of (table_answer (table_in s)) (ran s).answer (accepted (ran s).answer) e)
 
-pub page_refused : (s : List ℕ) (r : Run) (a : Answer) → r.answer ≡ a → a ≡ page_answer s → accepted a ≡ false → PageIs s r
-page_refused s r a p q f = record { answer = p ∙ q; taken = λ t. taken_or (accepted r.answer) (ap accepted p ∙ f) t }
+pub refused_page : (s : List ℕ) (r : Result Run Refusal) (x : Refusal) → IsErrAnd r (λ y. y ≡ x) → Err x ≡ page_answer s → PageIs s r
+refused_page s (Ok v) x h e = absurd h
+refused_page s (Err y) x h e = ap Err h ∙ e
+
+-- the counts' limits are met, or are not
+pub counts_taken : (cs : List ℕ) (n : ℕ) → accepted (counts_answer cs n) ≡ true → counts_answer cs n ≡ Taken
+unfolding counts_answer
+counts_taken cs n = by (ltb (crowded_at cs n) n) (ltb 65536 (prod cs n))
+  where
+    by : (x y : Bool) → accepted (check x (Contents (crowded_at cs n)) (check y Endings Taken)) ≡ true → check x (Contents (crowded_at cs n)) (check y Endings Taken) ≡ Taken
+    by true y h = absurd (cc)
+    by false true h = absurd (cc)
+    by false false h = refl
 
 -- ---- from the rows
 
-module _ (s : List ℕ) (r : Run) (g : RunIs s r) (a : accepted r.answer ≡ true) where
+module _ (s : List ℕ) (r : Run) (g : RunTaken s r) where
   all_taken : accepted (ran s).answer ≡ true
-  all_taken = subst (λ (x : Answer). accepted x ≡ true) g.answer a
+  all_taken = ap accepted (sym g.answer)
 
   held : Tables (ats_of r.rows) (counts_of r.rows) (table_of (ran s).bench)
   unfolding table_in
-  held = g.tables a
+  held = g.tables
 
   size : line_count (shape_of r.machine) ≡ line_count (shape_of (ran s).bench.machine)
-  size = ap (λ (x : Machine). line_count (shape_of x)) (g.machine a)
+  size = ap (λ (x : Machine). line_count (shape_of x)) g.machine
 
   pub rows_counted : Counted (counts_of r.rows) (line_count (shape_of r.machine))
   rows_counted = subst (Counted (counts_of r.rows)) (sym size) (endings.bench_counted (ran s).bench (ats_of r.rows) (counts_of r.rows) held)
 
-  pub page_taken : accepted (schedule_answer s) ≡ true → (c : Answer) → c ≡ counts_answer (counts_of r.rows) (line_count (shape_of r.machine))
-      → PageIs s (record { answer = c; machine = r.machine; rows = r.rows })
+  table_is : counts_answer (counts_of r.rows) (line_count (shape_of r.machine)) ≡ table_answer (table_in s)
   unfolding table_in
-  page_taken h c e = record {
-    answer = is ∙ page_table s h all_taken;
-    taken = λ t. record {
-      machine = g.machine a;
-      small = subst (λ (x : Machine). (x.n ≤ 64) × (head_lines (shape_of x) ≤ 8)) (g.machine a) (g.small a);
-      tables = g.tables a;
-      limits = ap accepted (sym is) ∙ t;
-    };
+  table_is = ap (counts_answer (counts_of r.rows)) size ∙ endings.bench_answer (ran s).bench (ats_of r.rows) (counts_of r.rows) held
+
+  pub page_limits : accepted (schedule_answer s) ≡ true → counts_answer (counts_of r.rows) (line_count (shape_of r.machine)) ≡ page_answer s
+  page_limits h = table_is ∙ page_table s h all_taken
+
+  pub page_taken : accepted (schedule_answer s) ≡ true → counts_answer (counts_of r.rows) (line_count (shape_of r.machine)) ≡ Taken → PageTaken s r
+  page_taken h e = record {
+    answer = sym e ∙ page_limits h;
+    machine = g.machine;
+    small = subst (λ (x : Machine). (x.n ≤ 64) × (head_lines (shape_of x) ≤ 8)) g.machine g.small;
+    tables = g.tables;
+    limits = ap accepted (sym table_is ∙ e);
   }
-    where
-      is : c ≡ table_answer (table_of (ran s).bench)
-      is =
-          e ∙ ap (counts_answer (counts_of r.rows)) size
-          ∙ endings.bench_answer (ran s).bench (ats_of r.rows) (counts_of r.rows) held
 
 -- a page that is not refused is a schedule that is taken
 page_schedule : (s : List ℕ) → accepted (page_answer s) ≡ true → accepted (schedule_answer s) ≡ true
@@ -102,10 +109,7 @@ pub count_refused : (s : List ℕ) → accepted (page_answer s) ≡ false → 0 
 unfolding count_of
 count_refused s h = rw h
 
-module _ (s : List ℕ) (r : Run) (p : PageIs s r) (a : accepted r.answer ≡ true) where
-  t : PageTaken s r
-  t = p.taken a
-
+module _ (s : List ℕ) (r : Run) (t : PageTaken s r) where
   abbrev cs : List ℕ
   cs = counts_of r.rows
 
@@ -139,8 +143,8 @@ module _ (s : List ℕ) (r : Run) (p : PageIs s r) (a : accepted r.answer ≡ tr
   unfolding ending_count table_in
   page_count = ap (λ (n : ℕ). capped (prod cs n)) lines_are ∙ endings.bench_count b (ats_of r.rows) cs held' fits'
 
-  page_yes : accepted (page_answer s) ≡ true
-  page_yes = subst (λ (x : Answer). accepted x ≡ true) p.answer a
+  pub page_yes : accepted (page_answer s) ≡ true
+  page_yes = ap accepted (sym t.answer)
 
   -- the form is that of the schedule's image, and so one that is read
   pub page_form : known r.machine.form ≡ true

@@ -1,32 +1,44 @@
 -- Rows as a table and its counts.
-use Prim.Native.Nat.{ℕ, zero, suc, ◌+◌, ◌<◌, ◌≤◌}
+use Prim.Native.Nat.{ℕ, zero, suc, ◌+◌, ◌-◌, ◌<◌, ◌≤◌}
 use mathlib.Core.Path.{◌≡◌, refl, sym, ap, ap₂, ◌∙◌}
 use mathlib.Core.Bool.{Bool, true, false}
 use mathlib.Core.List.{List, [], ◌∷◌, map, append-nil}
 use native.Mathlib.Omega.{arith}
-use native.Mathlib.Numerals.{add-one}
-use lib.ListN.{length, get_or, set, take, drop, get_or-map}
+use lib.ListN.{length, get_or, set, drop, get_or-map}
 use lib.Seq.{take_all}
+use Rattle.std.proofs.lemmas.List.{ext_get_or, get_or-append_right, get_or-drop, get_or-replicate}
+use native.Mathlib.Decide.{dec_lt}
+use lib.ListN.{replicate, length-map}
+use Rattle.image.specs.Layout.{no_content}
+use Rattle.endtable.specs.Opened.{blank_table, blank_counts, line_opened, line_counted, opened_table, opened_counts}
 use lib.Dec.{ltb}
 use borrow.Author.Tests.{eq-eqb, ne_eqb, lt-ltb, le-ltb}
+use Rattle.std.specs.Prelude.{None, Some}
 use Rattle.lists.specs.Find.{pick}
 use Rattle.lists.specs.Tab.{tab, front}
 use Rattle.lists.proofs.TabLaws as tabs
 use Rattle.image.specs.declared.Content.{Content}
 use Rattle.image.specs.declared.Shape.{Shape}
-use Rattle.machine.specs.Line.{shape_of, line_at, cached_at}
+use Rattle.machine.specs.Line.{shape_of, line_count, line_at, cached_at, number_of}
+use Rattle.machine.specs.declared.Line.{Line}
+use Rattle.machine.specs.declared.Touch.{Touch}
+use Rattle.machine.specs.declared.Touch.TheVariants.{Nothing as nothing, Store as a_store, Persist as a_persist, Flush as a_flush, Fence as a_fence}
 use Rattle.machine.specs.declared.Machine.{Machine}
 use Rattle.machine.specs.declared.Event.{Event}
 use Rattle.endtable.specs.Rows.{row_after, count_after, no_row, joined_row, row_of}
 use Rattle.endtable.specs.Since.{since_joined, since_after}
 use Rattle.endtable.specs.Tables.{table_after, counts_after}
 use Rattle.machine.specs.declared.Acted.{Acted}
-use Rattle.endtable.specs.Opened.{blank_table, blank_counts}
-use Rattle.endtable.specs.Touched.{touched_row}
-use Rattle.endtable.specs.declared.touched.Touched.{Touched}
-use Rattle.endtable.proofs.Openings as openings
-use Rattle.runs.specs.Rows.{ats_of, counts_of, no_rows, row_at, rows_of, opened_rows, over_in, rows_touched, rows_after, since_now, ats_to, counts_to}
+use Rattle.endtable.specs.Touched.{Touched, touched_row}
+use Rattle.runs.specs.Rows.{ats_of, counts_of, no_rows, row_at, rows_of, line_row, opened_rows, over_in, rows_touched, line_in, OfThreads, rows_left, since_left, rows_after, since_now}
 use Rattle.endtable.specs.declared.row.Row.{Row}
+
+-- what the first n of a list are filled with leaves the others
+front_rest : {A : Type 0} (f : ℕ → A) (n i : ℕ) (l : List A) (d : A) → n ≤ i → get_or (front f n l) i d ≡ get_or l i d
+unfolding front
+front_rest f n i l d h =
+    let e : n + (i - n) ≡ i = omega arith in
+    get_or-append_right (tab f n) (drop n l) n i d (tabs.length_tab f n) h ∙ get_or-drop n l (i - n) d ∙ ap (λ j. get_or l j d) e
 
 map_set : {A B : Type 0} (f : A → B) (l : List A) (i : ℕ) (v : A) → map f (set l i v) ≡ set (map f l) i (f v)
 map_set f [] i v = refl
@@ -58,6 +70,37 @@ at_of rows l = get_or-map (λ (r : Row). r.at) rows l no_row
 
 pub count_of_lem : (rows : List Row) (l : ℕ) → get_or (counts_of rows) l 0 ≡ (get_or rows l no_row).count
 count_of_lem rows l = get_or-map (λ (r : Row). r.count) rows l no_row
+
+-- the rows of the opened table are those of the lines, blank beyond
+module _ (m : Machine) (h : line_count (shape_of m) ≤ 72) where
+  abbrev n : ℕ
+  n = line_count (shape_of m)
+
+  opened_at : (l : ℕ) → l < 72 → Dec (l < n) → get_or (front (line_row m) n no_rows) l no_row ≡ row_at (opened_table m n) (opened_counts m n) l
+  unfolding opened_table opened_counts no_rows blank_table blank_counts
+  opened_at l p (yes q) =
+      rw (tabs.front_at (line_row m) n no_rows l no_row q, tabs.front_at (line_opened m) n blank_table l [] q, tabs.front_at (line_counted m) n blank_counts l 0 q)
+  opened_at l p (no q) =
+      rw (front_rest (line_row m) n l no_rows no_row (omega arith), front_rest (line_opened m) n l blank_table [] (omega arith), front_rest (line_counted m) n l blank_counts 0 (omega arith))
+      (rw (get_or-replicate 72 l (record { count = 0; at = replicate 16 no_content }) no_row p, get_or-replicate 72 l (replicate 16 no_content) [] p, get_or-replicate {A = ℕ} 72 l 0 0 p))
+
+  pub rows_opened : front (line_row m) n no_rows ≡ opened_rows m
+  unfolding opened_rows rows_of
+  rows_opened =
+      let a : length (front (line_row m) n no_rows) ≡ 72 = tabs.front_size (line_row m) n no_rows (omega (arith, length_no)) ∙ length_no in
+      let t = opened_table m n in
+      let cs = opened_counts m n in
+      ext_get_or no_row (front (line_row m) n no_rows) (rows_of t cs 72) (a ∙ sym (tabs.front_size (row_at t cs) 72 no_rows (omega (arith, length_no)) ∙ length_no))
+      (λ l p. opened_at l (omega arith) (dec_lt l n) ∙ sym (tabs.front_at (row_at t cs) 72 no_rows l no_row (omega arith)))
+
+-- a table, and counts, that are those of each row
+pub mapped_at : (rows : List Row) (t : List (List Content)) → length rows ≡ 72 → length t ≡ 72 → ((i : ℕ) → i < 72 → get_or t i [] ≡ (get_or rows i no_row).at) → t ≡ ats_of rows
+mapped_at rows t long e h =
+    ext_get_or [] t (ats_of rows) (omega (arith, length-map rows (λ (r : Row). r.at))) (λ i p. h i (omega arith) ∙ sym (at_of rows i))
+
+pub mapped_count : (rows : List Row) (cs : List ℕ) → length rows ≡ 72 → length cs ≡ 72 → ((i : ℕ) → i < 72 → get_or cs i 0 ≡ (get_or rows i no_row).count) → cs ≡ counts_of rows
+mapped_count rows cs long e h =
+    ext_get_or 0 cs (counts_of rows) (omega (arith, length-map rows (λ (r : Row). r.count))) (λ i p. h i (omega arith) ∙ sym (count_of_lem rows i))
 
 -- ---- after an event
 
@@ -95,7 +138,7 @@ touched_counts rows since late w c = by (ltb w.line 72) (ltb w.thread 8) w.persi
     by true true false true = refl
     by true true false false = map_set (λ (r : Row). r.count) rows w.line (get_or since w.thread no_row)
 
--- the ways of the loop over the events: both kinds of rows behind one
+-- both kinds of rows behind an event
 abbrev pub Behind : List Row → List Row → Machine → Event → Acted → List Row → List Row → Type 0
 Behind rows since m e o x y = (x ≡ rows_after rows since m e o) × (y ≡ since_now since e o)
 
@@ -104,101 +147,75 @@ module _ (rows since : List Row) (m : Machine) (e : Event) (o : Acted) where
   unfolding rows_after since_now
   after_crash h = (rw (eq-eqb e.kind 5 h), rw (eq-eqb e.kind 5 h))
 
-  module _ (other : e.kind ≡ 5 → ⊥) (w : Touched) (is : w ≡ touched_row (shape_of o.machine) o.touch) where
-    abbrev c : Content
-    c = cached_at o.machine (line_at (shape_of o.machine) w.line)
+  pub after_touch : (e.kind ≡ 5 → ⊥) → (x y : List Row) → x ≡ rows_left rows since m.over_heads m.over o.machine o.touch → y ≡ since_left since o.machine o.touch → Behind rows since m e o x y
+  unfolding rows_after since_now rows_left since_left
+  after_touch other x y p q = (p ∙ sym (rw (ne_eqb e.kind 5 other)), q ∙ sym (rw (ne_eqb e.kind 5 other)))
 
-    abbrev z : Shape
-    z = shape_of o.machine
+-- ---- behind a touch, at the code's terms
 
-    rows_are : rows_touched rows since (over_in m.over_heads m.over z w.line w.thread) w c ≡ rows_after rows since m e o
-    unfolding rows_after
-    rows_are = rw (ne_eqb e.kind 5 other, ← is)
+some_same : {x y : Line} → Some x ≡ Some y → x ≡ y
+some_same e = cc
 
-    since_is : since_after z o.machine.threads since w c ≡ since_now since e o
-    unfolding since_now
-    since_is = rw (ne_eqb e.kind 5 other, ← is)
+-- the touched line's number
+line_number : (z : Shape) (t : Touch) (l : Line) → line_in t ≡ Some l → (touched_row z t).line ≡ number_of z l
+line_number z nothing l e = absurd (cc)
+line_number z (a_store x) l e = ap (number_of z) (some_same e)
+line_number z (a_persist x) l e = ap (number_of z) (some_same e)
+line_number z (a_flush k x) l e = ap (number_of z) (some_same e)
+line_number z (a_fence k x) l e = ap (number_of z) (some_same e)
 
-    -- no line was touched
-    pub after_none : 72 ≤ w.line → Behind rows since m e o rows since
-    unfolding since_after
-    after_none h = (sym (rw (le-ltb w.line 72 h)) ∙ rows_are, sym (rw (le-ltb w.line 72 h)) ∙ since_is)
+module _ (rows since : List Row) (heads nodes : List ℕ) (m : Machine) where
+  abbrev z : Shape
+  z = shape_of m
 
-    module _ (h : w.line < 72) where
-      -- a line was stored to, or written back
-      module _ (t : 8 ≤ w.thread) (x : Content) (cached : x ≡ c) (r : Row) (joined : r ≡ joined_row (get_or rows w.line no_row) x w.persisted) where
-        rows_put : set rows w.line r ≡ rows_after rows since m e o
-        rows_put =
-            ap (set rows w.line) (joined ∙ ap (λ (x : Content). joined_row (get_or rows w.line no_row) x w.persisted) cached)
-            ∙ sym (rw (lt-ltb w.line 72 h, le-ltb w.thread 8 t)) ∙ rows_are
+  abbrev Left : Touch → List Row → List Row → Type 0
+  Left t x y = (x ≡ rows_left rows since heads nodes m t) × (y ≡ since_left since m t)
 
-        pub after_back : w.persisted ≡ true → Behind rows since m e o (set rows w.line r) since
-        unfolding since_after
-        after_back p = (rows_put, sym (rw (lt-ltb w.line 72 h, le-ltb w.thread 8 t, p)) ∙ since_is)
+  pub left_nowhere : (t : Touch) → line_in t ≡ None → Left t rows since
+  unfolding rows_left since_left since_after
+  left_nowhere nothing e = (refl, refl)
+  left_nowhere (a_store x) e = absurd (cc)
+  left_nowhere (a_persist x) e = absurd (cc)
+  left_nowhere (a_flush k x) e = absurd (cc)
+  left_nowhere (a_fence k x) e = absurd (cc)
 
-        pub after_store : w.persisted ≡ false → (y : List Row) → y ≡ since_joined z o.machine.threads since w.line x 8 → Behind rows since m e o (set rows w.line r) y
-        unfolding since_after
-        after_store p y q =
-            (rows_put, q ∙ ap (λ (x : Content). since_joined z o.machine.threads since w.line x 8) cached ∙ sym (rw (lt-ltb w.line 72 h, le-ltb w.thread 8 t, p)) ∙ since_is)
+  pub left_far : (t : Touch) (l : Line) (x : ℕ) → line_in t ≡ Some l → x ≡ number_of z l → 72 ≤ x → Left t rows since
+  unfolding rows_left since_left since_after
+  left_far t l x e q h =
+      let f : 72 ≤ (touched_row z t).line = omega (arith, q, line_number z t l e) in
+      (sym (rw (le-ltb _ 72 f)), sym (rw (le-ltb _ 72 f)))
 
-      -- a thread flushed it
-      module _ (t : w.thread < 8) where
-        pub after_flush : w.persisted ≡ true → (x : Content) → x ≡ c → (r : Row) → r ≡ row_of x → Behind rows since m e o rows (set since w.thread r)
-        unfolding since_after
-        after_flush p x cached r q = (
-          sym (rw (lt-ltb w.line 72 h, lt-ltb w.thread 8 t, p)) ∙ rows_are,
-          ap (set since w.thread) (q ∙ ap row_of cached) ∙ sym (rw (lt-ltb w.line 72 h, lt-ltb w.thread 8 t, p)) ∙ since_is,
-        )
+  -- line x, which the content c was left in
+  module _ (t : Touch) (l : Line) (x : ℕ) (e : line_in t ≡ Some l) (q : x ≡ number_of z l) (h : x < 72) (c : Content) (cached : c ≡ cached_at m (line_at z x)) where
+    here : x ≡ (touched_row z t).line
+    here = q ∙ sym (line_number z t l e)
 
-        -- or fenced it
-        module _ (p : w.persisted ≡ false) (b : Bool) (told : b ≡ over_in m.over_heads m.over z w.line w.thread) where
-          since_stays : since ≡ since_now since e o
-          unfolding since_after
-          since_stays = sym (rw (lt-ltb w.line 72 h, lt-ltb w.thread 8 t, p)) ∙ since_is
+    pub left_store : (k : Line) → t ≡ a_store k → (r : Row) → r ≡ joined_row (get_or rows x no_row) c false → (y : List Row) → y ≡ since_joined z m.threads since x c 8 → Left t (set rows x r) y
+    unfolding rows_left since_left since_after
+    left_store k is r j y d =
+        let p : x ≡ number_of z k = here ∙ ap (λ (w : Touch). (touched_row z w).line) is in
+        rw is (rw (← p, lt-ltb x 72 h, ← cached) (ap (set rows x) j, d))
 
-          pub after_later : b ≡ true → Behind rows since m e o rows since
-          after_later q = (sym (rw (lt-ltb w.line 72 h, lt-ltb w.thread 8 t, p, ← told, q)) ∙ rows_are, since_stays)
+    pub left_persist : (k : Line) → t ≡ a_persist k → (r : Row) → r ≡ joined_row (get_or rows x no_row) c true → Left t (set rows x r) since
+    unfolding rows_left since_left since_after
+    left_persist k is r j =
+        let p : x ≡ number_of z k = here ∙ ap (λ (w : Touch). (touched_row z w).line) is in
+        rw is (rw (← p, lt-ltb x 72 h, ← cached) (ap (set rows x) j, refl))
 
-          pub after_fence : b ≡ false → Behind rows since m e o (set rows w.line (get_or since w.thread no_row)) since
-          after_fence q = (sym (rw (lt-ltb w.line 72 h, lt-ltb w.thread 8 t, p, ← told, q)) ∙ rows_are, since_stays)
+    pub left_flush : (u : ℕ) (k : Line) → t ≡ a_flush u k → OfThreads t → (r : Row) → r ≡ row_of c → Left t rows (set since u r)
+    unfolding rows_left since_left since_after
+    left_flush u k is o r j =
+        let p : x ≡ number_of z k = here ∙ ap (λ (w : Touch). (touched_row z w).line) is in
+        rw is (rw (← p, lt-ltb x 72 h, lt-ltb u 8 (rw is at o), ← cached) (refl, ap (set since u) j))
 
--- the loop that packs them
-pub rows_next : (t : List (List Content)) (cs : List ℕ) (i : ℕ) → i < 72 → set (rows_of t cs i) i (row_at t cs i) ≡ rows_of t cs (i + 1)
-unfolding rows_of front
-rows_next t cs i h = tabs.tab_set (row_at t cs) i no_rows (omega (arith, length_no))
+    pub left_later : (u : ℕ) (k : Line) → t ≡ a_fence u k → OfThreads t → over_in heads nodes z x u ≡ true → Left t rows since
+    unfolding rows_left since_left since_after
+    left_later u k is o b =
+        let p : x ≡ number_of z k = here ∙ ap (λ (w : Touch). (touched_row z w).line) is in
+        rw is (rw (← p, lt-ltb x 72 h, lt-ltb u 8 (rw is at o), b) (refl, refl))
 
-pub rows_none : (t : List (List Content)) (cs : List ℕ) → no_rows ≡ rows_of t cs 0
-unfolding rows_of front tab
-rows_none t cs = refl
-
--- ---- and that unpack them
-
-pub ats_none : (rows : List Row) → blank_table ≡ ats_to rows 0
-unfolding ats_to front tab
-ats_none rows = refl
-
-pub counts_none : (rows : List Row) → blank_counts ≡ counts_to rows 0
-unfolding counts_to front tab
-counts_none rows = refl
-
-pub ats_next : (rows : List Row) (i : ℕ) → i < 72 → set (ats_to rows i) i (get_or rows i no_row).at ≡ ats_to rows (i + 1)
-unfolding ats_to front
-ats_next rows i h = tabs.tab_set (λ l. (get_or rows l no_row).at) i blank_table (omega (arith, openings.length_blank_table))
-
-pub counts_next : (rows : List Row) (i : ℕ) → i < 72 → set (counts_to rows i) i (get_or rows i no_row).count ≡ counts_to rows (i + 1)
-unfolding counts_to front
-counts_next rows i h = tabs.tab_set (λ l. (get_or rows l no_row).count) i blank_counts (omega (arith, openings.length_blank_counts))
-
-pub ats_all : (rows : List Row) → length rows ≡ 72 → ats_to rows 72 ≡ ats_of rows
-unfolding ats_to front blank_table
-ats_all rows h =
-    append-nil (tab (λ l. (get_or rows l no_row).at) 72)
-    ∙ sym (tabs.map_tab (λ (r : Row). r.at) (λ l. get_or rows l no_row) 72)
-    ∙ ap ats_of (list_tab rows no_row 72 h)
-
-pub counts_all : (rows : List Row) → length rows ≡ 72 → counts_to rows 72 ≡ counts_of rows
-unfolding counts_to front blank_counts
-counts_all rows h =
-    append-nil (tab (λ l. (get_or rows l no_row).count) 72)
-    ∙ sym (tabs.map_tab (λ (r : Row). r.count) (λ l. get_or rows l no_row) 72)
-    ∙ ap counts_of (list_tab rows no_row 72 h)
+    pub left_fence : (u : ℕ) (k : Line) → t ≡ a_fence u k → OfThreads t → over_in heads nodes z x u ≡ false → Left t (set rows x (get_or since u no_row)) since
+    unfolding rows_left since_left since_after
+    left_fence u k is o b =
+        let p : x ≡ number_of z k = here ∙ ap (λ (w : Touch). (touched_row z w).line) is in
+        rw is (rw (← p, lt-ltb x 72 h, lt-ltb u 8 (rw is at o), b) (refl, refl))

@@ -1,6 +1,7 @@
 -- A run on its way, and a run that has come to its end.
-use Rattle.std.specs.Prelude.{ℕ, ◌≤◌, ◌≡◌, Bool, true, List, drop}
-use Rattle.answer.specs.Answers.{accepted}
+use Rattle.std.specs.Prelude.{Result, Ok, Err, ℕ, ◌≤◌, ◌≡◌, true, List, drop}
+use Rattle.answer.specs.Answers.{accepted, Taken}
+use Rattle.answer.specs.declared.Refusal.{Refusal}
 use Rattle.image.specs.Form.{head_lines}
 use Rattle.machine.specs.Line.{shape_of}
 use Rattle.machine.specs.declared.Machine.{Machine}
@@ -22,9 +23,14 @@ pub record Going (s : List ℕ) (i : ℕ) (m : Machine) (rows since : List Row) 
   pub answer : (ran s).answer ≡ (run i (bench_to s i) (drop i (events_in s))).answer
   pub bench : (ran s).bench ≡ (run i (bench_to s i) (drop i (events_in s))).bench
 
--- what the code's run of a schedule gives: the run's answer and, where no event is refused, its machine and the contents of its lines
-pub record RunIs (s : List ℕ) (r : Run) : Type 0 where
-  pub answer : r.answer ≡ (ran s).answer
-  pub machine : accepted r.answer ≡ true → r.machine ≡ (ran s).bench.machine
-  pub small : accepted r.answer ≡ true → (r.machine.n ≤ 64) × (head_lines (shape_of r.machine) ≤ 8)
-  pub tables : accepted r.answer ≡ true → Tables (ats_of r.rows) (counts_of r.rows) (table_in s)
+-- no event of the schedule is refused, and these are the machine behind the last one and the contents of its lines
+pub record RunTaken (s : List ℕ) (r : Run) : Type 0 where
+  pub answer : Taken ≡ (ran s).answer
+  pub machine : r.machine ≡ (ran s).bench.machine
+  pub small : (r.machine.n ≤ 64) × (head_lines (shape_of r.machine) ≤ 8)
+  pub tables : Tables (ats_of r.rows) (counts_of r.rows) (table_in s)
+
+-- what the code's run of a schedule gives: the run's refusal, or, where no event is refused, its machine and the contents of its lines
+abbrev pub RunIs : List ℕ → Result Run Refusal → Type 0
+RunIs s (Ok r) = RunTaken s r
+RunIs s (Err e) = Err e ≡ (ran s).answer

@@ -2,6 +2,7 @@
 
 #![tactic(auto)]
 
+pub mod following;
 pub mod over;
 pub mod paging;
 pub mod rows;

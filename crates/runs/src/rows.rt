@@ -1,51 +1,38 @@
 // The rows that a run keeps: for each line up to sixteen contents and their count, 17 standing for more.
 ghost use Rattle.std.specs.Prelude.{◌≡◌, ◌≤◌, ◌<◌};
 ghost use Rattle.image.specs.Form.{head_lines};
-ghost use Rattle.machine.specs.Line.{shape_of};
-ghost use Rattle.runs.specs.Rows.{rows_of, opened_rows, no_rows};
+ghost use Rattle.machine.specs.Line.{shape_of, line_count};
+ghost use Rattle.runs.specs.Rows.{opened_rows, no_rows};
 
-use endtable::opened::{opened_counts, opened_table};
+use endtable::opened::{cached_at, persisted_at};
 use endtable::row::Row;
-use image::Content;
+use image::{Shape, head_lines};
 use machine::Machine;
 
 // Behind a contract, so that no goal has the rows written out.
-pub fn no_rows() -> [Row; 72]
+fn no_rows() -> [Row; 72]
     ensures { result ≡ no_rows }
 {
-    let zero = Content {
-        linked: 0,
-        index: 0,
-        item: 0,
-    };
-    let row = Row {
-        count: 0,
-        at: [zero; 16],
-    };
-    [row; 72]
+    [Row::blank(); 72]
 }
 
-// The rows of a table and its counts.
-fn rows_of(t: [[Content; 16]; 72], counts: [u8; 72]) -> [Row; 72]
-    ensures { result ≡ rows_of t counts 72 }
+// How many lines there are.
+pub fn lines_of(z: Shape) -> usize
+    requires { head_lines z ≤ 8 }
+    ensures { result ≡ line_count z }
 {
+    head_lines(z) + z.n as usize
+}
+
+// After a start: each line has its persisted content, and the cached one where that is another.
+pub fn opened_rows(m: &Machine) -> [Row; 72]
+    requires { (m.now.n ≤ 64) × (head_lines (shape_of m.now) ≤ 8) }
+    ensures { result ≡ opened_rows m.now }
+{
+    let z = m.shape();
     let mut rows = no_rows();
-    let mut i = 0;
-    while i < 72 {
-        let at = t[i];
-        rows[i] = Row {
-            count: counts[i],
-            at,
-        };
-        i += 1;
+    for l in 0..lines_of(z) {
+        rows[l] = Row::opened(persisted_at(m, l), cached_at(m, l));
     }
     rows
-}
-
-// After a start.
-pub fn opened_rows(m: Machine) -> [Row; 72]
-    requires { (m.n ≤ 64) × (head_lines (shape_of m) ≤ 8) }
-    ensures { result ≡ opened_rows m }
-{
-    rows_of(opened_table(m), opened_counts(m))
 }

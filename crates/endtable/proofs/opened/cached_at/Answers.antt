@@ -1,27 +1,22 @@
 use Prim.Native.Nat.{◌-◌}
-use mathlib.Core.Path.{ap, ◌∙◌}
+use mathlib.Core.Path.{refl, sym, ap, ◌∙◌}
 use native.Mathlib.Omega.{arith}
-use Rattle.machine.specs.Record.{node, content_of}
+use borrow.Author.Tests.{ltb-true, ltb-false}
+use Rattle.std.proofs.lemmas.List.{get_or_read_under}
+use Rattle.machine.specs.Record.{node, content_of, zero_node}
+use Rattle.image.specs.Form.{head_lines}
 use Rattle.endtable.proofs.Openings as laws
 use Rattle.endtable.proofs.opened.cached_at.Goals as goal
 
-pub head_lines-lines-requires : goal.head_lines-lines-requires
-head_lines-lines-requires c = tt
-
-pub offset_bounds-m-l : goal.offset_bounds-m-l
-offset_bounds-m-l c = omega (arith, c.head_lines-lines.ensures)
-
-pub bounds-m-l : goal.bounds-m-l
-bounds-m-l c = omega (arith, c.head_lines-lines.ensures)
-
-pub head_content-requires : goal.head_content-requires
-head_content-requires c = tt
-
 pub returns-then-l-lines : goal.returns-then-l-lines
-returns-then-l-lines c = c.head_content.ensures ∙ laws.cached_head c.args.m c.args.l (omega (arith, c.head_lines-lines.ensures))
+returns-then-l-lines c = c.of_head.ensures ∙ laws.cached_head c.args.m.now c.args.l (omega (arith, c.head_lines-lines.ensures, ap head_lines c.shape.ensures))
 
-pub held_at-requires : goal.held_at-requires
-held_at-requires c = tt
+pub returns-in-Some : goal.returns-in-Some
+returns-in-Some c =
+    c.from.ensures ∙ ap content_of (get_or_read_under c.args.m.now.nodes (c.args.l - c.head_lines-lines.result) _ _ zero_node c.in-Some.ensures.lookup.1 (ltb-true _ _ (sym c.in-Some.ensures.lookup.0)) refl)
+    ∙ ap (λ x. content_of (node c.args.m.now (c.args.l - x))) (c.head_lines-lines.ensures ∙ ap head_lines c.shape.ensures) ∙ laws.cached_node c.args.m.now c.args.l (omega (arith, c.head_lines-lines.ensures, ap head_lines c.shape.ensures))
 
-pub returns : goal.returns
-returns c = c.held_at.ensures ∙ ap (λ x. content_of (node c.args.m (c.args.l - x))) c.head_lines-lines.ensures ∙ laws.cached_node c.args.m c.args.l (omega (arith, c.head_lines-lines.ensures))
+pub returns-in-None : goal.returns-in-None
+returns-in-None c =
+    c.of_head-in-None.ensures ∙ laws.held_none c.args.m.now.nodes (c.args.l - c.head_lines-lines.result) (ltb-false _ _ (sym c.in-None.ensures.lookup.0))
+    ∙ ap (λ x. content_of (node c.args.m.now (c.args.l - x))) (c.head_lines-lines.ensures ∙ ap head_lines c.shape.ensures) ∙ laws.cached_node c.args.m.now c.args.l (omega (arith, c.head_lines-lines.ensures, ap head_lines c.shape.ensures))

@@ -12,14 +12,8 @@ use Rattle.endtable.proofs.turn.turned.Goals as goal
 pub head_lines-requires : goal.head_lines-requires
 head_lines-requires c = tt
 
-pub overflow_add-i : goal.overflow_add-i
-overflow_add-i c = omega (arith, c.head_lines.ensures)
-
 pub loop-i-init : goal.loop-i-init
 loop-i-init c = (omega arith, refl)
-
-pub overflow_sub-i : goal.overflow_sub-i
-overflow_sub-i c = omega (arith, c.head_lines.ensures)
 
 pub bounds-p-i : goal.bounds-p-i
 bounds-p-i c = omega (arith, c.head_lines.ensures)

@@ -5,6 +5,3 @@ use Rattle.endtable.proofs.turn.turned.Given as goal
 
 abbrev pub invariant-loop-i : goal.invariant-loop-i
 invariant-loop-i l = (l.i ≤ l.initial.i) × (turned_of l.counts l.i l.p ≡ turned_of l.counts l.initial.i l.initial.p)
-
-abbrev pub decreases-loop-i : goal.decreases-loop-i
-decreases-loop-i l = l.i

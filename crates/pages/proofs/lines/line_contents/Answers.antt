@@ -1,57 +1,46 @@
 use Prim.Native.Nat.{◌<◌}
-use mathlib.Core.Path.{sym, ap, ◌∙◌}
-use mathlib.Core.Bool.{true, false}
+use mathlib.Core.Path.{refl, sym, ap, ◌∙◌}
 use native.Mathlib.Omega.{arith}
-use Rattle.answer.specs.Answers.{told, accepted}
+use Rattle.std.specs.Prelude.{Ok}
+use Rattle.answer.specs.Answers.{given}
+use Rattle.answer.proofs.Results.{came_back, passed_on}
 use Rattle.machine.specs.Line.{shape_of, line_count}
-use Rattle.runs.proofs.GoingLaws as going
+use Rattle.pages.specs.Lines.{line_shown}
 use Rattle.runs.proofs.PageLaws as pages
 use Rattle.pages.proofs.LineLaws as laws
 use Rattle.pages.proofs.lines.line_contents.Goals as goal
 
-pub returns-then-not-is_taken : goal.returns-then-not-is_taken
-returns-then-not-is_taken c =
+pub returns-in_err-r : goal.returns-in_err-r
+returns-in_err-r c =
     let s = c.args.s.now in
     let l = c.args.l in
-    let n = c.no_line.ensures in
-    let g = ap accepted (sym c.page_of-r.ensures.answer) ∙ (sym c.is_taken.ensures ∙ going.refused_of c.is_taken.result c.if-not-is_taken.true-raw) in
-    let e = laws.line_refused s l g in
-    let h = ap accepted (sym e) ∙ g in record { answers = ap told (n.0 ∙ c.page_of-r.ensures.answer ∙ e); counts = n.1.0 ∙ laws.no_count s l h; contents = n.1.1 ∙ laws.no_row_lem s l h }
+    passed_on _ _ c.from_residual.ensures.1 ∙ ap (λ a. given a (line_shown s l)) (c.in_err-r.ensures ∙ laws.line_refused s l (came_back refl (sym c.in_err-r.ensures)))
 
 pub lines_of-requires : goal.lines_of-requires
-lines_of-requires c =
-    let s = c.args.s.now in
-    let a = sym c.is_taken.ensures ∙ going.taken_of c.is_taken.result c.if-not-is_taken.false-raw in
-    (pages.page_small s c.page_of-r.result c.page_of-r.ensures a).1
+lines_of-requires c = rw c.shape.ensures (pages.page_small c.args.s.now c.in_ok-r.r c.in_ok-r.ensures).1
 
 pub returns-then-lines_of-i : goal.returns-then-lines_of-i
 returns-then-lines_of-i c =
     let s = c.args.s.now in
     let l = c.args.l in
-    let a = sym c.is_taken.ensures ∙ going.taken_of c.is_taken.result c.if-not-is_taken.false-raw in
-    let n = c.no_line-then-lines_of-i.ensures in
-    let e = laws.line_none s c.page_of-r.result c.page_of-r.ensures a l (omega (arith, c.if-lines_of-i.true, c.lines_of.ensures)) in
-    let h = ap accepted (sym e) in record { answers = ap told (n.0 ∙ e); counts = n.1.0 ∙ laws.no_count s l h; contents = n.1.1 ∙ laws.no_row_lem s l h }
+    let e = rw c.shape.ensures at c.lines_of.ensures in
+    rw (← laws.line_none s c.in_ok-r.r c.in_ok-r.ensures l (omega (arith, c.if-lines_of-i.true, e)))
 
-pub bounds-rows-i : goal.bounds-rows-i
-bounds-rows-i c =
-    let s = c.args.s.now in
-    let l = c.args.l in
-    let a = sym c.is_taken.ensures ∙ going.taken_of c.is_taken.result c.if-not-is_taken.false-raw in
-    let w = pages.page_small s c.page_of-r.result c.page_of-r.ensures a in
-    omega (arith, c.if-lines_of-i.false, c.lines_of.ensures, w.0, w.1)
+pub bounds-r-i : goal.bounds-r-i
+bounds-r-i c =
+    let w = pages.page_small c.args.s.now c.in_ok-r.r c.in_ok-r.ensures in
+    let e = rw c.shape.ensures at c.lines_of.ensures in
+    omega (arith, c.if-lines_of-i.false, e, w.0, w.1)
 
 pub shown-requires : goal.shown-requires
 shown-requires c =
-    let s = c.args.s.now in
-    let l = c.args.l in
-    let a = sym c.is_taken.ensures ∙ going.taken_of c.is_taken.result c.if-not-is_taken.false-raw in
-    laws.line_few s c.page_of-r.result c.page_of-r.ensures a l (omega (arith, c.if-lines_of-i.false, c.lines_of.ensures))
+    let e = rw c.shape.ensures at c.lines_of.ensures in
+    laws.line_few c.args.s.now c.in_ok-r.r c.in_ok-r.ensures c.args.l (omega (arith, c.if-lines_of-i.false, e))
 
 pub returns : goal.returns
 returns c =
     let s = c.args.s.now in
     let l = c.args.l in
-    let a = sym c.is_taken.ensures ∙ going.taken_of c.is_taken.result c.if-not-is_taken.false-raw in
-    let n = c.shown.ensures in
-    let h : l < line_count (shape_of c.page_of-r.result.machine) = omega (arith, c.if-lines_of-i.false, c.lines_of.ensures) in record { answers = ap told (n.0 ∙ laws.line_taken s c.page_of-r.result c.page_of-r.ensures a l h); counts = n.1.0 ∙ laws.line_count_lem s c.page_of-r.result c.page_of-r.ensures a l h; contents = n.1.1 ∙ laws.line_row s c.page_of-r.result c.page_of-r.ensures a l h }
+    let e = rw c.shape.ensures at c.lines_of.ensures in
+    let h : l < line_count (shape_of c.in_ok-r.r.machine) = omega (arith, c.if-lines_of-i.false, e) in
+    rw (← laws.line_taken s c.in_ok-r.r c.in_ok-r.ensures l h, c.shown.ensures) (ap Ok (laws.line_shows s c.in_ok-r.r c.in_ok-r.ensures l h))

@@ -1,48 +1,44 @@
-use Rattle.answer.specs.Answers.{accepted}
-use Rattle.schedule.specs.Layout.{Opened}
+use mathlib.Core.Path.{refl, sym, ◌∙◌}
 use native.Mathlib.Omega.{arith}
-use mathlib.Core.Path.{sym, ap, ◌∙◌}
-use Rattle.runs.proofs.GoingLaws as going
-use Rattle.runs.proofs.PageLaws as laws
+use Rattle.answer.proofs.Results.{went_on, came_back, given_taken, given_refused}
+use Rattle.schedule.specs.Layout.{schedule_answer, schedule_in}
 use Rattle.codec.proofs.Accepted as codec
+use Rattle.runs.proofs.PageLaws as laws
 use Rattle.runs.proofs.paging.page_of.Goals as goal
 
-pub returns-then-not-is_taken : goal.returns-then-not-is_taken
-returns-then-not-is_taken c =
+pub returns-in_err-d : goal.returns-in_err-d
+returns-in_err-d c =
     let s = c.args.s.now in
-    let f = sym c.is_taken.ensures ∙ going.refused_of c.is_taken.result c.if-not-is_taken.true-raw in
-    let a = ap (λ (x : Opened). x.answer) c.open_schedule-o.ensures ∙ codec.opened_answer s in
-    laws.page_refused s c.refused.result c.open_schedule-o.result.answer c.refused.ensures (a ∙ laws.page_bytes s (ap accepted (sym a) ∙ f)) f
+    let a = given_refused (schedule_answer s) (schedule_in s) (c.open_schedule.ensures ∙ codec.schedule_given s) c.in_err-d.was in
+    laws.refused_page s _ _ c.from_residual.ensures.1 (sym a ∙ laws.page_bytes s (came_back refl a))
 
-pub run_events-r-requires : goal.run_events-r-requires
-run_events-r-requires c =
+pub run_events-requires : goal.run_events-requires
+run_events-requires c = let s = c.args.s.now in given_taken (schedule_answer s) (schedule_in s) (c.open_schedule.ensures ∙ codec.schedule_given s) c.in_ok-d.was
+
+pub returns-in_err-r : goal.returns-in_err-r
+returns-in_err-r c =
     let s = c.args.s.now in
-    let a = ap (λ (x : Opened). x.answer) c.open_schedule-o.ensures ∙ codec.opened_answer s in
-    let h = ap accepted (sym a) ∙ sym c.is_taken.ensures ∙ going.taken_of c.is_taken.result c.if-not-is_taken.false-raw in
-    (h, ap (λ (x : Opened). x.schedule) c.open_schedule-o.ensures ∙ codec.opened_schedule s h)
+    let t = given_taken (schedule_answer s) (schedule_in s) (c.open_schedule.ensures ∙ codec.schedule_given s) c.in_ok-d.was in
+    laws.refused_page s _ _ c.from_residual-in_err-r.ensures.1 (c.in_err-r.ensures ∙ laws.page_events s t.0 (came_back refl (sym c.in_err-r.ensures)))
 
-pub returns-then-not-is_taken-2 : goal.returns-then-not-is_taken-2
-returns-then-not-is_taken-2 c =
+pub lines_of-requires : goal.lines_of-requires
+lines_of-requires c = rw c.shape.ensures c.in_ok-r.ensures.small.1
+
+pub counts_answer-requires : goal.counts_answer-requires
+counts_answer-requires c =
+    let n = c.in_ok-r.ensures.small in
+    rw (c.lines_of.ensures, c.shape.ensures, c.counts_of.ensures) (omega (arith, n.0, n.1), laws.rows_counted c.args.s.now c.in_ok-r.r c.in_ok-r.ensures)
+
+pub returns-in_err-counts_answer : goal.returns-in_err-counts_answer
+returns-in_err-counts_answer c =
     let s = c.args.s.now in
-    let a = ap (λ (x : Opened). x.answer) c.open_schedule-o.ensures ∙ codec.opened_answer s in
-    let h = ap accepted (sym a) ∙ sym c.is_taken.ensures ∙ going.taken_of c.is_taken.result c.if-not-is_taken.false-raw in
-    let f = sym c.is_taken-2.ensures ∙ going.refused_of c.is_taken-2.result c.if-not-is_taken-2.true-raw in
-    laws.page_refused s c.refused-then-not-is_taken-2.result c.run_events-r.result.answer c.refused-then-not-is_taken-2.ensures
-    (c.run_events-r.ensures.answer ∙ laws.page_events s h (ap accepted (sym c.run_events-r.ensures.answer) ∙ f)) f
-
-pub lines_of-lines-requires : goal.lines_of-lines-requires
-lines_of-lines-requires c = (c.run_events-r.ensures.small (sym c.is_taken-2.ensures ∙ going.taken_of c.is_taken-2.result c.if-not-is_taken-2.false-raw)).1
-
-pub counts_answer-answer-requires : goal.counts_answer-answer-requires
-counts_answer-answer-requires c =
-    let f = sym c.is_taken-2.ensures ∙ going.taken_of c.is_taken-2.result c.if-not-is_taken-2.false-raw in
-    let n = c.run_events-r.ensures.small f in
-    (omega (arith, n.0, n.1, c.lines_of-lines.ensures), rw (c.counts_of-counts.ensures, c.lines_of-lines.ensures) (laws.rows_counted c.args.s.now c.run_events-r.result c.run_events-r.ensures f))
+    let t = given_taken (schedule_answer s) (schedule_in s) (c.open_schedule.ensures ∙ codec.schedule_given s) c.in_ok-d.was in
+    let e = rw (c.lines_of.ensures, c.shape.ensures, c.counts_of.ensures) at c.counts_answer.ensures in
+    laws.refused_page s _ _ c.from_residual-in_err-counts_answer.ensures.1 (sym c.in_err-counts_answer.was ∙ e ∙ laws.page_limits s c.in_ok-r.r c.in_ok-r.ensures t.0)
 
 pub returns : goal.returns
 returns c =
     let s = c.args.s.now in
-    let a = ap (λ (x : Opened). x.answer) c.open_schedule-o.ensures ∙ codec.opened_answer s in
-    let h = ap accepted (sym a) ∙ sym c.is_taken.ensures ∙ going.taken_of c.is_taken.result c.if-not-is_taken.false-raw in
-    let f = sym c.is_taken-2.ensures ∙ going.taken_of c.is_taken-2.result c.if-not-is_taken-2.false-raw in
-    laws.page_taken s c.run_events-r.result c.run_events-r.ensures f h c.counts_answer-answer.result (c.counts_answer-answer.ensures ∙ rw (c.counts_of-counts.ensures, c.lines_of-lines.ensures))
+    let t = given_taken (schedule_answer s) (schedule_in s) (c.open_schedule.ensures ∙ codec.schedule_given s) c.in_ok-d.was in
+    let e = rw (c.lines_of.ensures, c.shape.ensures, c.counts_of.ensures) at c.counts_answer.ensures in
+    laws.page_taken s c.in_ok-r.r c.in_ok-r.ensures t.0 (laws.counts_taken _ _ (went_on e c.in_ok-counts_answer.was))

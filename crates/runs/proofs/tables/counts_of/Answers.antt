@@ -1,18 +1,13 @@
+use Prim.Native.Nat.{ℕ, ◌<◌}
+use lib.ListN.{length, get_or}
+use mathlib.Core.Path.{◌≡◌}
 use borrow.Author.Rules.{rules}
-use native.Mathlib.Omega.{arith}
-use mathlib.Core.Path.{◌≡◌, ◌∙◌}
-use lib.ListN.{length}
+use Rattle.endtable.specs.Rows.{no_row}
 use Rattle.runs.proofs.RowLaws as laws
 use Rattle.runs.proofs.tables.counts_of.Goals as goal
 
-pub loop-i-init : goal.loop-i-init
-loop-i-init c = (omega arith, c.blank_counts-counts.ensures ∙ laws.counts_none c.args.rows)
-
-pub loop-i-preserved : goal.loop-i-preserved
-loop-i-preserved c = (omega arith, rw c.loop-i.invariant.1 (laws.counts_next c.args.rows c.loop-i.i (omega arith)))
-
 pub returns : goal.returns
 returns c =
-    let e : c.loop-i.i ≡ 72 = omega arith in
     let n : length c.args.rows ≡ 72 = search rules in
-    c.loop-i.invariant.1 ∙ rw e (laws.counts_all c.args.rows n)
+    let each : (i : ℕ) → i < 72 → get_or c.map.result i 0 ≡ (get_or c.args.rows i no_row).count = λ i p. let one = c.map.ensures.items.at i no_row 0 p in search rules in
+    laws.mapped_count c.args.rows c.map.result n c.map.ensures.items.long each

@@ -1,7 +1,0 @@
-use Rattle.endtable.specs.Opened.{blank_counts}
-use mathlib.Core.Path.{refl}
-use Rattle.endtable.proofs.opened.blank_counts.Goals as goal
-
-pub returns : goal.returns
-unfolding blank_counts
-returns c = refl
