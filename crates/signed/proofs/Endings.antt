@@ -4,7 +4,7 @@ use mathlib.Core.Path.{◌≡◌, sym, ap, ◌∙◌}
 use mathlib.Core.Bool.{true}
 use mathlib.Core.List.{List}
 use lib.ListN.{length, take}
-use Rattle.answer.specs.Answers.{accepted, Answer}
+use Rattle.answer.specs.Answers.{accepted, given, Answer}
 use Rattle.image.specs.Layout.{image_bytes}
 use Rattle.image.specs.Refusals.{read_image, Read}
 use Rattle.page.specs.Refusals.{page_answer, ending_count, ending_in, ending_written}
@@ -26,8 +26,8 @@ bytes_are s bytes h k lt b l a z (κs, x, y, y', e, f, g, p) =
 
 reads_back : (s : List ℕ) → Bytes s → accepted (page_answer s) ≡ true → ReadsBack s
 reads_back s bytes h k lt b l a z w r p =
-    let o = reads_is (take (ending_size s) z) r p ∙ ap read_image (bytes_are s bytes h k lt b l a z w) ∙ bytes_read s bytes h k lt in
-    (ap (λ (x : Read). x.answer) o, ap (λ (x : Read). x.image) o)
+    reads_is (take (ending_size s) z) r p
+    ∙ ap (λ (x : Read). given x.answer x.image) (ap read_image (bytes_are s bytes h k lt b l a z w) ∙ bytes_read s bytes h k lt)
 
 bytes_apart : (s : List ℕ) → Bytes s → accepted (page_answer s) ≡ true → BytesApart s
 bytes_apart s bytes h j k p q b b' l l' a a' z z' w w' e =

@@ -8,9 +8,10 @@ use native.Mathlib.Omega.{arith}
 use lib.ListN.{length}
 use borrow.Author.Tests.{le-ltb}
 use Rattle.lists.proofs.TabLaws.{length_tab}
-use Rattle.answer.specs.Answers.{told, accepted, Answer, Taken}
+use Rattle.std.specs.Prelude.{Result, Ok}
+use Rattle.answer.specs.Answers.{told, accepted, given, Answer, Taken}
+use Rattle.answer.specs.declared.Refusal.{Refusal}
 use Rattle.answer.specs.declared.Told.{Told}
-use Rattle.answer.proofs.Injective.{told_injective}
 use Rattle.image.proofs.ByteLaws.{at_small}
 use Rattle.schedule.specs.Layout.{count_in, event_in, events_in, threads_in, schedule_in}
 use Rattle.schedule.specs.Run.{Bench, Ran, ran}
@@ -21,10 +22,10 @@ use Rattle.lawful.specs.Demand3.{Bytes, first_queue}
 use Rattle.judging.specs.History as history
 use Rattle.judging.specs.History.{history_answer}
 use Rattle.judging.specs.Search as S
-use Rattle.judging.specs.Judged.{verdict_number, number_of, judged_in}
+use Rattle.judging.specs.Judged.{verdict_number, verdict_in, number_of, said_of, judged_in}
 use Rattle.judging.specs.declared.Judgement.{Judgement}
 use Rattle.judging.specs.declared.Verdict.{Verdict}
-use Rattle.judging.specs.declared.Verdict.TheVariants.{Lawful, Unlawful, Undecided}
+use Rattle.judging.specs.declared.Verdict.TheVariants.{Unlawful}
 use Rattle.judgeproof.specs.Written.{history_bytes}
 use Rattle.judgeproof.proofs.InTime.{InTime, AllInTime, run_in_time, in_time_at, lawful_fits}
 use Rattle.judgeproof.proofs.Written.{Ordinary}
@@ -38,6 +39,11 @@ use Rattle.tied.proofs.Schedules.{schedule_starts, schedule_narrow}
 use Rattle.lawproof.proofs.Short.{start_short, first_short}
 use Rattle.lawproof.proofs.Lawful3.{page_parts, page_lawful}
 use Rattle.signed.specs.Judged.{operations_of, last_queue, history_of, Judges, JudgesC, NeverUnlawful, AllNeverUnlawful}
+
+not_unlawful : (v : S.Verdict) → (v ≡ S.unlawful → ⊥) → verdict_in v ≢ Unlawful
+not_unlawful S.unlawful f z = f refl
+not_unlawful S.lawful f z = let n = ap verdict_number z in omega arith
+not_unlawful S.undecided f z = let n = ap verdict_number z in omega arith
 
 module _ (s : List ℕ) (bytes : Bytes s) (a : accepted (page_answer s) ≡ true) (k : ℕ) (lt : k < ending_count s) where
   lawful : L.Lawful (operations_of s) (first_queue s) (last_queue s k)
@@ -94,10 +100,11 @@ module _ (s : List ℕ) (bytes : Bytes s) (a : accepted (page_answer s) ≡ true
     pub never_judged : NeverUnlawful s k
     never_judged = record { judged = here; judged_c = there }
       where
-        here : (r : Judgement) → Judges h r → (r.answer ≡ Taken) × (r.verdict ≢ Unlawful)
+        here : (r : Result Judgement Refusal) → Judges h r → (j : Judgement) × (r ≡ Ok j) × (j.verdict ≢ Unlawful)
         here r (κs, x, e, c) = (
-          told_injective r.answer Taken (c.0 ∙ ap (λ (y : List ℕ). told (history_answer y)) e ∙ ap (λ (t : Answer). told t) taken),
-          λ u. not_zero (sym (ap (λ (y : List ℕ). number_of (judged_in y).verdict) e) ∙ sym c.1.0 ∙ ap verdict_number u),
+          said_of (judged_in h),
+          c ∙ ap (λ (y : List ℕ). given (history_answer y) (said_of (judged_in y))) e ∙ ap (λ (t : Answer). given t (said_of (judged_in h))) taken,
+          not_unlawful (judged_in h).verdict never,
         )
 
         there : (b z : List ℕ) (q : ℕ) → 16 ≤ length b → JudgesC h b q z → (q % 256 ≡ 0) × (q / 256 / 16777216 % 256 ≢ 0)

@@ -7,7 +7,10 @@ use contract.Lifetimes.{Lfts}
 use denote.MutBor.{MutBor}
 use denote.Ref.{Bor}
 use lib.ListN.{length}
+use Rattle.std.specs.Prelude.{Result, Err}
 use Rattle.answer.specs.Answers.{accepted, Answer}
+use Rattle.answer.specs.declared.Refusal.{Refusal}
+use Rattle.answer.proofs.Results.{given_refused, came_back}
 use Rattle.answer.proofs.Injective.{told_injective}
 use Rattle.image.specs.Refusals.{write_answer, written}
 use Rattle.image.specs.declared.Image.{Image}
@@ -19,9 +22,8 @@ use Rattle.machine.specs.declared.Event.{Event}
 use Rattle.machine.specs.declared.Out.{Out}
 use Rattle.page.specs.Refusals.{ending_answer}
 use Rattle.page.specs.Filled.{lines_answer}
-use Rattle.filling.specs.Lines.{refusal_answer}
+use Rattle.filling.specs.Lines.{lines_said, refusal_answer, refusal_bytes}
 use Rattle.filling.specs.declared.calls.Lines.{Lines}
-use Rattle.filling.specs.declared.calls.Filled.{Filled}
 use Rattle.events.proofs.Refused.{on_same}
 use Rattle.codec.proofs.write_image.Reads as write
 use Rattle.events.proofs.on_event.Reads as event
@@ -62,15 +64,15 @@ ending_refused κs s k b z r p h =
     p.1 ∙ ending_stays s.now k b.now (refusal r a (told_injective r a p.0) h)
 
 pub page_lines_refused :
-    (κs : Lfts 2) (s : Bor (List ℕ)) (k : ℕ) (b z : MutBor (List ℕ)) (r : Lines) →
-    lines.Post κs (s, (k, (b, tt))) r (s, (k, (z, tt))) → accepted r.answer ≡ false → z.now ≡ b.now
-page_lines_refused κs s k b z r p h =
-    let a = lines_answer s.now k (length b.now) in
-    p.1.1.1.0 ∙ lines_stay s.now k b.now (refusal r.answer a (told_injective r.answer a p.0) h)
+    (κs : Lfts 2) (s : Bor (List ℕ)) (k : ℕ) (b z : MutBor (List ℕ)) (r : Result Lines Refusal) (e : Refusal) →
+    lines.Post κs (s, (k, (b, tt))) r (s, (k, (z, tt))) → r ≡ Err e → z.now ≡ b.now
+page_lines_refused κs s k b z r e p was =
+    let a = given_refused (lines_answer s.now k (length b.now)) (lines_said s.now k (length b.now)) p.0 was in
+    p.1.0 ∙ lines_stay s.now k b.now (came_back refl a)
 
 pub refusal_line_refused :
-    (κs : Lfts 1) (i v : ℕ) (b z : MutBor (List ℕ)) (r : Filled) →
-    line.Post κs (i, (v, (b, tt))) r (i, (v, (z, tt))) → accepted r.answer ≡ false → z.now ≡ b.now
-refusal_line_refused κs i v b z r p h =
-    let a = refusal_answer i v (length b.now) in
-    p.1.1 ∙ line_stays i v b.now (refusal r.answer a (told_injective r.answer a p.0) h)
+    (κs : Lfts 1) (i v : ℕ) (b z : MutBor (List ℕ)) (r : Result ℕ Refusal) (e : Refusal) →
+    line.Post κs (i, (v, (b, tt))) r (i, (v, (z, tt))) → r ≡ Err e → z.now ≡ b.now
+refusal_line_refused κs i v b z r e p was =
+    let a = given_refused (refusal_answer i v (length b.now)) (length (refusal_bytes i v (length b.now))) p.0 was in
+    p.1 ∙ line_stays i v b.now (came_back refl a)

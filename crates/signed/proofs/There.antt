@@ -6,6 +6,7 @@ use contract.Lifetimes.{Lfts}
 use denote.MutBor.{MutBor}
 use denote.Ref.{Bor}
 use lib.ListN.{length}
+use Rattle.answer.specs.Answers.{given}
 use Rattle.page.specs.Refusals.{page_answer, ending_answer, ending_written}
 use Rattle.runs.specs.Paged.{count_of}
 use Rattle.calls.specs.Calls.{endings_counted, ending_given}
@@ -18,8 +19,8 @@ lent s = record { ref_ptr = (0, 0); now = s }
 abbrev lent_mut : List ℕ → MutBor (List ℕ)
 lent_mut s = record { ref_ptr = (0, 0); ghost_name = 0; now = s }
 
-pub counts_there : Lfts 1 → (s : List ℕ) → Counts s (record { answer = page_answer s; count = count_of s })
-counts_there κs s = (κs, lent s, refl, (refl, refl))
+pub counts_there : Lfts 1 → (s : List ℕ) → Counts s (given (page_answer s) (count_of s))
+counts_there κs s = (κs, lent s, refl, refl)
 
 pub writes_there : Lfts 2 → (s : List ℕ) (k : ℕ) (b : List ℕ) → Writes s k b (ending_answer s k (length b)) (ending_written s k b)
 writes_there κs s k b = (κs, lent s, lent_mut b, lent_mut (ending_written s k b), refl, refl, refl, (refl, refl))

@@ -1,10 +1,10 @@
 -- Images as the calls read and write them, and the bytes of an ending. Nothing is asked of the calls but their contracts, as the source has them.
-use Rattle.std.specs.Prelude.{ℕ, ◌<◌, ◌≤◌, ◌≡◌, true, List, length, take}
+use Rattle.std.specs.Prelude.{ℕ, ◌<◌, ◌≤◌, ◌≡◌, true, List, length, take, Result, Ok}
 use contract.Lifetimes.{Lfts}
 use Rattle.std.specs.Borrow.{Bor, MutBor}
-use Rattle.answer.specs.Answers.{accepted, Answer, Taken}
+use Rattle.answer.specs.Answers.{accepted, Answer}
+use Rattle.answer.specs.declared.Refusal.{Refusal}
 use Rattle.image.specs.declared.Image.{Image}
-use Rattle.image.specs.Refusals.{Read}
 use Rattle.page.specs.Refusals.{page_answer, ending_count, ending_in}
 use Rattle.lawful.specs.Demand3.{Bytes}
 use Rattle.codec.proofs.read_image.Reads as reading
@@ -12,7 +12,7 @@ use Rattle.codec.proofs.write_image.Reads as writing
 use Rattle.signed.specs.Signed.{Writes, ending_size}
 
 -- read_image's contract allows the result r for the bytes s
-abbrev pub ReadsAs : List ℕ → Read → Type 0
+abbrev pub ReadsAs : List ℕ → Result Image Refusal → Type 0
 ReadsAs s r = (κs : Lfts 1) × (x : Bor (List ℕ)) × (x.now ≡ s) × reading.Post κs (x, tt) r (x, tt)
 
 -- write_image's contract allows the answer a for the contents g and a lent buffer that holds b before and z after it
@@ -25,7 +25,7 @@ WritesAs g b a z =
 -- ending k, written into a lent buffer and read from there, is taken, and is ending k
 abbrev pub ReadsBack : List ℕ → Type 0
 ReadsBack s = (k : ℕ) → k < ending_count s → (b : List ℕ) → ending_size s ≤ length b → (a : Answer) (z : List ℕ) → Writes s k b a z
-    → (r : Read) → ReadsAs (take (ending_size s) z) r → (r.answer ≡ Taken) × (r.image ≡ ending_in s k)
+    → (r : Result Image Refusal) → ReadsAs (take (ending_size s) z) r → r ≡ Ok (ending_in s k)
 
 -- two endings differ in their bytes
 abbrev pub BytesApart : List ℕ → Type 0

@@ -1,9 +1,10 @@
 -- What the judge says of the page's own endings: the operations of a schedule since its last start, with the queue there and the queue that an
 -- ending recovers to, are a history, and no ending of an accepted schedule is ever judged unlawful.
-use Rattle.std.specs.Prelude.{ℕ, ◌<◌, ◌≤◌, ◌/◌, ◌%◌, ◌≡◌, true, List, [], ◌≢◌, length}
+use Rattle.std.specs.Prelude.{ℕ, ◌<◌, ◌≤◌, ◌/◌, ◌%◌, ◌≡◌, true, List, [], ◌≢◌, length, Result, Ok}
 use contract.Lifetimes.{Lfts}
 use Rattle.std.specs.Borrow.{Bor, MutBor}
-use Rattle.answer.specs.Answers.{accepted, Answer, Taken}
+use Rattle.answer.specs.Answers.{accepted}
+use Rattle.answer.specs.declared.Refusal.{Refusal}
 use Rattle.machine.specs.Start.{start_of}
 use Rattle.schedule.specs.Layout.{events_in, threads_in}
 use Rattle.schedule.specs.Run.{Bench, Ran, ran}
@@ -12,8 +13,7 @@ use Rattle.lawful.specs.Operation.{Operation, operations}
 use Rattle.lawful.specs.Plain.{queue_in}
 use Rattle.lawful.specs.Demand3.{Bytes, first_queue}
 use Rattle.judging.specs.declared.Judgement.{Judgement}
-use Rattle.judging.specs.declared.Verdict.{Verdict}
-use Rattle.judging.specs.declared.Verdict.TheVariants.{Lawful, Unlawful, Undecided}
+use Rattle.judging.specs.declared.Verdict.TheVariants.{Unlawful}
 use Rattle.judging.proofs.judge_history.Reads as judging
 use Rattle.library.proofs.histories.uq_judge.Reads as judging_c
 use Rattle.judgeproof.specs.Written.{history_bytes}
@@ -34,8 +34,8 @@ history_of s k = history_bytes (operations_of s) (first_queue s) (last_queue s k
 
 -- ---- what the judge may say of it; nothing is asked of the calls but their contracts, as the source has them
 
--- judge_history's contract allows the judgement r for the bytes h
-abbrev pub Judges : List ℕ → Judgement → Type 0
+-- judge_history's contract allows the result r for the bytes h
+abbrev pub Judges : List ℕ → Result Judgement Refusal → Type 0
 Judges h r = (κs : Lfts 1) × (x : Bor (List ℕ)) × (x.now ≡ h) × judging.Post κs (x, tt) r (x, tt)
 
 -- uq_judge's contract allows the number q for the bytes h and a lent buffer that holds b before and z after it
@@ -46,7 +46,7 @@ JudgesC h b q z =
 
 -- the history is taken, and neither call says unlawful (0, in the byte where include/uq.h finds a verdict)
 pub record NeverUnlawful (s : List ℕ) (k : ℕ) : Type 0 where
-  pub judged : (r : Judgement) → Judges (history_of s k) r → (r.answer ≡ Taken) × (r.verdict ≢ Unlawful)
+  pub judged : (r : Result Judgement Refusal) → Judges (history_of s k) r → (j : Judgement) × (r ≡ Ok j) × (j.verdict ≢ Unlawful)
   pub judged_c : (b z : List ℕ) (q : ℕ) → 16 ≤ length b → JudgesC (history_of s k) b q z → (q % 256 ≡ 0) × (q / 256 / 16777216 % 256 ≢ 0)
 
 -- for every byte string whose page is not refused and each of its endings, where there are no more operations than a history may have; the
