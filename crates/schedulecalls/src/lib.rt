@@ -2,18 +2,21 @@
 
 #![tactic(auto)]
 
-ghost use Rattle.std.specs.Prelude.{◌≡◌, length};
-ghost use Rattle.page.specs.Refusals.{ending_written};
+ghost use Rattle.std.specs.Prelude.{◌≡◌, ◌<◌, length, IfOk};
+ghost use Rattle.answer.specs.Answers.{given};
+ghost use Rattle.page.specs.Refusals.{page_answer, ending_written};
+ghost use Rattle.runs.specs.Paged.{count_of};
 ghost use Rattle.calls.specs.Calls.{image_checked, schedule_checked, endings_counted, ending_given};
 
-use calls::packing::packed_of;
+use answer::Refusal;
+use calls::packing::{packed_answer, packed_result};
 
 // Whether the bytes are an image. None is built.
 pub fn check_image(image: &[u8]) -> u64
     ensures { result ≡ image_checked image.now }
 {
     let a = codec::check_alone(image);
-    packed_of(a, 0)
+    packed_answer(a)
 }
 
 // Whether the bytes are a schedule, up to its events. None is built.
@@ -21,17 +24,23 @@ pub fn check_schedule(schedule: &[u8]) -> u64
     ensures { result ≡ schedule_checked schedule.now }
 {
     let b = codec::check_schedule(schedule);
-    packed_of(b, 0)
+    packed_answer(b)
+}
+
+// How many endings the schedule has.
+fn counted(schedule: &[u8]) -> Result<u64, Refusal>
+    ensures gives { result ≡ given (page_answer schedule.now) (count_of schedule.now) }
+    ensures small { IfOk result (λ v. v < 72057594037927936) }
+{
+    let count = pages::count_endings(schedule)?;
+    Ok(u64::from(count))
 }
 
 // How many endings the schedule has: the value.
 pub fn count_endings(schedule: &[u8]) -> u64
     ensures { result ≡ endings_counted schedule.now }
 {
-    let page = pages::count_endings(schedule);
-    let c = page.answer;
-    let count = page.count as u64;
-    packed_of(c, count)
+    packed_result(counted(schedule))
 }
 
 // Ending k as an image, in the form of the schedule's, into the front of the buffer.
@@ -40,5 +49,5 @@ pub fn ending(schedule: &[u8], k: u64, buffer: &mut [u8]) -> u64
     ensures bytes { buffer.new ≡ ending_written schedule.now k buffer.old }
 {
     let given = pages::ending_of(schedule, k, buffer);
-    packed_of(given, 0)
+    packed_answer(given)
 }

@@ -1,5 +1,5 @@
-use mathlib.Core.Path.{◌∙◌}
+use Rattle.calls.proofs.Gives as gives
 use Rattle.schedulecalls.proofs.count_endings.Goals as goal
 
 pub returns : goal.returns
-returns c = c.packed_of.ensures ∙ rw (c.count_endings-page.ensures.answers, c.count_endings-page.ensures.counts)
+returns c = gives.packs _ _ c.packed_result.ensures c.counted.ensures.gives

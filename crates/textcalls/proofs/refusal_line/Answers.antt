@@ -1,5 +1,5 @@
-use mathlib.Core.Path.{◌∙◌}
+use Rattle.calls.proofs.Gives as gives
 use Rattle.textcalls.proofs.refusal_line.Goals as goal
 
 pub returns : goal.returns
-returns c = record { answers = c.packed_of.ensures ∙ rw (c.lines_of-value.ensures.0, c.refusal_line-line.ensures.answers, c.refusal_line-line.ensures.bytes); bytes = c.refusal_line-line.ensures.written }
+returns c = record { answers = gives.packs _ _ c.packed_result.ensures c.put_refusal.ensures.gives; bytes = c.put_refusal.ensures.bytes }
