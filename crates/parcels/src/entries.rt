@@ -1,13 +1,14 @@
 // The group of a parcel at an ending that was started, and its entry.
 ghost use Rattle.std.specs.Prelude.{◌≡◌, ◌+◌, ◌≤◌, length};
 ghost use Rattle.lists.specs.Tab.{over};
-ghost use Rattle.parcels.specs.Parcel.{node_at, turns_away};
+ghost use Rattle.parcels.specs.Parcel.{turns_away};
 ghost use Rattle.parcels.specs.Despatch.{entry_bytes};
 ghost use Rattle.parcels.specs.Started.{head_in, queued_in, group_in, no_parcels};
 
+use crate::moves::node_at;
 use crate::{Group, Parcel};
 use answer::Reply;
-use machine::{Machine, Node};
+use machine::Machine;
 
 // Behind a contract, so that no goal has the places written out.
 pub fn no_parcels() -> [Parcel; 4096]
@@ -24,21 +25,6 @@ pub fn no_parcels() -> [Parcel; 4096]
         handed: false,
     };
     [none; 4096]
-}
-
-fn node_at(m: Machine, i: u8) -> Node
-    ensures { result ≡ node_at m i }
-{
-    if 64 <= i {
-        return Node {
-            index: 0,
-            item: 0,
-            next: 0,
-            linked: 0,
-            waits: 0,
-        };
-    }
-    m.nodes[i as usize]
 }
 
 // Recovered, with the index that it was linked with; top is the head index.

@@ -5,7 +5,7 @@ ghost use Rattle.parcels.specs.Parcel.{thread_at, node_at, said_news, news_of, i
 
 use crate::{News, Parcel};
 use answer::{Answer, Reply};
-use machine::{Event, Machine, Out, Thread};
+use machine::{Event, Machine, Node, Out, Thread};
 
 fn thread_at(m: Machine, k: u8) -> Thread
     ensures { result ≡ thread_at m k }
@@ -25,14 +25,19 @@ fn thread_at(m: Machine, k: u8) -> Thread
     m.threads[k as usize]
 }
 
-fn index_at(m: Machine, i: u8) -> u64
-    ensures { result ≡ (node_at m i).index }
+pub fn node_at(m: Machine, i: u8) -> Node
+    ensures { result ≡ node_at m i }
 {
     if 64 <= i {
-        return 0;
+        return Node {
+            index: 0,
+            item: 0,
+            next: 0,
+            linked: 0,
+            waits: 0,
+        };
     }
-    let v = m.nodes[i as usize];
-    v.index
+    m.nodes[i as usize]
 }
 
 // By what a step of thread k answered.
@@ -64,10 +69,10 @@ pub fn news_of(m: Machine, k: u8, out: Out) -> News
 {
     let v = thread_at(m, k);
     if is_gone(m, out.machine, k, Machine::A8, Machine::A9) {
-        return News::Linked(k, v.node, index_at(m, v.node));
+        return News::Linked(k, v.node, node_at(m, v.node).index);
     }
     if is_gone(m, out.machine, k, Machine::D4, Machine::D5) {
-        return News::Took(k, index_at(m, v.next));
+        return News::Took(k, node_at(m, v.next).index);
     }
     said_news(k, out.answer)
 }
@@ -81,7 +86,7 @@ pub fn fresh(i: u16, e: Event) -> Parcel
         item: e.item,
         began: i,
         thread: e.number,
-        node: 255,
+        node: Machine::NONE,
         said: Reply::Taken,
         taker: None,
         handed: false,
