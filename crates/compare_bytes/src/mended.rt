@@ -1,7 +1,8 @@
 // Images mended. An item is an image and the lent buffer's room (2 bytes); the list has room for all nodes.
 use crate::lent::without_last;
 use answer::told_of;
-use compare::output::{Hex, Output};
+use compare::output::{Hex, Output, front};
+use mending::mend_image;
 use std::io;
 use std::io::Write;
 use stream::{byte, half};
@@ -26,10 +27,15 @@ pub(crate) fn answer_mended(s: &[u8], out: &mut Output) -> io::Result<()> {
     let mut buffer = [0xaa; 65536];
     let lent = &mut buffer[..usize::from(half(behind, 0))];
     let mut list = [0xaa; 128];
-    let mended = mending::mend_image(image, lent, &mut list);
-    let told = told_of(mended.answer);
-    write!(out, "{} {} {}", told.number, told.place, Hex(lent))?;
-    let count = usize::from(mended.count);
-    put_entries(out, compare::output::front(&list, count * 2))?;
+    match mend_image(image, lent, &mut list) {
+        Ok(count) => {
+            write!(out, "0 0 {}", Hex(lent))?;
+            put_entries(out, front(&list, usize::from(count) * 2))?;
+        }
+        Err(e) => {
+            let told = told_of(Err(e));
+            write!(out, "{} {} {} -", told.number, told.place, Hex(lent))?;
+        }
+    }
     writeln!(out)
 }

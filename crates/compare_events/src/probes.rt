@@ -1,6 +1,6 @@
 // A probe file replayed.
 use compare::output::{Output, refused};
-use replaying::{Difference, replay};
+use replaying::replay;
 use std::io;
 use std::io::Write;
 
@@ -8,21 +8,9 @@ use std::io::Write;
 pub(crate) fn answer_probe(s: &[u8], out: &mut Output) -> io::Result<()> {
     match replay(s) {
         Ok(None) => writeln!(out, "all agree"),
-        Ok(
-            Some(
-                Difference {
-                    event,
-                    seen,
-                    seen_item,
-                    given,
-                    given_item,
-                },
-            ),
-        ) => {
-            writeln!(
-                out,
-                "event {event} recorded {seen} {seen_item} given {given} {given_item}"
-            )
+        Ok(Some(d)) => {
+            write!(out, "event {} recorded {} {}", d.event, d.seen, d.seen_item)?;
+            writeln!(out, " given {} {}", d.given, d.given_item)
         }
         Err(e) => refused(out, e),
     }

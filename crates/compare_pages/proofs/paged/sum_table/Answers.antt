@@ -1,4 +1,4 @@
-use Rattle.std.proofs.Common.{◌≡◌, ◌≤◌, true, length, drop, sym, refl, ap, ◌∙◌, subst, arith}
+use Rattle.std.proofs.Common.{◌≡◌, ◌≤◌, true, length, drop, sym, ap, ◌∙◌, subst, arith}
 use Rattle.image.specs.Form.{known, head_lines, image_size}
 use Rattle.image.specs.Layout.{image_shape}
 use Rattle.image.specs.declared.Shape.{Shape}
@@ -12,9 +12,6 @@ use Rattle.compare_pages.proofs.paged.sum_table.Goals as goal
 
 pub size_of-whole-requires : goal.size_of-whole-requires
 size_of-whole-requires c = c.requires.0
-
-pub loop-k-init : goal.loop-k-init
-loop-k-init c = (omega arith, refl)
 
 pub ending_picks-picks-requires : goal.ending_picks-picks-requires
 ending_picks-picks-requires c = (c.requires.1, c.requires.2, c.requires.3.0)
@@ -33,13 +30,4 @@ put_image-requires c =
     let e : image_shape c.ending_image-g.result ≡ own.owned c.args.z = ap image_shape c.ending_image-g.ensures ∙ pages.picked_shape _ _ c.args.z in
     let m : image_size c.args.z ≤ 846 = own.size_few c.args.z c.requires.0 c.requires.1 c.requires.2 in
     subst (λ (x : Shape). (known x.form ≡ true) × ((x.n ≤ 64) × ((head_lines x ≤ 8) × (image_size x ≤ length c.loop-k.lent)))) (sym e)
-    (c.requires.0, (c.requires.1, (omega (arith, c.requires.2, own.own_lines c.args.z), omega (arith, m, c.requires.4, c.loop-k.invariant.1, own.own_size c.args.z))))
-
-pub sum_front-next-requires : goal.sum_front-next-requires
-sum_front-next-requires c = tt
-
-pub loop-k-preserved : goal.loop-k-preserved
-loop-k-preserved c = (omega arith, c.put_image.auto.b ∙ c.loop-k.invariant.1)
-
-pub returns : goal.returns
-returns c = tt
+    (c.requires.0, (c.requires.1, (omega (arith, c.requires.2, own.own_lines c.args.z), omega (arith, m, c.requires.4, c.loop-k.auto.lent, own.own_size c.args.z))))
