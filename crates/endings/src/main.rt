@@ -13,7 +13,7 @@ fn main(rt: HostRuntime) {
     };
     let mut b = [0u8; 65536];
     let printed = printer::print_page(&mut rt.stdout(), &s[..bytes], &mut b);
-    if !printed.whole {
+    if printed.bytes.is_none() {
         let _ = eprintln!(rt; "endings: standard output took no more, the page is not whole");
     }
 }

@@ -33,7 +33,7 @@ fn print_next(
         }
     };
     let printed = print_page(out, &s[..kept], b);
-    if !printed.whole {
+    if printed.bytes.is_none() {
         say(rt, "many: standard output took no more\n");
         return None;
     }

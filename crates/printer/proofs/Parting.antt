@@ -1,13 +1,11 @@
 -- The parts of a page, as the printer hands them on.
 use Prim.Native.Nat.{ℕ, suc, ◌+◌, ◌-◌, ◌*◌, ◌≤◌, ◌<◌}
 use mathlib.Core.Path.{◌≡◌, refl, sym, ap, ap₂, ◌∙◌}
-use mathlib.Core.Bool.{true}
 use mathlib.Core.List.{List, [], ◌∷◌, ◌++◌}
 use native.Mathlib.Omega.{arith}
 use native.Mathlib.Numerals.{add-one}
 use lib.ListN.{length, take, drop, length-append}
 use Rattle.lists.specs.Tab.{over}
-use Rattle.answer.specs.Answers.{accepted}
 use Rattle.image.specs.declared.Content.{Content}
 use Rattle.machine.specs.Line.{shape_of}
 use Rattle.schedule.specs.Layout.{threads_in, count_in}
@@ -17,7 +15,7 @@ use Rattle.page.specs.Filled.{lines_on, fitting, page_line}
 use Rattle.printing.proofs.Fittings as fits
 use Rattle.printing.proofs.Written as written
 use Rattle.runs.specs.Rows.{ats_of, counts_of}
-use Rattle.runs.specs.Paged.{PageIs}
+use Rattle.runs.specs.Paged.{PageTaken}
 use Rattle.runs.specs.declared.running.Run.{Run}
 use Rattle.filling.specs.Lines.{table_line}
 use Rattle.filling.proofs.Numbers as numbers
@@ -93,7 +91,7 @@ lines_next f t b m count next to place done e g q h k l r d u =
 
 -- ---- the lines of the code's table are the page
 
-module _ (s : List ℕ) (r : Run) (p : PageIs s r) (a : accepted r.answer ≡ true) where
+module _ (s : List ℕ) (r : Run) (p : PageTaken s r) where
   pub page_is : (t : List (List Content)) (cs : List ℕ) (threads events count : ℕ)
       → t ≡ ats_of r.rows → cs ≡ counts_of r.rows → threads ≡ threads_in s → events ≡ count_in s → count ≡ ending_count s
       → lines_on (table_line t cs (shape_of r.machine) threads events count) 0 (count + 1) ≡ printed s
@@ -102,5 +100,5 @@ module _ (s : List ℕ) (r : Run) (p : PageIs s r) (a : accepted r.answer ≡ tr
       ∙ ap₂ (λ x y. lines_on (table_line (ats_of r.rows) (counts_of r.rows) (shape_of r.machine) x y count) 0 (count + 1)) e₃ e₄
       ∙ ap (λ x. lines_on (table_line (ats_of r.rows) (counts_of r.rows) (shape_of r.machine) (threads_in s) (count_in s) x) 0 (x + 1)) e₅
       ∙ ap (lines_on (table_line (ats_of r.rows) (counts_of r.rows) (shape_of r.machine) (threads_in s) (count_in s) (ending_count s)) 0) (add-one (ending_count s))
-      ∙ fits.on_same _ (page_line s) (suc (ending_count s)) 0 0 (λ i q. tables.line_is s r p a (0 + i) (omega arith))
-      ∙ joins.page_lines s (numbers.page_yes s r p a)
+      ∙ fits.on_same _ (page_line s) (suc (ending_count s)) 0 0 (λ i q. tables.line_is s r p (0 + i) (omega arith))
+      ∙ joins.page_lines s (numbers.page_yes s r p)

@@ -1,11 +1,6 @@
 use mathlib.Core.Path.{sym}
 use lib.Seq.{length-take-le}
-use Rattle.runs.proofs.GoingLaws as going
-use mathlib.Core.Path.{refl}
 use Rattle.printer.proofs.write_front.Goals as goal
 
 pub slice_bounds-write_all-end : goal.slice_bounds-write_all-end
 slice_bounds-write_all-end g c = sym (length-take-le c.args.n c.args.b.now c.requires.0)
-
-pub returns-then-is_err : goal.returns-then-is_err
-returns-then-is_err g c = λ h. going.taken_or _ refl h
