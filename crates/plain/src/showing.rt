@@ -1,7 +1,7 @@
 // The lines of the page, from the images.
-ghost use Rattle.std.specs.Prelude.{◌≤◌, length};
-
-use image::{Image, Shape, head_lines};
+use codec::read_image;
+use image::{Image, head_lines};
+use printing::whole::write_ending;
 use stream::{byte, half};
 
 // The first line; a schedule that is taken has T at byte 5, its events' number at byte 6 and N at byte 13.
@@ -14,46 +14,25 @@ pub(crate) fn show_first(rt: &impl Print, s: &[u8], count: u32) {
 
 // The line of image k. An image that was noted passes all three tests.
 fn show_image(rt: &impl Print, k: u32, g: Image) -> bool {
-    if 64 < g.n {
+    if 64 < g.n || 8 < head_lines(g.shape()) || 65535 < k {
         return false;
     }
-    if 8 < head_lines(Shape {
-        form: g.form,
-        n: g.n,
-        t: g.t,
-    }) {
-        return false;
-    }
-    if 65535 < k {
-        return false;
-    }
-    let mut line = [0u8; 731];
-    let n = printing::whole::write_ending(&mut line, 0, k, g);
+    let mut line = [0; 731];
+    let n = write_ending(&mut line, 0, k, g);
     rt.write_all(&line[..n]).is_ok()
 }
 
-// The image in the first `size` bytes, if there are so many.
-fn show_front(rt: &impl Print, b: &[u8], size: usize, k: u32) -> bool {
-    if b.len() < size {
-        return false;
-    }
-    let r = codec::read_image(&b[..size]);
-    let g = r.image;
-    show_image(rt, k, g)
-}
-
+// The lines of the images, `size` bytes each, that stand one after the other; whether standard output took them.
 pub(crate) fn show_images(rt: &impl Print, b: &[u8], size: usize, count: u32) -> bool {
-    let mut k = 0;
-    let mut at = 0;
-    while k < count {
-        if !show_front(rt, &b[at..], size, k) {
+    let mut rest = b;
+    for k in 0..count {
+        let Some((front, behind)) = rest.split_at_checked(size) else {
+            return false;
+        };
+        if !read_image(front).is_ok_and(|g| show_image(rt, k, g)) {
             return false;
         }
-        if b.len() - at < size {
-            return false;
-        }
-        at += size;
-        k += 1;
+        rest = behind;
     }
     true
 }
