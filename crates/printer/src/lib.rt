@@ -78,7 +78,19 @@ fn print_lines(
     let mut next = 0;
     while next <= count {
         let filled = fill_told(
-            t, counts, z, &sheet.slots, sheet.count, &sheet.ranks, &sheet.items, &sheet.starts, threads, events, count, next, b,
+            t,
+            counts,
+            z,
+            &sheet.slots,
+            sheet.count,
+            &sheet.ranks,
+            &sheet.items,
+            &sheet.starts,
+            threads,
+            events,
+            count,
+            next,
+            b,
         );
         done = write_front(out, s, b, filled.place, done)?;
         next = filled.next;
