@@ -1,7 +1,7 @@
 -- "Export followed by import returns the same image."
-use Prim.Native.Nat.{ℕ, zero, suc, ◌+◌, ◌*◌, ◌≤◌, ◌<◌}
+use Prim.Native.Nat.{ℕ, ◌+◌, ◌*◌, ◌≤◌, ◌<◌}
 use mathlib.Core.Path.{◌≡◌, refl, sym, ap, ◌∙◌}
-use mathlib.Core.Bool.{Bool, true, false}
+use mathlib.Core.Bool.{true}
 use mathlib.Core.List.{List, ◌++◌}
 use native.Mathlib.Omega.{arith}
 use native.Mathlib.Decide.{dec_lt}
@@ -16,7 +16,7 @@ use Rattle.image.specs.Bytes.{at1}
 use Rattle.image.specs.Form.{known, width_of, top_of, head_lines, image_size, per_desk}
 use Rattle.image.specs.Layout.{head_in, heads_of, image_shape, form_in, shape_in, image_in, image_bytes}
 use Rattle.image.specs.Recovered.{largest, head_of}
-use Rattle.image.specs.Refusals.{threads_fit, sound, whole, alone_answer, read_image, write_answer, Read}
+use Rattle.image.specs.Refusals.{sound, whole, alone_answer, read_image, write_answer, Read}
 use Rattle.image.specs.declared.Image.{Image}
 use Rattle.image.specs.declared.Shape.{Shape}
 use Rattle.image.proofs.ByteLaws as num
@@ -27,8 +27,8 @@ use Rattle.image.proofs.SoundLaws.{Fitting, sound_then, is_fitting}
 use Rattle.codec.proofs.Accepted as acc
 use Rattle.codec.proofs.ReadWrite as there
 use Rattle.codec.proofs.Same as same
-use Rattle.codec.proofs.WriteRead.{Items, trimmed, trimmed_alike, size_back, contents_again}
-use Rattle.converting.specs.Desks.{reheaded, import_of, export_of, other_of, desks_answer, import_answer, imported, export_answer, exported}
+use Rattle.codec.proofs.WriteRead.{trimmed, trimmed_alike, size_back, contents_again}
+use Rattle.converting.specs.Desks.{reheaded, other_of, desks_answer, import_answer, imported, export_answer, exported}
 use Rattle.converting.proofs.Laws as laws
 use Rattle.converting.proofs.DeskLaws as desks
 use Rattle.converting.proofs.ThereAndBack.{read_heads_lem, read_nodes_lem, read_items}

@@ -1,5 +1,5 @@
 -- "There and back returns the same bytes." Said once for any two forms that are read and written and have one head line.
-use Prim.Native.Nat.{ℕ, ◌+◌, ◌*◌, ◌≤◌, ◌<◌}
+use Prim.Native.Nat.{ℕ, ◌+◌, ◌*◌, ◌≤◌}
 use mathlib.Core.Path.{◌≡◌, refl, sym, ap, subst, ◌∙◌}
 use mathlib.Core.Bool.{true, false}
 use mathlib.Core.List.{List, ◌++◌}
@@ -9,7 +9,7 @@ use lib.Seq.{take_at}
 use Rattle.lists.specs.Tab.{over, front}
 use Rattle.lists.proofs.TabLaws as tabs
 use Rattle.answer.specs.Answers.{accepted, Taken}
-use Rattle.image.specs.Bytes.{at1, at_w}
+use Rattle.image.specs.Bytes.{at_w}
 use Rattle.image.specs.Form.{known, width_of, heads_at, head_lines, node_place, image_size, per_desk}
 use Rattle.image.specs.Layout.{no_content, no_contents, content_at, head_in, heads_of, no_heads, image_shape, in_form, form_in, shape_in, image_in, image_bytes, read_content, read_heads, read_nodes}
 use Rattle.image.specs.Refusals.{sound, whole, alone_answer, read_image, write_answer, Read}

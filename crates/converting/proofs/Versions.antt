@@ -1,6 +1,6 @@
 -- "Version 1 converts to 2 always, 2 to 1 when head and every index fit."
 use Prim.Native.Nat.{ℕ, ◌+◌, ◌*◌, ◌≤◌, ◌<◌}
-use mathlib.Core.Path.{◌≡◌, refl, sym, ap, ◌∙◌}
+use mathlib.Core.Path.{◌≡◌, refl, ap, ◌∙◌}
 use mathlib.Core.Bool.{true, false}
 use mathlib.Core.List.{List, ◌++◌}
 use native.Mathlib.Omega.{arith}
@@ -13,7 +13,6 @@ use Rattle.image.specs.declared.Image.{Image}
 use Rattle.image.specs.Refusals.{alone_answer}
 use Rattle.image.proofs.ByteLaws.{Bytes}
 use Rattle.image.proofs.FormLaws.{place_wide, place_plain, top_long}
-use Rattle.image.proofs.SoundLaws.{Fitting}
 use Rattle.codec.proofs.Accepted as acc
 use Rattle.codec.proofs.ReadWrite as there
 use Rattle.converting.specs.Converted.{size_in, widen_answer, widened, narrow_answer, narrowed}

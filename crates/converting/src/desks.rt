@@ -5,7 +5,7 @@ ghost use Rattle.image.specs.Form.{head_lines};
 ghost use Rattle.image.specs.Layout.{heads_of, image_shape};
 ghost use Rattle.converting.specs.Desks.{reheaded, Leaves, room_answer, put_as, desks_answer, import_answer, imported, export_answer, exported};
 
-use answer::{Answer, Refusal, Reply, is_taken};
+use answer::{Answer, Refusal, Reply};
 use codec::sound::sound_at;
 use codec::{check_alone, form_in, image_in, put_image, shape_in};
 use image::{Image, Shape, head_lines, head_of, shape_of, size_of, threads_fit};
@@ -17,10 +17,8 @@ fn heads_with(z: Shape, h: u64) -> [u64; 8]
 {
     let count = head_lines(z);
     let mut heads = image::no_heads();
-    let mut k = 0;
-    while k < count {
+    for k in 0..count {
         heads[k] = h;
-        k += 1;
     }
     heads
 }
@@ -30,23 +28,13 @@ fn reheaded_of(g: Image, form: u8, t: u8) -> Image
     requires { (head_lines (image_shape g) ≤ 8) × (t ≤ 8) }
     ensures { result ≡ reheaded form t g }
 {
-    let old = g.heads;
-    let h = head_of(
-        old,
-        Shape {
-            form: g.form,
-            n: g.n,
-            t: g.t,
-        },
-    );
+    let h = head_of(g.heads, g.shape());
     let heads = heads_with(Shape { form, n: g.n, t }, h);
-    let nodes = g.nodes;
     Image {
         heads,
-        nodes,
         form,
-        n: g.n,
         t,
+        ..g
     }
 }
 
@@ -62,10 +50,7 @@ fn check_desks(s: &[u8]) -> Answer
     if z.form != 4 {
         return Err(Refusal::Mark);
     }
-    let a = shape_of(z, z.t);
-    if !is_taken(a) {
-        return a;
-    }
+    shape_of(z, z.t)?;
     if len != size_of(z) {
         return Err(Refusal::Length);
     }
@@ -80,8 +65,7 @@ fn put_as(s: &[u8], b: &mut [u8], form: u8, t: u8) -> Answer
 {
     let g = image_in(s);
     let g = reheaded_of(g, form, t);
-    let z = Shape { form, n: g.n, t };
-    if b.len() < size_of(z) {
+    if b.len() < size_of(g.shape()) {
         return Err(Refusal::Room);
     }
     put_image(b, g);
@@ -93,10 +77,7 @@ pub fn import_desks(s: &[u8], b: &mut [u8]) -> Answer
     ensures answers { told result ≡ told (import_answer s.now (length b.old)) }
     ensures bytes { b.new ≡ imported s.now b.old }
 {
-    let a = check_desks(s);
-    if !is_taken(a) {
-        return a;
-    }
+    check_desks(s)?;
     put_as(s, b, 1, 0)
 }
 
@@ -111,10 +92,7 @@ pub fn export_desks(s: &[u8], t: u8, b: &mut [u8]) -> Answer
     if form_in(s) != 1 {
         return Err(Refusal::Mark);
     }
-    let a = check_alone(s);
-    if !is_taken(a) {
-        return a;
-    }
+    check_alone(s)?;
     if !threads_fit(t) {
         return Err(Refusal::Threads);
     }

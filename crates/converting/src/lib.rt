@@ -10,10 +10,10 @@ ghost use Rattle.answer.specs.Answers.{told};
 ghost use Rattle.image.specs.Form.{known, per_desk};
 ghost use Rattle.converting.specs.Converted.{convert_answer, converted, widen_answer, widened, narrow_answer, narrowed};
 
-use answer::{Answer, Refusal, Reply, is_taken};
+use answer::{Answer, Refusal, Reply};
 use codec::{check_alone, form_in, image_in, put_image};
 pub use desks::{export_desks, import_desks};
-use image::{Shape, fitting_of, size_of};
+use image::{fitting_of, size_of};
 
 // From one form with one head line to another, into the buffer's first bytes, or nothing.
 fn convert(s: &[u8], b: &mut [u8], from: u8, to: u8) -> Answer
@@ -27,22 +27,11 @@ fn convert(s: &[u8], b: &mut [u8], from: u8, to: u8) -> Answer
     if form_in(s) != from {
         return Err(Refusal::Mark);
     }
-    let a = check_alone(s);
-    if !is_taken(a) {
-        return a;
-    }
+    check_alone(s)?;
     let mut g = image_in(s);
     g.form = to;
-    let w = fitting_of(g);
-    if !is_taken(w) {
-        return w;
-    }
-    let z = Shape {
-        form: to,
-        n: g.n,
-        t: g.t,
-    };
-    if b.len() < size_of(z) {
+    fitting_of(g)?;
+    if b.len() < size_of(g.shape()) {
         return Err(Refusal::Room);
     }
     put_image(b, g);

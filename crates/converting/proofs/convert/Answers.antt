@@ -1,7 +1,7 @@
 use mathlib.Core.Bool.{true, false}
 use mathlib.Core.Path.{◌≡◌, sym, ap, ◌∙◌}
 use lib.ListN.{length}
-use borrow.Author.Tests.{not-true, not-false}
+use Rattle.answer.proofs.Results.{went_on, came_back, returned}
 use Rattle.answer.specs.Answers.{accepted, Taken}
 use Rattle.lists.specs.Tab.{over}
 use Rattle.image.specs.Form.{image_size}
@@ -11,15 +11,15 @@ use Rattle.image.specs.Refusals.{alone_answer, fitting}
 use Rattle.codec.proofs.Accepted as acc
 use Rattle.converting.proofs.Laws as laws
 use Rattle.converting.proofs.convert.Goals as goal
-use Rattle.converting.proofs.convert.Goals.{Else-not-is_taken}
+use Rattle.converting.proofs.convert.Goals.{In_ok-check_alone}
 
 -- the image is taken
-taken : (c : Else-not-is_taken) → accepted (alone_answer c.args.s.now) ≡ true
+taken : (c : In_ok-check_alone) → accepted (alone_answer c.args.s.now) ≡ true
 taken c =
-    sym (ap accepted c.check_alone-a.ensures) ∙ sym c.is_taken.ensures ∙ not-false c.is_taken.result c.if-not-is_taken.false-raw
+    went_on c.check_alone.ensures c.in_ok-check_alone.was
 
 -- and is of the form that is asked for
-formed : (c : Else-not-is_taken) → form_in c.args.s.now ≡ c.args.from
+formed : (c : In_ok-check_alone) → form_in c.args.s.now ≡ c.args.from
 formed c =
     sym c.form_in.ensures ∙ c.if-form_in-from.false
 
@@ -29,42 +29,42 @@ returns-then-s-lt10 c = let e = laws.answer_short c.args.from c.args.to c.args.s
 pub returns-then-form_in-from : goal.returns-then-form_in-from
 returns-then-form_in-from c = let e = laws.answer_mark c.args.from c.args.to c.args.s.now (length c.args.b.now) c.if-s-lt10.false (λ q. c.if-form_in-from.true (c.form_in.ensures ∙ q)) in record { answers = sym e; bytes = sym (laws.refused_same c.args.from c.args.to c.args.s.now c.args.b.now (ap accepted e)) }
 
-pub returns-then-not-is_taken : goal.returns-then-not-is_taken
-returns-then-not-is_taken c =
+pub returns-in_err-check_alone : goal.returns-in_err-check_alone
+returns-in_err-check_alone c =
     let f = sym c.form_in.ensures ∙ c.if-form_in-from.false in
-    let h : accepted (alone_answer c.args.s.now) ≡ false = sym (ap accepted c.check_alone-a.ensures) ∙ sym c.is_taken.ensures ∙ not-true c.is_taken.result c.if-not-is_taken.true-raw in
-    let e = laws.answer_refused c.args.from c.args.to c.args.s.now (length c.args.b.now) c.if-s-lt10.false f h in record { answers = c.check_alone-a.ensures ∙ sym e; bytes = sym (laws.refused_same c.args.from c.args.to c.args.s.now c.args.b.now (ap accepted e ∙ h)) }
+    let h : accepted (alone_answer c.args.s.now) ≡ false = came_back c.check_alone.ensures c.in_err-check_alone.was in
+    let e = laws.answer_refused c.args.from c.args.to c.args.s.now (length c.args.b.now) c.if-s-lt10.false f h in record { answers = returned c.check_alone.ensures c.in_err-check_alone.was c.from_residual.ensures.1 ∙ sym e; bytes = sym (laws.refused_same c.args.from c.args.to c.args.s.now c.args.b.now (ap accepted e ∙ h)) }
 
 pub image_in-g-requires : goal.image_in-g-requires
-image_in-g-requires c = (acc.alone_taken _ (taken (goal.at.image_in-g-requires c).Else-not-is_taken)).lies
+image_in-g-requires c = (acc.alone_taken _ (taken (goal.at.image_in-g-requires c).In_ok-check_alone)).lies
 
-pub fitting_of-w-requires : goal.fitting_of-w-requires
-fitting_of-w-requires c = (laws.taken_few c.args.s.now c.image_in-g.result (taken (goal.at.fitting_of-w-requires c).Else-not-is_taken) c.image_in-g.ensures, laws.one_line (image_shape (in_form c.args.to c.image_in-g.result)) c.requires.1)
+pub fitting_of-requires : goal.fitting_of-requires
+fitting_of-requires c = (laws.taken_few c.args.s.now c.image_in-g.result (taken (goal.at.fitting_of-requires c).In_ok-check_alone) c.image_in-g.ensures, laws.one_line (image_shape (in_form c.args.to c.image_in-g.result)) c.requires.1)
 
-pub returns-then-not-is_taken-2 : goal.returns-then-not-is_taken-2
-returns-then-not-is_taken-2 c =
-    let is : c.fitting_of-w.result ≡ fitting (in_form c.args.to (image_in c.args.s.now)) Taken =
-    c.fitting_of-w.ensures ∙ ap (λ (g : Image). fitting (in_form c.args.to g) Taken) c.image_in-g.ensures in
-    let w : accepted (fitting (in_form c.args.to (image_in c.args.s.now)) Taken) ≡ false = sym (ap accepted is) ∙ sym c.is_taken-2.ensures ∙ not-true c.is_taken-2.result c.if-not-is_taken-2.true-raw in
-    let e = laws.answer_wide c.args.from c.args.to c.args.s.now (length c.args.b.now) (formed (goal.at.returns-then-not-is_taken-2 c).Else-not-is_taken) (taken (goal.at.returns-then-not-is_taken-2 c).Else-not-is_taken) w in record { answers = is ∙ sym e; bytes = sym (laws.refused_same c.args.from c.args.to c.args.s.now c.args.b.now (ap accepted e ∙ w)) }
+pub returns-in_err-fitting_of : goal.returns-in_err-fitting_of
+returns-in_err-fitting_of c =
+    let is : c.fitting_of.result ≡ fitting (in_form c.args.to (image_in c.args.s.now)) Taken =
+    c.fitting_of.ensures ∙ ap (λ (g : Image). fitting (in_form c.args.to g) Taken) c.image_in-g.ensures in
+    let w : accepted (fitting (in_form c.args.to (image_in c.args.s.now)) Taken) ≡ false = came_back is c.in_err-fitting_of.was in
+    let e = laws.answer_wide c.args.from c.args.to c.args.s.now (length c.args.b.now) (formed (goal.at.returns-in_err-fitting_of c).In_ok-check_alone) (taken (goal.at.returns-in_err-fitting_of c).In_ok-check_alone) w in record { answers = returned is c.in_err-fitting_of.was c.from_residual-in_err-fitting_of.ensures.1 ∙ sym e; bytes = sym (laws.refused_same c.args.from c.args.to c.args.s.now c.args.b.now (ap accepted e ∙ w)) }
 
 pub size_of-requires : goal.size_of-requires
-size_of-requires c = c.requires.0
+size_of-requires c = rw c.shape.ensures c.requires.0
 
 pub returns-then-b-size_of : goal.returns-then-b-size_of
 returns-then-b-size_of c =
-    let is : c.fitting_of-w.result ≡ fitting (in_form c.args.to (image_in c.args.s.now)) Taken = c.fitting_of-w.ensures ∙ ap (λ (g : Image). fitting (in_form c.args.to g) Taken) c.image_in-g.ensures in
-    let w : accepted (fitting (in_form c.args.to (image_in c.args.s.now)) Taken) ≡ true = sym (ap accepted is) ∙ sym c.is_taken-2.ensures ∙ not-false c.is_taken-2.result c.if-not-is_taken-2.false-raw in
-    let size = c.size_of.ensures ∙ ap (λ (g : Image). image_size (image_shape (in_form c.args.to g))) c.image_in-g.ensures in
-    let e = laws.answer_room c.args.from c.args.to c.args.s.now (length c.args.b.now) (formed (goal.at.returns-then-b-size_of c).Else-not-is_taken) (taken (goal.at.returns-then-b-size_of c).Else-not-is_taken) w (rw (← size) c.if-b-size_of.true) in record { answers = sym e; bytes = sym (laws.refused_same c.args.from c.args.to c.args.s.now c.args.b.now (ap accepted e)) }
+    let is : c.fitting_of.result ≡ fitting (in_form c.args.to (image_in c.args.s.now)) Taken = c.fitting_of.ensures ∙ ap (λ (g : Image). fitting (in_form c.args.to g) Taken) c.image_in-g.ensures in
+    let w : accepted (fitting (in_form c.args.to (image_in c.args.s.now)) Taken) ≡ true = went_on is c.in_ok-fitting_of.was in
+    let size = c.size_of.ensures ∙ ap image_size c.shape.ensures ∙ ap (λ (g : Image). image_size (image_shape (in_form c.args.to g))) c.image_in-g.ensures in
+    let e = laws.answer_room c.args.from c.args.to c.args.s.now (length c.args.b.now) (formed (goal.at.returns-then-b-size_of c).In_ok-check_alone) (taken (goal.at.returns-then-b-size_of c).In_ok-check_alone) w (rw (← size) c.if-b-size_of.true) in record { answers = sym e; bytes = sym (laws.refused_same c.args.from c.args.to c.args.s.now c.args.b.now (ap accepted e)) }
 
 pub put_image-requires : goal.put_image-requires
-put_image-requires c = (c.requires.0, (laws.taken_few c.args.s.now c.image_in-g.result (taken (goal.at.put_image-requires c).Else-not-is_taken) c.image_in-g.ensures, (laws.one_line (image_shape (in_form c.args.to c.image_in-g.result)) c.requires.1, rw (← c.size_of.ensures) c.if-b-size_of.false)))
+put_image-requires c = let m = c.size_of.ensures ∙ ap image_size c.shape.ensures in (c.requires.0, (laws.taken_few c.args.s.now c.image_in-g.result (taken (goal.at.put_image-requires c).In_ok-check_alone) c.image_in-g.ensures, (laws.one_line (image_shape (in_form c.args.to c.image_in-g.result)) c.requires.1, rw (← m) c.if-b-size_of.false)))
 
 pub returns : goal.returns
 returns c =
-    let is : c.fitting_of-w.result ≡ fitting (in_form c.args.to (image_in c.args.s.now)) Taken = c.fitting_of-w.ensures ∙ ap (λ (g : Image). fitting (in_form c.args.to g) Taken) c.image_in-g.ensures in
-    let w : accepted (fitting (in_form c.args.to (image_in c.args.s.now)) Taken) ≡ true = sym (ap accepted is) ∙ sym c.is_taken-2.ensures ∙ not-false c.is_taken-2.result c.if-not-is_taken-2.false-raw in
-    let size = c.size_of.ensures ∙ ap (λ (g : Image). image_size (image_shape (in_form c.args.to g))) c.image_in-g.ensures in
-    let e = laws.answer_taken c.args.from c.args.to c.args.s.now (length c.args.b.now) (formed (goal.at.returns c).Else-not-is_taken) (taken (goal.at.returns c).Else-not-is_taken) w (rw (← size) c.if-b-size_of.false) in
+    let is : c.fitting_of.result ≡ fitting (in_form c.args.to (image_in c.args.s.now)) Taken = c.fitting_of.ensures ∙ ap (λ (g : Image). fitting (in_form c.args.to g) Taken) c.image_in-g.ensures in
+    let w : accepted (fitting (in_form c.args.to (image_in c.args.s.now)) Taken) ≡ true = went_on is c.in_ok-fitting_of.was in
+    let size = c.size_of.ensures ∙ ap image_size c.shape.ensures ∙ ap (λ (g : Image). image_size (image_shape (in_form c.args.to g))) c.image_in-g.ensures in
+    let e = laws.answer_taken c.args.from c.args.to c.args.s.now (length c.args.b.now) (formed (goal.at.returns c).In_ok-check_alone) (taken (goal.at.returns c).In_ok-check_alone) w (rw (← size) c.if-b-size_of.false) in
     let put = c.put_image.ensures ∙ ap (λ (g : Image). over c.args.b.now 0 (image_bytes (in_form c.args.to g))) c.image_in-g.ensures in record { answers = sym e; bytes = put ∙ sym (laws.taken_over c.args.from c.args.to c.args.s.now c.args.b.now (ap accepted e)) }

@@ -4,7 +4,7 @@ use native.Mathlib.Omega.{arith}
 use Rattle.converting.proofs.desks.heads_with.Goals as goal
 
 pub loop-k-init : goal.loop-k-init
-loop-k-init c = (omega arith, c.no_heads-heads.ensures ∙ laws.same_none c.args.h)
+loop-k-init c = c.no_heads-heads.ensures ∙ laws.same_none c.args.h
 
 pub offset_bounds-heads-k : goal.offset_bounds-heads-k
 offset_bounds-heads-k c = omega (arith, c.head_lines-count.ensures, c.requires)
@@ -12,13 +12,10 @@ offset_bounds-heads-k c = omega (arith, c.head_lines-count.ensures, c.requires)
 pub bounds-heads-k : goal.bounds-heads-k
 bounds-heads-k c = omega (arith, c.head_lines-count.ensures, c.requires)
 
-pub overflow_add-k : goal.overflow_add-k
-overflow_add-k c = omega (arith, c.head_lines-count.ensures, c.requires)
-
 pub loop-k-preserved : goal.loop-k-preserved
-loop-k-preserved c = (omega arith, rw c.loop-k.invariant.1 (laws.same_next c.args.h c.loop-k.k (omega (arith, c.head_lines-count.ensures, c.requires))))
+loop-k-preserved c = rw c.loop-k.invariant (laws.same_next c.args.h c.loop-k.k (omega (arith, c.head_lines-count.ensures, c.requires)))
 
 pub returns : goal.returns
 returns c =
     let e : c.loop-k.k ≡ c.head_lines-count.result = omega arith in
-    c.loop-k.invariant.1 ∙ ap (laws.same_to c.args.h) (e ∙ c.head_lines-count.ensures) ∙ laws.same_all c.args.z c.args.h
+    c.loop-k.invariant ∙ ap (laws.same_to c.args.h) (e ∙ c.head_lines-count.ensures) ∙ laws.same_all c.args.z c.args.h
