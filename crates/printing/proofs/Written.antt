@@ -5,7 +5,8 @@ use mathlib.Core.List.{List, [], ◌∷◌, ◌++◌, append_assoc, append-nil}
 use native.Mathlib.Omega.{arith}
 use native.Mathlib.Numerals.{add-one}
 use lib.ListN.{length, get_or, set, take, drop, length-append}
-use lib.Seq.{take-suc, take-add, length-take-le}
+use lib.Seq.{take-suc, take-add}
+use Rattle.std.proofs.lemmas.List.{drop-drop}
 use Rattle.lists.specs.Tab.{over}
 use Rattle.lists.specs.Text.{text, decimal}
 use Rattle.lists.proofs.TabLaws as tabs
@@ -19,13 +20,9 @@ one l i x = refl
 pub byte_more : (l : List ℕ) (at : ℕ) (d : List ℕ) (x : ℕ) → set (over l at d) (at + length d) x ≡ over l at (d ++ (x ∷ []))
 byte_more l at d x = one (over l at d) (at + length d) x ∙ tabs.over_append l at d (x ∷ [])
 
--- a copy goes on
-pub copy_next : (l : List ℕ) (at : ℕ) (s : List ℕ) (i : ℕ) → i < length s
-    → set (over l at (take i s)) (at + i) (get_or s i 0) ≡ over l at (take (i + 1) s)
-copy_next l at s i h =
-    ap (λ n. set (over l at (take i s)) (at + n) (get_or s i 0)) (sym (length-take-le i s (omega arith)))
-    ∙ byte_more l at (take i s) (get_or s i 0)
-    ∙ ap (over l at) (sym (take-suc s i 0 h) ∙ ap (λ n. take n s) (sym (add-one i)))
+-- a part of the list that s was copied to
+pub copied : (l : List ℕ) (at : ℕ) (s : List ℕ) → at + length s ≤ length l → take at l ++ (s ++ drop (length s) (drop at l)) ≡ over l at s
+copied l at s h = ap (λ r. take at l ++ (s ++ r)) (drop-drop (length s) at l) ∙ sym (append_assoc (take at l) s (drop (at + length s) l)) ∙ sym (tabs.over_is l at s h)
 
 -- ---- items behind blanks
 

@@ -9,7 +9,7 @@ ghost use Rattle.printing.specs.Lines.{listed};
 use image::Image;
 use machine::queue::queue_of;
 
-// Items in the first places of a table.
+// Items in the first places of a table: a buffer with its length beside it, since the library has no heap.
 #[derive(Clone, Copy)]
 pub struct Items {
     pub count: usize,
@@ -30,12 +30,10 @@ pub fn items_of(g: Image) -> Items
     let q = queue_of(g);
     let c = q.count;
     let mut items = no_items();
-    let mut p = 0;
-    while p < c {
+    for p in 0..c {
         let k = q.at[p] as usize;
         let v = g.nodes[k];
         items[p] = v.item;
-        p += 1;
     }
     Items { count: c, items }
 }

@@ -109,12 +109,9 @@ pub fn put(b: &mut [u8], at: usize, s: &[u8]) -> usize
     requires { at + length s.now ≤ length b.old }
     ensures { (result ≡ at + length s.now) × (b.new ≡ over b.old at s.now) }
 {
-    let mut i = 0;
-    while i < s.len() {
-        b[at + i] = s[i];
-        i += 1;
-    }
-    at + i
+    let end = at + s.len();
+    b[at..end].copy_from_slice(s);
+    end
 }
 
 // Each of the first c items behind a blank.
@@ -122,14 +119,12 @@ pub fn put_spaced(b: &mut [u8], at: usize, items: [u32; 64], c: usize) -> usize
     requires { (c ≤ 64) × (at + length (spaced (take c items)) ≤ length b.old) }
     ensures { (result ≡ at + length (spaced (take c items))) × (b.new ≡ over b.old at (spaced (take c items))) }
 {
-    let mut i = 0;
     let mut p = at;
-    while i < c {
+    for i in 0..c {
         b[p] = 32;
         let x = items[i];
         let q = put_item(b, p + 1, x);
         p = q;
-        i += 1;
     }
     p
 }

@@ -41,23 +41,18 @@ pub fn write_endings(
     let count = z.n as usize;
     let held = own_threads(z);
     let mut picks = ending_picks(counts, z, from);
-    let mut k = from;
     let mut p = at;
-    while k < to {
+    for k in from..to {
         let mut nodes = no_contents();
-        let mut i = 0;
-        while i < count {
+        for i in 0..count {
             let j = picks[lines + i] as usize;
             nodes[i] = t[lines + i][j];
-            i += 1;
         }
         let mut heads = no_heads();
-        let mut h = 0;
-        while h < lines {
+        for h in 0..lines {
             let j = picks[h] as usize;
             let c = t[h][j];
             heads[h] = c.index;
-            h += 1;
         }
         let g = Image {
             heads,
@@ -73,7 +68,6 @@ pub fn write_endings(
         p = q;
         let next = turned(counts, z, picks);
         picks = next;
-        k += 1;
     }
-    Stretch { next: k, place: p }
+    Stretch { next: to, place: p }
 }

@@ -9,7 +9,7 @@ ghost use Rattle.printing.specs.Bounds.{line_room, first_room, refused_room};
 use super::items::items_of;
 use super::lines::{put_first_line, put_line, put_number_place};
 use answer::{Answer, told_of};
-use image::{Image, Shape, head_of};
+use image::{Image, head_of};
 
 // How many bytes the longest line of an ending and the longest first line have: lineRoom 64, firstRoom of specs/Bounds.
 pub const LINE: usize = 731;
@@ -23,14 +23,7 @@ pub fn write_ending(b: &mut [u8], at: usize, k: u32, g: Image) -> usize
     ensures bytes { b.new ≡ over b.old at (ending_line k g) }
 {
     let heads = g.heads;
-    let h = head_of(
-        heads,
-        Shape {
-            form: g.form,
-            n: g.n,
-            t: g.t,
-        },
-    );
+    let h = head_of(heads, g.shape());
     let i = items_of(g);
     let items = i.items;
     put_line(b, at, k as u64, h, items, i.count)

@@ -1,5 +1,5 @@
 use mathlib.Core.Path.{◌≡◌}
-use Prim.Native.Nat.{◌+◌, ◌-◌, ◌≤◌}
+use Prim.Native.Nat.{◌+◌, ◌≤◌}
 use lib.ListN.{length, take}
 use Rattle.lists.specs.Tab.{over}
 use Rattle.page.specs.Printed.{spaced}
@@ -7,6 +7,3 @@ use Rattle.printing.proofs.put_spaced.Given as goal
 
 abbrev pub invariant-loop-i : goal.invariant-loop-i
 invariant-loop-i l = (l.i ≤ l.c) × (l.p ≡ l.at + length (spaced (take l.i l.items))) × (l.b ≡ over l.initial.b l.at (spaced (take l.i l.items)))
-
-abbrev pub decreases-loop-i : goal.decreases-loop-i
-decreases-loop-i l = l.c - l.i

@@ -1,6 +1,7 @@
 use Prim.Native.Nat.{◌+◌, ◌-◌, ◌≤◌}
 use mathlib.Core.Path.{◌≡◌, refl, ap, subst, ◌∙◌}
 use lib.ListN.{length}
+use Rattle.lists.specs.Tab.{over}
 use Rattle.lists.proofs.TabLaws as tabs
 use Rattle.image.specs.Layout.{no_contents, no_heads}
 use Rattle.machine.specs.Line.{line_count}
@@ -56,12 +57,6 @@ offset_bounds-nodes-i c = omega (arith, c.head_lines-lines.ensures)
 pub bounds-nodes-i : goal.bounds-nodes-i
 bounds-nodes-i c = omega (arith, c.head_lines-lines.ensures)
 
-pub overflow_add-i : goal.overflow_add-i
-overflow_add-i c = omega (arith, c.head_lines-lines.ensures)
-
-pub loop-i-smaller : goal.loop-i-smaller
-loop-i-smaller c = omega (arith, c.head_lines-lines.ensures)
-
 pub loop-i-preserved : goal.loop-i-preserved
 loop-i-preserved c = (omega arith, rw c.loop-i.invariant.1 (openings.picked_next c.args.t c.loop-k.picks c.args.z c.head_lines-lines.result c.loop-i.i c.head_lines-lines.ensures (omega arith)))
 
@@ -85,12 +80,6 @@ offset_bounds-heads-h c = omega (arith, c.head_lines-lines.ensures)
 
 pub bounds-heads-h : goal.bounds-heads-h
 bounds-heads-h c = omega (arith, c.head_lines-lines.ensures)
-
-pub overflow_add-h : goal.overflow_add-h
-overflow_add-h c = omega (arith, c.head_lines-lines.ensures)
-
-pub loop-h-smaller : goal.loop-h-smaller
-loop-h-smaller c = omega (arith, c.head_lines-lines.ensures)
 
 pub loop-h-preserved : goal.loop-h-preserved
 loop-h-preserved c = (omega arith, rw c.loop-h.invariant.1 (openings.picked_head_lem c.args.t c.loop-k.picks c.loop-h.h (omega (arith, c.head_lines-lines.ensures))))
@@ -130,7 +119,16 @@ loop-k-preserved c =
     )
 
 pub returns : goal.returns
-returns c = let f = line_from c.args.t c.args.counts c.args.z in record { next = omega (arith, c.loop-k.invariant.5, laws.fit_end f c.loop-k.k c.args.to (length c.args.b.now - c.loop-k.p) (omega arith)); place = c.loop-k.invariant.3; bytes = c.loop-k.invariant.4; short = λ q. c.loop-k.invariant.7 (omega arith) }
+returns c =
+    let f = line_from c.args.t c.args.counts c.args.z in
+    let e : c.loop-k.k ≡ c.args.to = omega arith in
+    let l = laws.fit_end f c.loop-k.k c.args.to (length c.args.b.now - c.loop-k.p) (omega arith) in
+    record {
+      next = omega (arith, c.loop-k.invariant.5, l, e);
+      place = c.loop-k.invariant.3 ∙ ap (λ k. c.args.at + length (lines_on f c.args.from (k - c.args.from))) e;
+      bytes = c.loop-k.invariant.4 ∙ ap (λ k. over c.args.b.now c.args.at (lines_on f c.args.from (k - c.args.from))) e;
+      short = λ q. c.loop-k.invariant.7 (omega arith);
+    }
 
 pub bounds-t-j : goal.bounds-t-j
 bounds-t-j c = picked.picks_filled c.args.counts c.args.z c.loop-k.k c.loop-k.picks c.requires.2 c.loop-k.invariant.6 (c.head_lines-lines.result + c.loop-i.i) (omega (arith, c.head_lines-lines.ensures))
