@@ -46,13 +46,11 @@ pub fn marks_of(t: [[Content; 16]; 72], counts: [u8; 72], n: u8) -> Marks
     let mut ranks = no_ranks();
     let mut items = no_items();
     let last = (n as usize + 1) * 16;
-    let mut e: usize = 0;
-    while e < last {
+    for e in 0..last {
         let l = e / 16;
         let v = t[l][e % 16];
         ranks[e] = mark_of(v, e, counts[l]);
         items[e] = v.item;
-        e += 1;
     }
     Marks { ranks, items }
 }

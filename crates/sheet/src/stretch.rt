@@ -76,9 +76,8 @@ pub fn write_endings(
     let mut end = [0u8; 11468];
     let mut ends = [0usize; 1041];
     let mut len = tell_anew(&mut end, &mut ends, slots, count, ranks, items, &picks);
-    let mut k = from;
     let mut p = at;
-    while k < to {
+    for k in from..to {
         let q = fit_line(b, p, k, &end, len);
         if q == p {
             return Stretch { next: k, place: p };
@@ -88,7 +87,6 @@ pub fn write_endings(
         len = tell_on(
             &mut end, &mut ends, slots, count, ranks, items, &picks, starts, i,
         );
-        k += 1;
     }
-    Stretch { next: k, place: p }
+    Stretch { next: to, place: p }
 }

@@ -39,9 +39,8 @@ fn tell_slots(
     ensures told { Told ranks.now items.now slots.now picks.now head count end.new ends.new }
     ensures place { result ≡ get_or ends.new count 0 }
 {
-    let mut c = from;
     let mut p = ends[from];
-    while c < count {
+    for c in from..count {
         let e = slots[c];
         let q = put_piece(
             end,
@@ -53,8 +52,7 @@ fn tell_slots(
             items[e],
         );
         p = q;
-        c += 1;
-        ends[c] = q;
+        ends[c + 1] = q;
     }
     p
 }

@@ -16,9 +16,7 @@ pub fn turn(picks: &mut [u8; 72], counts: &[u8; 72], lines: usize) -> usize
     ensures line { result ≡ turns_at counts.now lines picks.old }
     ensures picks { picks.new ≡ turned_of counts.now lines picks.old }
 {
-    let mut i = lines;
-    while 0 < i {
-        i -= 1;
+    for i in (0..lines).rev() {
         let d = picks[i];
         if d < counts[i] - 1 {
             picks[i] = next(d, counts[i]);

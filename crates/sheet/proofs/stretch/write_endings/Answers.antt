@@ -2,6 +2,7 @@ use native.Mathlib.Omega.{arith}
 use Prim.Native.Nat.{ℕ, ◌+◌, ◌-◌, ◌≤◌}
 use mathlib.Core.Path.{◌≡◌, refl, sym, ap, subst, ◌∙◌}
 use lib.ListN.{length, take}
+use Rattle.lists.specs.Tab.{over}
 use Rattle.lists.specs.Text.{decimal}
 use Rattle.machine.specs.Line.{line_count}
 use Rattle.page.specs.Filled.{lines_on, fitting}
@@ -56,12 +57,6 @@ slice_bounds-tell_on-end-in-loop-k c = sym c.loop-k.invariant.11
 pub tell_on-len-requires : goal.tell_on-len-requires
 tell_on-len-requires c = let e : c.args.z.n + 1 ≡ line_count c.args.z = omega (arith, c.requires.n_bound.1) in record { count_bound = (omega arith, λ q l. omega (arith, c.requires.count_bound.1 q l), c.loop-k.invariant.10, c.loop-k.invariant.11, omega (arith, steps.turn_in c.args.counts c.args.z c.requires.n_bound.1 c.loop-k.k (c.args.z.n + 1) c.loop-k.picks c.requires.n_bound.2 e c.loop-k.invariant.6 c.turn-i.result c.turn-i.ensures.line)); i_bound = λ y. steps.step_told c.args.counts c.args.z c.requires.n_bound.1 c.loop-k.k (c.args.z.n + 1) c.loop-k.picks c.requires.n_bound.2 e c.loop-k.invariant.6 c.args.ranks.now c.args.items.now c.args.slots.now c.args.starts.now c.args.count c.loop-k.end c.loop-k.ends c.turn-i.new.picks c.turn-i.result c.turn-i.ensures.line c.turn-i.ensures.picks c.requires.count_bound.2 c.requires.count_bound.1 c.loop-k.invariant.7 y }
 
-pub overflow_add-k : goal.overflow_add-k
-overflow_add-k c = omega (arith, c.loop-k-test.true, c.requires.n_bound.4)
-
-pub loop-k-smaller : goal.loop-k-smaller
-loop-k-smaller c = omega (arith, c.loop-k-test.true)
-
 pub loop-k-preserved : goal.loop-k-preserved
 loop-k-preserved c =
     let i = c.loop-k-test.true in
@@ -90,4 +85,12 @@ loop-k-preserved c =
     )
 
 pub returns : goal.returns
-returns c = let f = line_told c.args.ranks.now c.args.items.now c.args.slots.now c.args.count c.args.counts c.args.z in record { next = omega (arith, c.loop-k.invariant.5, fits.fit_end f c.loop-k.k c.args.to (length c.args.b.now - c.loop-k.p) (omega arith)); place = c.loop-k.invariant.3; bytes = c.loop-k.invariant.4 }
+returns c =
+    let f = line_told c.args.ranks.now c.args.items.now c.args.slots.now c.args.count c.args.counts c.args.z in
+    let e : c.loop-k.k ≡ c.args.to = omega arith in
+    let l = fits.fit_end f c.loop-k.k c.args.to (length c.args.b.now - c.loop-k.p) (omega arith) in
+    record {
+      next = omega (arith, c.loop-k.invariant.5, l, e);
+      place = c.loop-k.invariant.3 ∙ ap (λ k. c.args.at + length (lines_on f c.args.from (k - c.args.from))) e;
+      bytes = c.loop-k.invariant.4 ∙ ap (λ k. over c.args.b.now c.args.at (lines_on f c.args.from (k - c.args.from))) e;
+    }

@@ -15,6 +15,3 @@ invariant-loop-k l = (l.from ≤ l.k) × (l.k ≤ l.to) × (l.p ≤ length l.ini
     × (l.picks ≡ picks_of l.counts l.z l.k) × Told l.ranks l.items l.slots l.picks (head_mark l.ranks l.picks) l.count l.end l.ends
     × (l.len ≤ 11468) × (take l.len l.end ≡ told_end l.ranks l.items l.slots l.picks (head_mark l.ranks l.picks) l.count)
     × (length l.end ≡ 11468) × (length l.ends ≡ 1041)
-
-abbrev pub decreases-loop-k : goal.decreases-loop-k
-decreases-loop-k l = l.to - l.k
