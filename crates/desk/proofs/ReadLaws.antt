@@ -11,13 +11,14 @@ use Rattle.lists.specs.Find.{pick}
 use Rattle.lists.specs.Tab.{over}
 use Rattle.image.specs.Form.{known, per_desk, top_of, head_lines}
 use Rattle.spelling.specs.declared.Act.{Act}
+use Rattle.spelling.specs.declared.Act.TheVariants as line_is
 use Rattle.spelling.specs.declared.Survey.{Survey}
 use Rattle.std.specs.Prelude.{Option, Some, None, is_some, Result, Ok, Err}
 use Rattle.spelling.specs.declared.Misread.{Misread}
 use Rattle.spelling.specs.declared.Misread.TheVariants as why
 use Rattle.spelling.specs.Lines.{acts_of}
 use Rattle.spelling.specs.Layout.{said_shape, size_of, events_place}
-use Rattle.spelling.specs.Reading.{no_survey, faulted, with_nodes, with_threads, with_index, with_form, with_desks, with_events, version_form, head_named, index_said, nodes_said, version_said, desks_said, threads_said, heads_said, events_said, behind_nodes, surveyed, survey_from, survey_of, last_from, blank_file, put_all, file_of, Taken, Strange, Room, is_taken, read_answer, read_bytes, spelt, read_written}
+use Rattle.spelling.specs.Reading.{no_survey, faulted, with_nodes, with_threads, with_index, with_form, with_desks, with_events, version_form, head_named, head_at, index_said, in_order, narrow, nodes_said, version_said, desks_said, threads_said, heads_said, events_said, behind_nodes, surveyed, survey_from, survey_of, last_from, blank_file, put_all, file_of, Taken, Strange, Room, is_taken, read_answer, read_bytes, spelt, read_written}
 use Rattle.wordreader.proofs.PutLaws as puts
 
 -- ---- the form stays one that is known, and the event count within its bound
@@ -59,30 +60,60 @@ threads_within : (i : ℕ) (v : Survey) (x : ℕ) → Within v → Within (threa
 unfolding threads_said
 threads_within i v x w = either (per_desk v.form) (faulted v (why.Strange i)) (with_threads v x) w w
 
-heads_within : (i : ℕ) (v : Survey) (a : Act) → Within v → Within (heads_said i v a)
+at_within : (i : ℕ) (v : Survey) (k : ℕ) → Within v → Within (head_at i v k)
+at_within i v k w = either (ltb k (head_lines (said_shape v))) (with_index v) (faulted v (why.Large i)) w w
+
+heads_within : (i : ℕ) (v : Survey) (k : Option ℕ) → Within v → Within (heads_said i v k)
 unfolding heads_said
-heads_within i v a w =
-    either (eqb a.c (head_named v.form)) _ (faulted v (why.Strange i)) (either (ltb a.a (head_lines (said_shape v))) (with_index v) (faulted v (why.Large i)) w w) w
+heads_within i v (Some k) w = either (head_named v.form) (head_at i v k) (faulted v (why.Strange i)) (at_within i v k w) w
+heads_within i v None w = either (head_named v.form) (faulted v (why.Strange i)) (head_at i v 0) w (at_within i v 0 w)
 
 behind_within : (i : ℕ) (v : Survey) (a : Act) → Within v → Within (behind_nodes i v a)
 unfolding behind_nodes
-behind_within i v a w =
-    either (eqb a.tag 2) _ _ (threads_within i v a.a w)
-    (either (eqb a.tag 3) _ _ (heads_within i v a w)
-    (either (eqb a.tag 4) _ _ (either (ltb a.a v.n) (with_index v) (faulted v (why.Large i)) w w)
-    (either (eqb a.tag 5) _ _ (events_within i v a.d w)
-    (either (eqb a.tag 6) _ _ (version_within i v a.a w)
-    (either (eqb a.tag 7) _ (faulted v (why.Strange i)) (desks_within i v a.a w) w)))))
+behind_within i v (line_is.Threads x) w = threads_within i v x w
+behind_within i v (line_is.Head k x) w = heads_within i v k w
+behind_within i v (line_is.Node n l x d) w = either (ltb n v.n) (with_index v) (faulted v (why.Large i)) w w
+behind_within i v (line_is.Events k n d c) w = events_within i v c w
+behind_within i v (line_is.Version x) w = version_within i v x w
+behind_within i v (line_is.Desks x) w = desks_within i v x w
+behind_within i v line_is.Nothing w = w
+behind_within i v (line_is.Nodes x) w = w
+behind_within i v line_is.Unknown w = w
+behind_within i v line_is.TooLarge w = w
+
+begun_within : (i : ℕ) (v : Survey) (a : Act) → Within v → Within (pick v.begun (behind_nodes i v a) (faulted v (why.Strange i)))
+begun_within i v a w = either v.begun (behind_nodes i v a) (faulted v (why.Strange i)) (behind_within i v a w) w
+
+order_within : (i : ℕ) (v : Survey) (a : Act) → Within v → Within (in_order i v a)
+order_within i v (line_is.Nodes x) w = nodes_within i v x w
+order_within i v (line_is.Threads x) w = begun_within i v (line_is.Threads x) w
+order_within i v (line_is.Head k x) w = begun_within i v (line_is.Head k x) w
+order_within i v (line_is.Node n l x d) w = begun_within i v (line_is.Node n l x d) w
+order_within i v (line_is.Events k n d c) w = begun_within i v (line_is.Events k n d c) w
+order_within i v (line_is.Version x) w = begun_within i v (line_is.Version x) w
+order_within i v (line_is.Desks x) w = begun_within i v (line_is.Desks x) w
+order_within i v line_is.Nothing w = begun_within i v line_is.Nothing w
+order_within i v line_is.Unknown w = begun_within i v line_is.Unknown w
+order_within i v line_is.TooLarge w = begun_within i v line_is.TooLarge w
+
+index_within : (i : ℕ) (v : Survey) (a : Act) → Within v → Within (pick (ltb (top_of v.form) (index_said a)) (faulted v (why.Large i)) (in_order i v a))
+index_within i v a w = either (ltb (top_of v.form) (index_said a)) (faulted v (why.Large i)) (in_order i v a) w (order_within i v a w)
+
+narrow_within : (i : ℕ) (v : Survey) (a : Act) → Within v → Within (narrow i v a)
+narrow_within i v line_is.Nothing w = w
+narrow_within i v line_is.TooLarge w = w
+narrow_within i v (line_is.Nodes x) w = index_within i v (line_is.Nodes x) w
+narrow_within i v (line_is.Threads x) w = index_within i v (line_is.Threads x) w
+narrow_within i v (line_is.Head k x) w = index_within i v (line_is.Head k x) w
+narrow_within i v (line_is.Node n l x d) w = index_within i v (line_is.Node n l x d) w
+narrow_within i v (line_is.Events k n d c) w = index_within i v (line_is.Events k n d c) w
+narrow_within i v (line_is.Version x) w = index_within i v (line_is.Version x) w
+narrow_within i v (line_is.Desks x) w = index_within i v (line_is.Desks x) w
+narrow_within i v line_is.Unknown w = index_within i v line_is.Unknown w
 
 surveyed_within : (i : ℕ) (v : Survey) (a : Act) → Within v → Within (surveyed i v a)
 unfolding surveyed
-surveyed_within i v a w =
-    either (is_some v.fault) v _ w
-    (either (eqb a.tag 0) v _ w
-    (either (eqb a.tag 9) (faulted v (why.Large i)) _ w
-    (either (ltb (top_of v.form) (index_said a)) (faulted v (why.Large i)) _ w
-    (either (eqb a.tag 1) _ _ (nodes_within i v a.a w)
-    (either v.begun _ (faulted v (why.Strange i)) (behind_within i v a w) w)))))
+surveyed_within i v a w = either (is_some v.fault) v (narrow i v a) w (narrow_within i v a w)
 
 from_within : (i : ℕ) (v : Survey) (l : List Act) → Within v → Within (survey_from i v l)
 unfolding survey_from

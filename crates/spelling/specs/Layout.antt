@@ -4,7 +4,6 @@ use Rattle.image.specs.Bytes.{le, le4}
 use Rattle.image.specs.Form.{width_of, heads_at, head_lines, node_size, node_place}
 use Rattle.image.specs.Layout.{node_bytes, mark_bytes}
 use Rattle.image.specs.declared.Shape.{Shape}
-use Rattle.spelling.specs.declared.Act.{Act}
 use Rattle.spelling.specs.declared.Survey.{Survey}
 
 abbrev pub event_span : ℕ
@@ -42,11 +41,11 @@ unfoldable pub head_of : Survey → List ℕ
 head_of v = 85 ∷ 81 ∷ 83 ∷ 1 ∷ 0 ∷ v.t % 256 ∷ v.count % 256 ∷ v.count / 256 % 256 ∷ mark_bytes (said_shape v)
 
 -- the head index, the node, and the event, that a line says
-abbrev pub head_said : ℕ → Act → List ℕ
-head_said f a = le (width_of f) a.b
+abbrev pub head_said : ℕ → ℕ → List ℕ
+head_said f x = le (width_of f) x
 
-abbrev pub node_said : ℕ → Act → List ℕ
-node_said f a = node_bytes f (record { linked = a.b % 256; index = a.c; item = a.d % 4294967296 })
+abbrev pub node_said : ℕ → ℕ → ℕ → ℕ → List ℕ
+node_said f l x v = node_bytes f (record { linked = l % 256; index = x; item = v % 4294967296 })
 
-abbrev pub event_said : Act → List ℕ
-event_said a = a.a % 256 ∷ a.b % 256 ∷ le4 a.c
+abbrev pub event_said : ℕ → ℕ → ℕ → List ℕ
+event_said k n v = k % 256 ∷ n % 256 ∷ le4 v

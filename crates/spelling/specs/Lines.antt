@@ -1,5 +1,5 @@
 -- What a line says. A kind of line is one entry of `said_by`: its word, where that stands, how many words there are, and the bounds of its numbers.
-use Rattle.std.specs.Prelude.{ℕ, ◌+◌, ◌*◌, ◌%◌, true, false, List, [], ◌∷◌, get_or, eqb, ltb, leb}
+use Rattle.std.specs.Prelude.{ℕ, ◌+◌, ◌*◌, ◌%◌, true, false, List, [], ◌∷◌, get_or, eqb, ltb, leb, Some, None}
 use Prim.Native.String.{String}
 use Rattle.lists.specs.Find.{pick}
 use Rattle.spelling.specs.declared.Word.{Word}
@@ -8,10 +8,8 @@ use Rattle.spelling.specs.declared.Grade.{Grade}
 use Rattle.spelling.specs.declared.Grade.TheVariants.{Fits, Large, Strange}
 use Rattle.spelling.specs.declared.Line.{Line}
 use Rattle.spelling.specs.declared.Act.{Act}
+use Rattle.spelling.specs.declared.Act.TheVariants as line_is
 use Rattle.spelling.specs.Words.{no_word, value_of, no_line, ended, line_byte, key_of}
-
-abbrev pub act : ℕ → ℕ → ℕ → ℕ → ℕ → Act
-act k a b c d = record { tag = k; a = a; b = b; c = c; d = d }
 
 -- ---- numbers and their bounds
 
@@ -33,8 +31,8 @@ worse Strange b = Strange
 -- a line whose numbers have the grade g at worst
 unfoldable pub graded : Grade → Act → Act
 graded Fits a = a
-graded Large a = act 9 0 0 0 0
-graded Strange a = act 8 0 0 0 0
+graded Large a = line_is.TooLarge
+graded Strange a = line_is.Unknown
 
 abbrev pub byte : ℕ
 byte = 255
@@ -67,24 +65,24 @@ shape_of u v c = pick (ltb 0 (key_in u)) (key_in u * 16 + c) (pick (ltb 0 (key_i
 
 unfoldable pub said_by : ℕ → Word → Word → Word → Word → Word → Act
 said_by shape u v w x y =
-    pick (eqb shape 0) (act 0 0 0 0 0)
-    (pick (eqb shape (first_is "nodes" 2)) (graded (grade v wide) (act 1 (value_of v) 0 0 0))
-    (pick (eqb shape (first_is "threads" 2)) (graded (grade v byte) (act 2 (value_of v) 0 0 0))
-    (pick (eqb shape (first_is "head" 2)) (graded (grade v wide) (act 3 0 (value_of v) 0 0))
+    pick (eqb shape 0) line_is.Nothing
+    (pick (eqb shape (first_is "nodes" 2)) (graded (grade v wide) (line_is.Nodes (value_of v)))
+    (pick (eqb shape (first_is "threads" 2)) (graded (grade v byte) (line_is.Threads (value_of v)))
+    (pick (eqb shape (first_is "head" 2)) (graded (grade v wide) (line_is.Head None (value_of v)))
     (pick (eqb shape (first_is "node" 5))
-    (graded (worse (worse (grade v wide) (grade w byte)) (worse (grade x wide) (grade y word))) (act 4 (value_of v) (value_of w) (value_of x) (value_of y)))
-    (pick (eqb shape (second_is "enqueue" 3)) (graded (worse (grade u byte) (grade w word)) (act 5 1 (value_of u) (value_of w) 1))
-    (pick (eqb shape (second_is "dequeue" 2)) (graded (grade u byte) (act 5 2 (value_of u) 0 1))
-    (pick (eqb shape (second_is "step" 2)) (graded (grade u byte) (act 5 3 (value_of u) 0 1))
-    (pick (eqb shape (second_is "step" 3)) (graded (worse (grade u byte) (grade w wide)) (act 5 3 (value_of u) 0 (value_of w)))
-    (pick (eqb shape (first_is "write-back" 2)) (graded (grade v byte) (act 5 4 (value_of v) 0 1))
-    (pick (eqb shape (first_is "crash" 1)) (act 5 5 0 0 1)
+    (graded (worse (worse (grade v wide) (grade w byte)) (worse (grade x wide) (grade y word))) (line_is.Node (value_of v) (value_of w) (value_of x) (value_of y)))
+    (pick (eqb shape (second_is "enqueue" 3)) (graded (worse (grade u byte) (grade w word)) (line_is.Events 1 (value_of u) (value_of w) 1))
+    (pick (eqb shape (second_is "dequeue" 2)) (graded (grade u byte) (line_is.Events 2 (value_of u) 0 1))
+    (pick (eqb shape (second_is "step" 2)) (graded (grade u byte) (line_is.Events 3 (value_of u) 0 1))
+    (pick (eqb shape (second_is "step" 3)) (graded (worse (grade u byte) (grade w wide)) (line_is.Events 3 (value_of u) 0 (value_of w)))
+    (pick (eqb shape (first_is "write-back" 2)) (graded (grade v byte) (line_is.Events 4 (value_of v) 0 1))
+    (pick (eqb shape (first_is "crash" 1)) (line_is.Events 5 0 0 1)
     (pick (eqb shape (first_is "event" 4))
-    (graded (worse (grade v byte) (worse (grade w byte) (grade x word))) (act 5 (value_of v) (value_of w) (value_of x) 1))
-    (pick (eqb shape (first_is "version" 2)) (graded (grade v wide) (act 6 (value_of v) 0 0 0))
-    (pick (eqb shape (first_is "desks" 2)) (graded (grade v byte) (act 7 (value_of v) 0 0 0))
-    (pick (eqb shape (first_is "head" 3)) (graded (worse (grade v wide) (grade w wide)) (act 3 (value_of v) (value_of w) 1 0))
-    (act 8 0 0 0 0)))))))))))))))
+    (graded (worse (grade v byte) (worse (grade w byte) (grade x word))) (line_is.Events (value_of v) (value_of w) (value_of x) 1))
+    (pick (eqb shape (first_is "version" 2)) (graded (grade v wide) (line_is.Version (value_of v)))
+    (pick (eqb shape (first_is "desks" 2)) (graded (grade v byte) (line_is.Desks (value_of v)))
+    (pick (eqb shape (first_is "head" 3)) (graded (worse (grade v wide) (grade w wide)) (line_is.Head (Some (value_of v)) (value_of w)))
+    line_is.Unknown))))))))))))))
 
 abbrev pub word_at : Line → ℕ → Word
 word_at l i = get_or l.words i no_word

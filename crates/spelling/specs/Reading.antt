@@ -5,6 +5,7 @@ use Rattle.lists.specs.Tab.{joined, over}
 use Rattle.image.specs.Form.{top_of, head_lines, per_desk}
 use Rattle.image.specs.declared.Shape.{Shape}
 use Rattle.spelling.specs.declared.Act.{Act}
+use Rattle.spelling.specs.declared.Act.TheVariants as line_is
 use Rattle.spelling.specs.declared.Survey.{Survey}
 use Rattle.spelling.specs.declared.Misread.{Misread}
 use Rattle.spelling.specs.declared.Misread.TheVariants as why
@@ -49,7 +50,9 @@ with_events v x = record { fault = v.fault; begun = v.begun; settled = v.settled
 
 -- the index that a line says; 0 where it says none
 unfoldable pub index_said : Act → ℕ
-index_said a = pick (eqb a.tag 3) a.b (pick (eqb a.tag 4) a.c 0)
+index_said (line_is.Head k x) = x
+index_said (line_is.Node i l x v) = x
+index_said _ = 0
 
 -- `nodes`: it stands once
 unfoldable pub nodes_said : ℕ → Survey → ℕ → Survey
@@ -66,13 +69,18 @@ desks_said i v x = pick v.settled (faulted v (why.Strange i)) (with_desks v x)
 unfoldable pub threads_said : ℕ → Survey → ℕ → Survey
 threads_said i v x = pick (per_desk v.form) (faulted v (why.Strange i)) (with_threads v x)
 
--- 1 where a line `head` names one of several head lines, 0 where there is only one
-unfoldable pub head_named : ℕ → ℕ
-head_named f = pick (per_desk f) 1 0
+-- whether a line `head` names one of several head lines: not where there is only one
+unfoldable pub head_named : ℕ → Bool
+head_named f = per_desk f
 
--- `head`: as the form has it, and of a head line that there is
-unfoldable pub heads_said : ℕ → Survey → Act → Survey
-heads_said i v a = pick (eqb a.c (head_named v.form)) (pick (ltb a.a (head_lines (said_shape v))) (with_index v) (faulted v (why.Large i))) (faulted v (why.Strange i))
+-- an index of head line k, if there is one
+abbrev pub head_at : ℕ → Survey → ℕ → Survey
+head_at i v k = pick (ltb k (head_lines (said_shape v))) (with_index v) (faulted v (why.Large i))
+
+-- `head`: it names the head line where there are several, and only there
+unfoldable pub heads_said : ℕ → Survey → Option ℕ → Survey
+heads_said i v (Some k) = pick (head_named v.form) (head_at i v k) (faulted v (why.Strange i))
+heads_said i v None = pick (head_named v.form) (faulted v (why.Strange i)) (head_at i v 0)
 
 -- x events more: there are at most 65,535
 unfoldable pub events_said : ℕ → Survey → ℕ → Survey
@@ -80,23 +88,28 @@ events_said i v x = pick (leb (v.count + x) 65535) (with_events v x) (faulted v 
 
 -- a line behind `nodes`: a node's number is below N
 unfoldable pub behind_nodes : ℕ → Survey → Act → Survey
-behind_nodes i v a =
-    pick (eqb a.tag 2) (threads_said i v a.a)
-    (pick (eqb a.tag 3) (heads_said i v a)
-    (pick (eqb a.tag 4) (pick (ltb a.a v.n) (with_index v) (faulted v (why.Large i)))
-    (pick (eqb a.tag 5) (events_said i v a.d)
-    (pick (eqb a.tag 6) (version_said i v a.a)
-    (pick (eqb a.tag 7) (desks_said i v a.a) (faulted v (why.Strange i)))))))
+behind_nodes i v (line_is.Threads x) = threads_said i v x
+behind_nodes i v (line_is.Head k x) = heads_said i v k
+behind_nodes i v (line_is.Node n l x d) = pick (ltb n v.n) (with_index v) (faulted v (why.Large i))
+behind_nodes i v (line_is.Events k n d c) = events_said i v c
+behind_nodes i v (line_is.Version x) = version_said i v x
+behind_nodes i v (line_is.Desks x) = desks_said i v x
+behind_nodes i v _ = faulted v (why.Strange i)
 
--- line i says a: its index fits the form, `nodes` stands before all others. The first fault stays
+-- `nodes` stands before all others
+abbrev pub in_order : ℕ → Survey → Act → Survey
+in_order i v (line_is.Nodes x) = nodes_said i v x
+in_order i v a = pick v.begun (behind_nodes i v a) (faulted v (why.Strange i))
+
+-- a line's index fits the form
+abbrev pub narrow : ℕ → Survey → Act → Survey
+narrow i v line_is.Nothing = v
+narrow i v line_is.TooLarge = faulted v (why.Large i)
+narrow i v a = pick (ltb (top_of v.form) (index_said a)) (faulted v (why.Large i)) (in_order i v a)
+
+-- line i says a. The first fault stays
 unfoldable pub surveyed : ℕ → Survey → Act → Survey
-surveyed i v a =
-    pick (is_some v.fault) v
-    (pick (eqb a.tag 0) v
-    (pick (eqb a.tag 9) (faulted v (why.Large i))
-    (pick (ltb (top_of v.form) (index_said a)) (faulted v (why.Large i))
-    (pick (eqb a.tag 1) (nodes_said i v a.a)
-    (pick v.begun (behind_nodes i v a) (faulted v (why.Strange i)))))))
+surveyed i v a = pick (is_some v.fault) v (narrow i v a)
 
 unfoldable pub survey_from : ℕ → Survey → List Act → Survey
 survey_from i v [] = v
@@ -120,16 +133,22 @@ blank_file v = head_of v ++ replicate (rest_of v) 0
 unfoldable pub times : ℕ → List ℕ → List ℕ
 times d l = joined (λ i. l) d
 
+-- the head line that a line `head` is about
+abbrev pub line_named : Option ℕ → ℕ
+line_named (Some k) = k
+line_named None = 0
+
 -- what a line puts into a file of z bytes, with an image in shape g, whose events reach up to p; and up to where they then reach. What does not fit
 -- is not put: where no line is at fault everything fits
 unfoldable pub put_by : Shape → ℕ → List ℕ → ℕ → Act → List ℕ
-put_by g z x p a =
-    pick (eqb a.tag 3) (pick (ltb a.a (head_lines g)) (over x (head_start g.form a.a) (head_said g.form a)) x)
-    (pick (eqb a.tag 4) (pick (ltb a.a g.n) (over x (node_start g a.a) (node_said g.form a)) x)
-    (pick (eqb a.tag 5) (pick (leb (p + a.d * event_span) z) (over x p (times a.d (event_said a))) x) x))
+put_by g z x p (line_is.Head k y) = pick (ltb (line_named k) (head_lines g)) (over x (head_start g.form (line_named k)) (head_said g.form y)) x
+put_by g z x p (line_is.Node i l y v) = pick (ltb i g.n) (over x (node_start g i) (node_said g.form l y v)) x
+put_by g z x p (line_is.Events k n v d) = pick (leb (p + d * event_span) z) (over x p (times d (event_said k n v))) x
+put_by g z x p _ = x
 
 unfoldable pub reach_by : ℕ → ℕ → Act → ℕ
-reach_by z p a = pick (eqb a.tag 5) (pick (leb (p + a.d * event_span) z) (p + a.d * event_span) p) p
+reach_by z p (line_is.Events k n v d) = pick (leb (p + d * event_span) z) (p + d * event_span) p
+reach_by z p _ = p
 
 unfoldable pub put_all : Shape → ℕ → List ℕ → ℕ → List Act → List ℕ
 put_all g z x p [] = x

@@ -36,15 +36,24 @@ pub enum Grade {
     Strange,
 }
 
-// What a line says: 0 nothing, 1 nodes, 2 threads, 3 head, 4 node, 5 events, 6 version, 7 desks, 8 not understood, 9 a number too large; and its
-// numbers.
-#[derive(Clone, Copy)]
-pub struct Act {
-    pub tag: u8,
-    pub a: u64,
-    pub b: u64,
-    pub c: u64,
-    pub d: u64,
+// What a line says.
+#[derive(Clone, Copy, Debug, PartialEq, Eq)]
+pub enum Act {
+    Nothing,
+    Nodes(u64),
+    Threads(u64),
+    // A head line, by its number where it names one of several, and its index.
+    Head(Option<u64>, u64),
+    // A node: its number, its linked byte, its index and its item.
+    Node(u64, u64, u64, u64),
+    // Events: kind, number and item, and how many like these.
+    Events(u64, u64, u64, u64),
+    Version(u64),
+    Desks(u64),
+    // It is not understood.
+    Unknown,
+    // A number is too large.
+    TooLarge,
 }
 
 // What the lines said so far: the first fault; whether `nodes` stood; whether the image's form can no longer be said; the form, N, T and event count.

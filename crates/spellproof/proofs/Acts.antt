@@ -23,8 +23,10 @@ use Rattle.printing.proofs.Fittings as fits
 use Rattle.image.proofs.ByteLaws as num
 use Rattle.image.proofs.FormLaws as forms
 use Rattle.spelling.specs.declared.Act.{Act}
+use Rattle.std.specs.Prelude.{Some, None}
+use Rattle.spelling.specs.declared.Act.TheVariants as line_is
 use Rattle.spelling.specs.Words.{no_line, ended, word_on, key_of, grown, letter_more}
-use Rattle.spelling.specs.Lines.{act, key_in, shape_of, said_by, said, acts_from, acts_of}
+use Rattle.spelling.specs.Lines.{key_in, shape_of, said_by, said, acts_from, acts_of}
 use Rattle.spelling.specs.Writing.{threads_line, version_line, head_line, node_line, event_line, image_form, heads_in, head_at, node_at, is_blank_node, node_entry, is_step, follows, run_end, event_entry, entry_of, words_of}
 use Rattle.spellproof.proofs.ReadBack as back
 use Rattle.spellproof.proofs.Runs as runs
@@ -53,7 +55,7 @@ says_joined f g (suc n) h = says_also (says_joined f g n (λ i p. h i (omega ari
 
 module _ (e : Event) (r : ℕ) (hk : e.kind ≤ 255) (hn : e.number ≤ 255) (hv : e.item ≤ 4294967295) (hr : r ≤ 4294967295) (alone : is_step e ≡ false → r ≡ 1) where
   abbrev says : List Act
-  says = act 5 e.kind e.number e.item r ∷ []
+  says = line_is.Events e.kind e.number e.item r ∷ []
 
   no_step_lem : (e.kind ≡ 3 → ⊥) → is_step e ≡ false
   no_step_lem h = rw (ne_eqb e.kind 3 h)
@@ -128,23 +130,23 @@ pub part_bytes : (s : List ℕ) → num.Bytes s → num.Bytes (image_part s)
 part_bytes s b i = omega (arith, get_or-drop 8 s i 0, b (8 + i))
 
 abbrev pub node_acts : List ℕ → ℕ → List Act
-node_acts s i = pick (is_blank_node (node_at s i)) [] (act 4 i (node_at s i).linked (node_at s i).index (node_at s i).item ∷ [])
+node_acts s i = pick (is_blank_node (node_at s i)) [] (line_is.Node i (node_at s i).linked (node_at s i).index (node_at s i).item ∷ [])
 
 abbrev pub event_acts : List ℕ → ℕ → List Act
-event_acts s j = pick (follows s j) [] (act 5 (event_in s j).kind (event_in s j).number (event_in s j).item (run_end s j - j) ∷ [])
+event_acts s j = pick (follows s j) [] (line_is.Events (event_in s j).kind (event_in s j).number (event_in s j).item (run_end s j - j) ∷ [])
 
 abbrev pub version_acts : ℕ → List Act
-version_acts f = pick (eqb f 1) [] (act 6 f 0 0 0 ∷ [])
+version_acts f = pick (eqb f 1) [] (line_is.Version f ∷ [])
 
 abbrev pub thread_acts : ℕ → ℕ → List Act
-thread_acts f t = pick (per_desk f) (act 7 t 0 0 0 ∷ []) (act 2 t 0 0 0 ∷ [])
+thread_acts f t = pick (per_desk f) (line_is.Desks t ∷ []) (line_is.Threads t ∷ [])
 
 -- head line k, with the index x k
 abbrev pub line_acts : ℕ → (ℕ → ℕ) → ℕ → List Act
-line_acts f x k = pick (per_desk f) (act 3 k (x k) 1 0 ∷ []) (version_acts f ++ (act 3 0 (x k) 0 0 ∷ []))
+line_acts f x k = pick (per_desk f) (line_is.Head (Some k) (x k) ∷ []) (version_acts f ++ (line_is.Head None (x k) ∷ []))
 
 abbrev pub open_acts : List ℕ → List Act
-open_acts s = act 1 (nodes_in s) 0 0 0 ∷ thread_acts (image_form s) (threads_in s)
+open_acts s = line_is.Nodes (nodes_in s) ∷ thread_acts (image_form s) (threads_in s)
 
 abbrev pub head_acts : List ℕ → ℕ → List Act
 head_acts s = line_acts (image_form s) (head_at s)
@@ -153,7 +155,7 @@ threads_say : (f t : ℕ) → t ≤ 255 → Says (threads_line f t) (thread_acts
 unfolding threads_line
 threads_say f t h = by (per_desk f)
   where
-    by : (b : Bool) → Says (pick b (text "desks " ++ decimal t ++ newline) (text "threads " ++ decimal t ++ newline)) (pick b (act 7 t 0 0 0 ∷ []) (act 2 t 0 0 0 ∷ []))
+    by : (b : Bool) → Says (pick b (text "desks " ++ decimal t ++ newline) (text "threads " ++ decimal t ++ newline)) (pick b (line_is.Desks t ∷ []) (line_is.Threads t ∷ []))
     by true = record { on = λ r. back.desks_said t r h }
     by false = record { on = λ r. back.threads_said_lem t r h }
 
@@ -161,7 +163,7 @@ version_says : (f : ℕ) → f ≤ 255 → Says (version_line f) (version_acts f
 unfolding version_line
 version_says f h = by (eqb f 1)
   where
-    by : (b : Bool) → Says (pick b [] (text "version " ++ decimal f ++ newline)) (pick b [] (act 6 f 0 0 0 ∷ []))
+    by : (b : Bool) → Says (pick b [] (text "version " ++ decimal f ++ newline)) (pick b [] (line_is.Version f ∷ []))
     by true = says_none
     by false = record { on = λ r. back.version_said f r (omega arith) }
 
@@ -170,7 +172,7 @@ unfolding head_line
 head_says f k x hf hk hx = by (per_desk f)
   where
     by : (b : Bool) → Says (pick b (text "head " ++ decimal k ++ text " " ++ decimal (x k) ++ newline) (version_line f ++ (text "head " ++ decimal (x k) ++ newline)))
-        (pick b (act 3 k (x k) 1 0 ∷ []) (version_acts f ++ (act 3 0 (x k) 0 0 ∷ [])))
+        (pick b (line_is.Head (Some k) (x k) ∷ []) (version_acts f ++ (line_is.Head None (x k) ∷ [])))
     by true = record { on = λ r. back.named_said k (x k) r hk hx }
     by false = says_also (version_says f hf) (record { on = λ r. back.head_said (x k) r hx })
 
@@ -239,7 +241,7 @@ module _ (s : List ℕ) (bs : num.Bytes s) (lines : heads_in s ≤ 8) (few : nod
       rw (ne_eqb k 0 (λ q. omega arith), ne_eqb k 1 (λ q. omega arith), le-ltb k (2 + heads_in s) (omega arith), le-ltb k (2 + heads_in s + nodes_in s) (omega arith))
       (ap (event_entry s) e)
 
-  says_0 : Says (text "nodes " ++ decimal (nodes_in s) ++ newline) (act 1 (nodes_in s) 0 0 0 ∷ [])
+  says_0 : Says (text "nodes " ++ decimal (nodes_in s) ++ newline) (line_is.Nodes (nodes_in s) ∷ [])
   says_0 = record { on = λ r. back.nodes_said (nodes_in s) r (omega arith) }
 
   first_says : Says (lines_on (entry_of s) 0 2) (open_acts s)
@@ -277,7 +279,7 @@ module _ (s : List ℕ) (bs : num.Bytes s) (lines : heads_in s ≤ 8) (few : nod
       (fits.on_join (entry_of s) 0 (2 + h) n ∙ ap₂ (λ a k. a ++ on k n) (fits.on_join (entry_of s) 0 2 h) (zero-add (2 + h)))
       (zero-add (2 + h + n))
 
-  last_line : acts_from no_line [] ≡ act 0 0 0 0 0 ∷ []
+  last_line : acts_from no_line [] ≡ line_is.Nothing ∷ []
   unfolding acts_from said ended key_in shape_of said_by key_of word_on text grown letter_more
   last_line = refl
 
@@ -285,7 +287,7 @@ module _ (s : List ℕ) (bs : num.Bytes s) (lines : heads_in s ≤ 8) (few : nod
   abbrev pub all_acts : List Act
   all_acts = open_acts s ++ joined (head_acts s) (heads_in s) ++ joined (node_acts s) (nodes_in s) ++ joined (event_acts s) (count_in s)
 
-  pub words_acts : acts_of (words_of s) ≡ all_acts ++ (act 0 0 0 0 0 ∷ [])
+  pub words_acts : acts_of (words_of s) ≡ all_acts ++ (line_is.Nothing ∷ [])
   unfolding acts_of
   words_acts =
       ap (acts_from no_line) (sym (append-nil (words_of s)) ∙ ap (λ a. a ++ []) parts)

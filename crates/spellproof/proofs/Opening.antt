@@ -24,9 +24,10 @@ use Rattle.image.proofs.FormLaws as forms
 use Rattle.codec.proofs.Accepted as acc
 use Rattle.codec.proofs.Shapes as shapes
 use Rattle.spelling.specs.declared.Act.{Act}
-use Rattle.spelling.specs.Lines.{act}
+use Rattle.std.specs.Prelude.{Option, Some, None}
+use Rattle.spelling.specs.declared.Act.TheVariants as line_is
 use Rattle.spelling.specs.Layout.{said_shape, head_start, node_start, span_of, head_of}
-use Rattle.spelling.specs.Reading.{blank_file, put_by, reach_by, put_all}
+use Rattle.spelling.specs.Reading.{line_named, blank_file, put_by, reach_by, put_all}
 use Rattle.spelling.specs.Writing.{image_form, heads_in, head_at}
 use Rattle.spelling.proofs.PlaceLaws as places
 use Rattle.spellproof.proofs.Acts as acts
@@ -137,7 +138,7 @@ module _ (s : List ℕ) (bs : num.Bytes s) (h : accepted (schedule_answer s) ≡
   unfolding put_all put_by reach_by
   open_put x p = by (per_desk F)
     where
-      by : (b : Bool) → put_all G Z x p (act 1 (nodes_in s) 0 0 0 ∷ pick b (act 7 (threads_in s) 0 0 0 ∷ []) (act 2 (threads_in s) 0 0 0 ∷ [])) ≡ x
+      by : (b : Bool) → put_all G Z x p (line_is.Nodes (nodes_in s) ∷ pick b (line_is.Desks (threads_in s) ∷ []) (line_is.Threads (threads_in s) ∷ [])) ≡ x
       by true = refl
       by false = refl
 
@@ -145,21 +146,21 @@ module _ (s : List ℕ) (bs : num.Bytes s) (h : accepted (schedule_answer s) ≡
   unfolding reach_all reach_by
   open_reach p = by (per_desk F)
     where
-      by : (b : Bool) → reach_all Z p (act 1 (nodes_in s) 0 0 0 ∷ pick b (act 7 (threads_in s) 0 0 0 ∷ []) (act 2 (threads_in s) 0 0 0 ∷ [])) ≡ p
+      by : (b : Bool) → reach_all Z p (line_is.Nodes (nodes_in s) ∷ pick b (line_is.Desks (threads_in s) ∷ []) (line_is.Threads (threads_in s) ∷ [])) ≡ p
       by true = refl
       by false = refl
 
   -- ---- head lines
 
-  one_head : (x : List ℕ) (p k y c : ℕ) → k < heads_in s → put_all G Z x p (act 3 k y c 0 ∷ []) ≡ over x (head_start F k) (le (width_of F) y)
+  one_head : (x : List ℕ) (p : ℕ) (i : Option ℕ) (y : ℕ) → line_named i < heads_in s → put_all G Z x p (line_is.Head i y ∷ []) ≡ over x (head_start F (line_named i)) (le (width_of F) y)
   unfolding put_all put_by reach_by
-  one_head x p k y c l = rw (lt-ltb k (heads_in s) l)
+  one_head x p i y l = rw (lt-ltb (line_named i) (heads_in s) l)
 
   version_put : (x : List ℕ) (p : ℕ) (l : List Act) → put_all G Z x p (acts.version_acts F ++ l) ≡ put_all G Z x p l
   unfolding put_all put_by reach_by
   version_put x p l = by (eqb F 1)
     where
-      by : (b : Bool) → put_all G Z x p (pick b [] (act 6 F 0 0 0 ∷ []) ++ l) ≡ put_all G Z x p l
+      by : (b : Bool) → put_all G Z x p (pick b [] (line_is.Version F ∷ []) ++ l) ≡ put_all G Z x p l
       by true = refl
       by false = refl
 
@@ -167,20 +168,20 @@ module _ (s : List ℕ) (bs : num.Bytes s) (h : accepted (schedule_answer s) ≡
   head_put x p k l = by (per_desk F) refl
     where
       by : (b : Bool) → per_desk F ≡ b
-          → put_all G Z x p (pick b (act 3 k (head_at s k) 1 0 ∷ []) (acts.version_acts F ++ (act 3 0 (head_at s k) 0 0 ∷ []))) ≡ over x (head_start F k) (le (width_of F) (head_at s k))
-      by true e = one_head x p k (head_at s k) 1 l
+          → put_all G Z x p (pick b (line_is.Head (Some k) (head_at s k) ∷ []) (acts.version_acts F ++ (line_is.Head None (head_at s k) ∷ []))) ≡ over x (head_start F k) (le (width_of F) (head_at s k))
+      by true e = one_head x p (Some k) (head_at s k) l
       by false e =
           let one = saying.lines_sole G kf e in
           let z : 0 ≡ k = omega (arith, one, l) in
-          version_put x p (act 3 0 (head_at s k) 0 0 ∷ [])
-          ∙ one_head x p 0 (head_at s k) 0 (omega (arith, one))
+          version_put x p (line_is.Head None (head_at s k) ∷ [])
+          ∙ one_head x p None (head_at s k) (omega (arith, one))
           ∙ ap (λ j. over x (head_start F j) (le (width_of F) (head_at s k))) z
 
   pub head_reach : (p k : ℕ) → reach_all Z p (acts.head_acts s k) ≡ p
   unfolding reach_all reach_by
   head_reach p k = by (per_desk F) (eqb F 1)
     where
-      by : (b c : Bool) → reach_all Z p (pick b (act 3 k (head_at s k) 1 0 ∷ []) (pick c [] (act 6 F 0 0 0 ∷ []) ++ (act 3 0 (head_at s k) 0 0 ∷ []))) ≡ p
+      by : (b c : Bool) → reach_all Z p (pick b (line_is.Head (Some k) (head_at s k) ∷ []) (pick c [] (line_is.Version F ∷ []) ++ (line_is.Head None (head_at s k) ∷ []))) ≡ p
       by true c = refl
       by false true = refl
       by false false = refl

@@ -24,8 +24,9 @@ use Rattle.image.proofs.FormLaws as forms
 use Rattle.codec.proofs.Accepted as acc
 use Rattle.codec.proofs.ReadWrite as again
 use Rattle.spelling.specs.declared.Act.{Act}
+use Rattle.spelling.specs.declared.Act.TheVariants as line_is
 use Rattle.spelling.specs.declared.Survey.{Survey}
-use Rattle.spelling.specs.Lines.{act, acts_of}
+use Rattle.spelling.specs.Lines.{acts_of}
 use Rattle.spelling.specs.Layout.{said_shape, node_start, events_start, events_place, size_of, node_said}
 use Rattle.spelling.specs.Reading.{Taken, blank_file, times, put_by, reach_by, put_all, file_of, read_answer}
 use Rattle.spelling.specs.Writing.{image_form, heads_in, node_at, is_blank_node, follows, run_end, words_of}
@@ -73,9 +74,9 @@ module _ (s : List ℕ) (bs : num.Bytes s) (h : accepted (schedule_answer s) ≡
   node_place_lem i p = omega (arith, size, forms.place_within G i (nodes_in s) p)
 
   abbrev said : ℕ → Act
-  said i = act 4 i (node_at s i).linked (node_at s i).index (node_at s i).item
+  said i = line_is.Node i (node_at s i).linked (node_at s i).index (node_at s i).item
 
-  node_bytes_lem : (i : ℕ) → i < nodes_in s → node_said F (said i) ≡ take (node_size F) (drop (at i) s)
+  node_bytes_lem : (i : ℕ) → i < nodes_in s → node_said F (node_at s i).linked (node_at s i).index (node_at s i).item ≡ take (node_size F) (drop (at i) s)
   node_bytes_lem i p =
       let b = acts.part_bytes s bs in
       let x : (node_at s i).linked % 256 ≡ (node_at s i).linked = omega (arith, b (node_place G i)) in
@@ -91,7 +92,7 @@ module _ (s : List ℕ) (bs : num.Bytes s) (h : accepted (schedule_answer s) ≡
       sym (node_bytes_lem i p)
       ∙ rw (eqb-true (node_at s i).linked 0 a.0, eqb-true (node_at s i).index 0 b.0, eqb-true (node_at s i).item 0 b.1) (blank_node F kf)
 
-  one_node : (x : List ℕ) (p i : ℕ) → i < nodes_in s → put_all G Z x p (said i ∷ []) ≡ over x (at i) (node_said F (said i))
+  one_node : (x : List ℕ) (p i : ℕ) → i < nodes_in s → put_all G Z x p (said i ∷ []) ≡ over x (at i) (node_said F (node_at s i).linked (node_at s i).index (node_at s i).item)
   unfolding put_all put_by reach_by
   one_node x p i h = rw (lt-ltb i (nodes_in s) h)
 
@@ -153,11 +154,11 @@ module _ (s : List ℕ) (bs : num.Bytes s) (h : accepted (schedule_answer s) ≡
       ∙ ap (take 6) (sym (drop-drop (i * 6) (place j) s)))
       ∙ tabs.joined_parts (drop (place j) s) 6 d
 
-  one_put : (x : List ℕ) (q a b c d : ℕ) → q + d * 6 ≤ Z → put_all G Z x q (act 5 a b c d ∷ []) ≡ over x q (times d (a % 256 ∷ b % 256 ∷ le4 c))
+  one_put : (x : List ℕ) (q a b c d : ℕ) → q + d * 6 ≤ Z → put_all G Z x q (line_is.Events a b c d ∷ []) ≡ over x q (times d (a % 256 ∷ b % 256 ∷ le4 c))
   unfolding put_all put_by reach_by
   one_put x q a b c d h = rw (le-leb (q + d * 6) Z h)
 
-  one_reach : (q a b c d : ℕ) → q + d * 6 ≤ Z → reach_all Z q (act 5 a b c d ∷ []) ≡ q + d * 6
+  one_reach : (q a b c d : ℕ) → q + d * 6 ≤ Z → reach_all Z q (line_is.Events a b c d ∷ []) ≡ q + d * 6
   unfolding reach_all reach_by
   one_reach q a b c d h = rw (le-leb (q + d * 6) Z h)
 
@@ -220,7 +221,7 @@ module _ (s : List ℕ) (bs : num.Bytes s) (h : accepted (schedule_answer s) ≡
       ∙ ap₂ (λ x z. put_all G Z x z (acts.event_acts s m)) (events_put m (omega arith)) (events_reach m (omega arith))
       ∙ event_puts m (omega arith)
 
-  last_puts : (x : List ℕ) (q : ℕ) → put_all G Z x q (act 0 0 0 0 0 ∷ []) ≡ x
+  last_puts : (x : List ℕ) (q : ℕ) → put_all G Z x q (line_is.Nothing ∷ []) ≡ x
   unfolding put_all put_by reach_by
   last_puts x q = refl
 
@@ -241,7 +242,7 @@ module _ (s : List ℕ) (bs : num.Bytes s) (h : accepted (schedule_answer s) ≡
       let d = joined (acts.head_acts s) (heads_in s) in
       let b = joined (acts.node_acts s) (nodes_in s) in
       let c = joined (acts.event_acts s) (count_in s) in
-      let z = act 0 0 0 0 0 ∷ [] in
+      let z = line_is.Nothing ∷ [] in
       let p = at (nodes_in s) in
       let f = zeroed.file s (opening.first s bs h) in
       let rd : reach_all Z p (a ++ d) ≡ p = reach_also Z p a d ∙ ap (λ q. reach_all Z q d) (opening.open_reach s bs h p) ∙ reach_joined Z p (acts.head_acts s) (heads_in s) (opening.head_reach s bs h p) in

@@ -9,7 +9,7 @@ use native.Mathlib.Numerals.{add-one}
 use borrow.Author.Tests.{eqb-true, le-ltb, lt-ltb, le-leb}
 use lib.Dec.{eqb}
 use lib.ListN.{length}
-use Rattle.std.specs.Prelude.{None}
+use Rattle.std.specs.Prelude.{Some, None}
 use Rattle.lists.specs.Find.{pick}
 use Rattle.lists.specs.Tab.{joined}
 use Rattle.lists.proofs.BoolLaws.{no_way}
@@ -22,8 +22,8 @@ use Rattle.image.proofs.HeadLaws as heads
 use Rattle.schedule.specs.Layout.{threads_in, count_in, nodes_in, image_part, schedule_shape, event_in, schedule_answer}
 use Rattle.codec.proofs.Accepted as acc
 use Rattle.spelling.specs.declared.Act.{Act}
+use Rattle.spelling.specs.declared.Act.TheVariants as line_is
 use Rattle.spelling.specs.declared.Survey.{Survey}
-use Rattle.spelling.specs.Lines.{act}
 use Rattle.spelling.specs.Reading.{no_survey, version_form, head_named, index_said, nodes_said, version_said, desks_said, threads_said, heads_said, events_said, behind_nodes, surveyed, survey_from, survey_of}
 use Rattle.spelling.specs.Writing.{image_form, heads_in, head_at, node_at, is_blank_node, follows, run_end, words_of}
 use Rattle.spelling.proofs.PlaceLaws as places
@@ -60,11 +60,11 @@ shaped f n t = record { form = f; n = n; t = t }
 
 -- where there is one head index: T, the version, the index
 sole_begins : (f n t x : ℕ) → known f ≡ true → per_desk f ≡ false → n ≤ 255 → x ≤ top_of f
-    → survey_from 0 no_survey (act 1 n 0 0 0 ∷ act 2 t 0 0 0 ∷ (acts.version_acts f ++ (act 3 0 x 0 0 ∷ []))) ≡ begun f n t 0
+    → survey_from 0 no_survey (line_is.Nodes n ∷ line_is.Threads t ∷ (acts.version_acts f ++ (line_is.Head None x ∷ []))) ≡ begun f n t 0
 unfolding survey_from surveyed nodes_said behind_nodes threads_said heads_said head_named version_said version_form index_said top_of width_of head_lines per_desk
 sole_begins f n t x h o l =
     forms.by_form
-    (λ f. eqb f 4 ≡ false → x ≤ top_of f → survey_from 0 no_survey (act 1 n 0 0 0 ∷ act 2 t 0 0 0 ∷ (acts.version_acts f ++ (act 3 0 x 0 0 ∷ []))) ≡ begun f n t 0)
+    (λ f. eqb f 4 ≡ false → x ≤ top_of f → survey_from 0 no_survey (line_is.Nodes n ∷ line_is.Threads t ∷ (acts.version_acts f ++ (line_is.Head None x ∷ []))) ≡ begun f n t 0)
     f
     h
     (λ q p. rw (le-ltb 255 n l, le-ltb 4294967295 x p))
@@ -73,36 +73,36 @@ sole_begins f n t x h o l =
     o
 
 -- where each desk has one: T, and the index of each
-desks_begin : (n t : ℕ) → n ≤ 255 → survey_from 0 no_survey (act 1 n 0 0 0 ∷ act 7 t 0 0 0 ∷ []) ≡ begun 4 n t 0
+desks_begin : (n t : ℕ) → n ≤ 255 → survey_from 0 no_survey (line_is.Nodes n ∷ line_is.Desks t ∷ []) ≡ begun 4 n t 0
 unfolding survey_from surveyed nodes_said behind_nodes desks_said index_said top_of width_of
 desks_begin n t l = rw (le-ltb 255 n l)
 
-desk_says : (i n t k x : ℕ) → k < t % 256 → x ≤ top_of 4 → survey_from i (begun 4 n t 0) (act 3 k x 1 0 ∷ []) ≡ begun 4 n t 0
+desk_says : (i n t k x : ℕ) → k < t % 256 → x ≤ top_of 4 → survey_from i (begun 4 n t 0) (line_is.Head (Some k) x ∷ []) ≡ begun 4 n t 0
 unfolding survey_from surveyed behind_nodes heads_said head_named index_said top_of width_of head_lines per_desk
 desk_says i n t k x l p = rw (le-ltb 4294967295 x p, lt-ltb k (t % 256) l)
 
-desks_say : (i n t m : ℕ) (x : ℕ → ℕ) → m ≤ t % 256 → ((k : ℕ) → x k ≤ top_of 4) → survey_from i (begun 4 n t 0) (joined (λ k. act 3 k (x k) 1 0 ∷ []) m) ≡ begun 4 n t 0
+desks_say : (i n t m : ℕ) (x : ℕ → ℕ) → m ≤ t % 256 → ((k : ℕ) → x k ≤ top_of 4) → survey_from i (begun 4 n t 0) (joined (λ k. line_is.Head (Some k) (x k) ∷ []) m) ≡ begun 4 n t 0
 unfolding joined survey_from
 desks_say i n t zero x l p = refl
 desks_say i n t (suc m) x l p =
-    let g : ℕ → List Act = λ k. act 3 k (x k) 1 0 ∷ [] in
+    let g : ℕ → List Act = λ k. line_is.Head (Some k) (x k) ∷ [] in
     survey_also i (begun 4 n t 0) (joined g m) (g m)
     ∙ ap (λ v. survey_from (i + length (joined g m)) v (g m)) (desks_say i n t m x (omega arith) p)
     ∙ desk_says (i + length (joined g m)) n t m (x m) (omega arith) (p m)
 
 -- either way
 heads_begin : (f n t m : ℕ) (x : ℕ → ℕ) → known f ≡ true → n ≤ 255 → t ≤ 255 → m ≡ head_lines (shaped f n t) → ((k : ℕ) → x k ≤ top_of f)
-    → survey_from 0 no_survey ((act 1 n 0 0 0 ∷ acts.thread_acts f t) ++ joined (acts.line_acts f x) m) ≡ begun f n t 0
+    → survey_from 0 no_survey ((line_is.Nodes n ∷ acts.thread_acts f t) ++ joined (acts.line_acts f x) m) ≡ begun f n t 0
 unfolding joined
 heads_begin f n t m x h l u e p = by (per_desk f) refl
   where
     by : (b : Bool) → per_desk f ≡ b
-        → survey_from 0 no_survey ((act 1 n 0 0 0 ∷ pick b (act 7 t 0 0 0 ∷ []) (act 2 t 0 0 0 ∷ []))
-        ++ joined (λ k. pick b (act 3 k (x k) 1 0 ∷ []) (acts.version_acts f ++ (act 3 0 (x k) 0 0 ∷ []))) m) ≡ begun f n t 0
+        → survey_from 0 no_survey ((line_is.Nodes n ∷ pick b (line_is.Desks t ∷ []) (line_is.Threads t ∷ []))
+        ++ joined (λ k. pick b (line_is.Head (Some k) (x k) ∷ []) (acts.version_acts f ++ (line_is.Head None (x k) ∷ []))) m) ≡ begun f n t 0
     by true q =
         let d = desks_form f q in
-        let a = act 1 n 0 0 0 ∷ act 7 t 0 0 0 ∷ [] in
-        let b = joined (λ k. act 3 k (x k) 1 0 ∷ []) m in
+        let a = line_is.Nodes n ∷ line_is.Desks t ∷ [] in
+        let b = joined (λ k. line_is.Head (Some k) (x k) ∷ []) m in
         let c : m ≤ t % 256 = omega (arith, e, heads.lines_desks (shaped f n t) d) in
         survey_also 0 no_survey a b
         ∙ ap (λ v. survey_from (0 + length a) v b) (desks_begin n t l)
@@ -110,7 +110,7 @@ heads_begin f n t m x h l u e p = by (per_desk f) refl
         ∙ ap (λ f. begun f n t 0) (sym d)
     by false q =
         let one : m ≡ 1 = e ∙ lines_sole (shaped f n t) h q in
-        ap (λ m. survey_from 0 no_survey ((act 1 n 0 0 0 ∷ act 2 t 0 0 0 ∷ []) ++ joined (λ k. acts.version_acts f ++ (act 3 0 (x k) 0 0 ∷ [])) m)) one
+        ap (λ m. survey_from 0 no_survey ((line_is.Nodes n ∷ line_is.Threads t ∷ []) ++ joined (λ k. acts.version_acts f ++ (line_is.Head None (x k) ∷ [])) m)) one
         ∙ sole_begins f n t (x 0) h q l (p 0)
 
 module _ (s : List ℕ) (bs : num.Bytes s) (h : accepted (schedule_answer s) ≡ true) where
@@ -160,7 +160,7 @@ module _ (s : List ℕ) (bs : num.Bytes s) (h : accepted (schedule_answer s) ≡
       ∙ ap (λ v. survey_from (k + length (joined (acts.node_acts s) m)) v (acts.node_acts s m)) (nodes_say k m (omega arith))
       ∙ node_says (k + length (joined (acts.node_acts s) m)) m (omega arith)
 
-  one_event : (k u d : ℕ) (a b c : ℕ) → u + d ≤ 65535 → survey_from k (surveys u) (act 5 a b c d ∷ []) ≡ surveys (u + d)
+  one_event : (k u d : ℕ) (a b c : ℕ) → u + d ≤ 65535 → survey_from k (surveys u) (line_is.Events a b c d ∷ []) ≡ surveys (u + d)
   unfolding survey_from surveyed behind_nodes events_said index_said
   one_event k u d a b c h = rw (le-ltb (top_of F) 0 (omega arith), le-leb (u + d) 65535 h)
 
@@ -168,7 +168,7 @@ module _ (s : List ℕ) (bs : num.Bytes s) (h : accepted (schedule_answer s) ≡
   unfolding survey_from
   none_says k v = refl
 
-  pub leads : (j : ℕ) → follows s j ≡ false → acts.event_acts s j ≡ act 5 (event_in s j).kind (event_in s j).number (event_in s j).item (run_end s j - j) ∷ []
+  pub leads : (j : ℕ) → follows s j ≡ false → acts.event_acts s j ≡ line_is.Events (event_in s j).kind (event_in s j).number (event_in s j).item (run_end s j - j) ∷ []
   leads j e = rw e
 
   pub joins : (j : ℕ) → follows s j ≡ true → acts.event_acts s j ≡ []
@@ -200,7 +200,7 @@ module _ (s : List ℕ) (bs : num.Bytes s) (h : accepted (schedule_answer s) ≡
       ∙ ap (λ v. survey_from (k + length (joined (acts.event_acts s) m)) v (acts.event_acts s m)) (events_say k m (omega arith))
       ∙ event_says (k + length (joined (acts.event_acts s) m)) m (omega arith)
 
-  last_says : (k : ℕ) → survey_from k (surveys (count_in s)) (act 0 0 0 0 0 ∷ []) ≡ surveys (count_in s)
+  last_says : (k : ℕ) → survey_from k (surveys (count_in s)) (line_is.Nothing ∷ []) ≡ surveys (count_in s)
   unfolding survey_from surveyed
   last_says k = refl
 
@@ -211,7 +211,7 @@ module _ (s : List ℕ) (bs : num.Bytes s) (h : accepted (schedule_answer s) ≡
       let a = acts.open_acts s ++ joined (acts.head_acts s) (heads_in s) in
       let b = joined (acts.node_acts s) (nodes_in s) in
       let c = joined (acts.event_acts s) (count_in s) in
-      let z = act 0 0 0 0 0 ∷ [] in
+      let z = line_is.Nothing ∷ [] in
       ap (survey_from 0 no_survey) (acts.words_acts s bs heads_few few taken.count)
       ∙ survey_also 0 no_survey (a ++ b ++ c) z
       ∙ ap (λ v. survey_from (0 + length (a ++ b ++ c)) v z)

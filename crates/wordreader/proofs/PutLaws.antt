@@ -25,10 +25,12 @@ use Rattle.codec.proofs.Laws as image
 use Rattle.codec.proofs.ReadWrite as again
 use Rattle.codec.proofs.Shapes as shapes
 use Rattle.printing.proofs.Written as written
+use Rattle.std.specs.Prelude.{Option}
 use Rattle.spelling.specs.declared.Act.{Act}
+use Rattle.spelling.specs.declared.Act.TheVariants as line_is
 use Rattle.spelling.specs.declared.Survey.{Survey}
 use Rattle.spelling.specs.Layout.{said_shape, head_start, node_start, events_start, size_of, rest_of, head_of, head_said, node_said, event_said}
-use Rattle.spelling.specs.Reading.{blank_file, times, put_by, reach_by, put_all}
+use Rattle.spelling.specs.Reading.{blank_file, times, line_named, put_by, reach_by, put_all}
 
 pub event_over : (b : List ℕ) (at x y z : ℕ) → over (set (set b at x) (at + 1) y) (at + 2) (le4 z) ≡ over b at (x ∷ y ∷ le4 z)
 unfolding over
@@ -112,20 +114,20 @@ pub times_none : (b : List ℕ) (at : ℕ) (l : List ℕ) → b ≡ over b at (t
 unfolding over times joined
 times_none b at l = refl
 
-pub length_times : (d : ℕ) (a : Act) → length (times d (event_said a)) ≡ d * 6
+pub length_times : (d e n v : ℕ) → length (times d (event_said e n v)) ≡ d * 6
 unfolding times
-length_times d a = tabs.length_joined (λ i. event_said a) 6 d (λ i. refl)
+length_times d e n v = tabs.length_joined (λ i. event_said e n v) 6 d (λ i. refl)
 
 times_suc : (i : ℕ) (l : List ℕ) → times (suc i) l ≡ times i l ++ l
 unfolding times joined
 times_suc i l = refl
 
-pub times_next : (b : List ℕ) (at i : ℕ) (a : Act)
-    → over (over b at (times i (event_said a))) (at + i * 6) (event_said a) ≡ over b at (times (i + 1) (event_said a))
-times_next b at i a =
-    ap (λ n. over (over b at (times i (event_said a))) (at + n) (event_said a)) (sym (length_times i a))
-    ∙ tabs.over_append b at (times i (event_said a)) (event_said a)
-    ∙ ap (over b at) (sym (times_suc i (event_said a)) ∙ ap (λ n. times n (event_said a)) (sym (add-one i)))
+pub times_next : (b : List ℕ) (at i e n v : ℕ)
+    → over (over b at (times i (event_said e n v))) (at + i * 6) (event_said e n v) ≡ over b at (times (i + 1) (event_said e n v))
+times_next b at i e n v =
+    ap (λ m. over (over b at (times i (event_said e n v))) (at + m) (event_said e n v)) (sym (length_times i e n v))
+    ∙ tabs.over_append b at (times i (event_said e n v)) (event_said e n v)
+    ∙ ap (over b at) (sym (times_suc i (event_said e n v)) ∙ ap (λ m. times m (event_said e n v)) (sym (add-one i)))
 
 -- ---- zeros
 
@@ -146,59 +148,6 @@ unfolding blank_file
 blank_over b v h =
     ap₂ (λ k n. over (over b 0 (head_of v)) k (replicate n 0)) (sym (length_head v h) ∙ sym (zero-add (length (head_of v)))) (rest_is v)
     ∙ tabs.over_append b 0 (head_of v) (replicate (rest_of v) 0)
-
--- ---- what a line puts
-
-module _ (g : Shape) (z : ℕ) (x : List ℕ) (p : ℕ) (a : Act) where
-  pub put_head : a.tag ≡ 3 → a.a < head_lines g → put_by g z x p a ≡ over x (head_start g.form a.a) (head_said g.form a)
-  unfolding put_by
-  put_head k h = rw (eq-eqb a.tag 3 k, lt-ltb a.a (head_lines g) h)
-
-  pub put_no_head : a.tag ≡ 3 → head_lines g ≤ a.a → put_by g z x p a ≡ x
-  unfolding put_by
-  put_no_head k h = rw (eq-eqb a.tag 3 k, le-ltb a.a (head_lines g) h)
-
-  pub put_node : a.tag ≡ 4 → a.a < g.n → put_by g z x p a ≡ over x (node_start g a.a) (node_said g.form a)
-  unfolding put_by
-  put_node k h = rw (ne_eqb a.tag 3 (λ q. omega arith), eq-eqb a.tag 4 k, lt-ltb a.a g.n h)
-
-  pub put_no_node : a.tag ≡ 4 → g.n ≤ a.a → put_by g z x p a ≡ x
-  unfolding put_by
-  put_no_node k h = rw (ne_eqb a.tag 3 (λ q. omega arith), eq-eqb a.tag 4 k, le-ltb a.a g.n h)
-
-  -- neither goes by the events
-  pub put_any_head : a.tag ≡ 3 → put_by g 0 x 0 a ≡ put_by g z x p a
-  unfolding put_by
-  put_any_head k = rw (eq-eqb a.tag 3 k)
-
-  pub put_any_node : a.tag ≡ 4 → put_by g 0 x 0 a ≡ put_by g z x p a
-  unfolding put_by
-  put_any_node k = rw (ne_eqb a.tag 3 (λ q. omega arith), eq-eqb a.tag 4 k)
-
-  pub put_events : a.tag ≡ 5 → p + a.d * 6 ≤ z → put_by g z x p a ≡ over x p (times a.d (event_said a))
-  unfolding put_by
-  put_events k h = rw (ne_eqb a.tag 3 (λ q. omega arith), ne_eqb a.tag 4 (λ q. omega arith), eq-eqb a.tag 5 k, le-leb (p + a.d * 6) z h)
-
-  pub put_no_events : a.tag ≡ 5 → z < p + a.d * 6 → put_by g z x p a ≡ x
-  unfolding put_by
-  put_no_events k h = rw (ne_eqb a.tag 3 (λ q. omega arith), ne_eqb a.tag 4 (λ q. omega arith), eq-eqb a.tag 5 k, lt-leb (p + a.d * 6) z h)
-
-  pub put_nothing : (a.tag ≡ 3 → ⊥) → (a.tag ≡ 4 → ⊥) → (a.tag ≡ 5 → ⊥) → put_by g z x p a ≡ x
-  unfolding put_by
-  put_nothing j k h = rw (ne_eqb a.tag 3 j, ne_eqb a.tag 4 k, ne_eqb a.tag 5 h)
-
-module _ (z p : ℕ) (a : Act) where
-  pub reach_stays : (a.tag ≡ 5 → ⊥) → reach_by z p a ≡ p
-  unfolding reach_by
-  reach_stays k = rw (ne_eqb a.tag 5 k)
-
-  pub reach_more : a.tag ≡ 5 → p + a.d * 6 ≤ z → reach_by z p a ≡ p + a.d * 6
-  unfolding reach_by
-  reach_more k h = rw (eq-eqb a.tag 5 k, le-leb (p + a.d * 6) z h)
-
-  pub reach_full : a.tag ≡ 5 → z < p + a.d * 6 → reach_by z p a ≡ p
-  unfolding reach_by
-  reach_full k h = rw (eq-eqb a.tag 5 k, lt-leb (p + a.d * 6) z h)
 
 -- ---- a file in the front of a longer buffer
 
@@ -224,57 +173,64 @@ pub record Puts (g : Shape) (z p : ℕ) (a : Act) : Type 0 where
   pub within : place + length bytes ≤ z
   pub puts : (x : List ℕ) → put_by g z x p a ≡ over x place bytes
 
-module _ (g : Shape) (z : ℕ) (k : known g.form ≡ true) (l : events_start g ≤ z) (p : ℕ) (a : Act) where
-  none : ((x : List ℕ) → put_by g z x p a ≡ x) → Puts g z p a
+module _ (g : Shape) (z : ℕ) (k : known g.form ≡ true) (l : events_start g ≤ z) (p : ℕ) where
+  none : (a : Act) → ((x : List ℕ) → put_by g z x p a ≡ x) → Puts g z p a
   unfolding over
-  none h = record { place = 0; bytes = []; within = omega arith; puts = h }
+  none a h = record { place = 0; bytes = []; within = omega arith; puts = h }
 
-  heads : a.tag ≡ 3 → Dec (a.a < head_lines g) → Puts g z p a
-  heads e (yes h) = record {
-    place = head_start g.form a.a;
-    bytes = head_said g.form a;
-    within = omega (arith, length_le (width_of g.form) a.b, head_within g a.a h, nodes_behind g);
-    puts = λ x. put_head g z x p a e h;
+  heads : (i : Option ℕ) (y : ℕ) → Dec (line_named i < head_lines g) → Puts g z p (line_is.Head i y)
+  unfolding put_by
+  heads i y (yes h) = record {
+    place = head_start g.form (line_named i);
+    bytes = head_said g.form y;
+    within = omega (arith, length_le (width_of g.form) y, head_within g (line_named i) h, nodes_behind g);
+    puts = λ x. rw (lt-ltb (line_named i) (head_lines g) h);
   }
-  heads e (no h) = none (λ x. put_no_head g z x p a e (omega arith))
+  heads i y (no h) = none (line_is.Head i y) (λ x. rw (le-ltb (line_named i) (head_lines g) (omega arith)))
 
-  nodes : a.tag ≡ 4 → Dec (a.a < g.n) → Puts g z p a
-  nodes e (yes h) =
-      let v : Content = record { linked = a.b % 256; index = a.c; item = a.d % 4294967296 } in
+  nodes : (i m y v : ℕ) → Dec (i < g.n) → Puts g z p (line_is.Node i m y v)
+  unfolding put_by
+  nodes i m y v (yes h) =
+      let c : Content = record { linked = m % 256; index = y; item = v % 4294967296 } in
       record {
-        place = node_start g a.a;
-        bytes = node_said g.form a;
-        within = omega (arith, image.node_length g.form v k, node_within g a.a h);
-        puts = λ x. put_node g z x p a e h;
+        place = node_start g i;
+        bytes = node_said g.form m y v;
+        within = omega (arith, image.node_length g.form c k, node_within g i h);
+        puts = λ x. rw (lt-ltb i g.n h);
       }
-  nodes e (no h) = none (λ x. put_no_node g z x p a e (omega arith))
+  nodes i m y v (no h) = none (line_is.Node i m y v) (λ x. rw (le-ltb i g.n (omega arith)))
 
-  events : a.tag ≡ 5 → Dec (z < p + a.d * 6) → Puts g z p a
-  events e (yes h) = none (λ x. put_no_events g z x p a e h)
-  events e (no h) = record {
+  events : (e n v d : ℕ) → Dec (z < p + d * 6) → Puts g z p (line_is.Events e n v d)
+  unfolding put_by
+  events e n v d (yes h) = none (line_is.Events e n v d) (λ x. rw (lt-leb (p + d * 6) z h))
+  events e n v d (no h) = record {
     place = p;
-    bytes = times a.d (event_said a);
-    within = omega (arith, length_times a.d a);
-    puts = λ x. put_events g z x p a e (omega arith);
+    bytes = times d (event_said e n v);
+    within = omega (arith, length_times d e n v);
+    puts = λ x. rw (le-leb (p + d * 6) z (omega arith));
   }
 
-  put_is : Puts g z p a
-  put_is = by (ℕ_discrete a.tag 3) (ℕ_discrete a.tag 4) (ℕ_discrete a.tag 5)
-    where
-      by : Dec (a.tag ≡ 3) → Dec (a.tag ≡ 4) → Dec (a.tag ≡ 5) → Puts g z p a
-      by (yes e) d c = heads e (dec_lt a.a (head_lines g))
-      by (no n) (yes e) c = nodes e (dec_lt a.a g.n)
-      by (no n) (no m) (yes e) = events e (dec_lt z (p + a.d * 6))
-      by (no n) (no m) (no o) = none (λ x. put_nothing g z x p a n m o)
+  put_is : (a : Act) → Puts g z p a
+  unfolding put_by
+  put_is (line_is.Head i y) = heads i y (dec_lt (line_named i) (head_lines g))
+  put_is (line_is.Node i m y v) = nodes i m y v (dec_lt i g.n)
+  put_is (line_is.Events e n v d) = events e n v d (dec_lt z (p + d * 6))
+  put_is line_is.Nothing = none line_is.Nothing (λ x. refl)
+  put_is (line_is.Nodes x) = none (line_is.Nodes x) (λ x. refl)
+  put_is (line_is.Threads x) = none (line_is.Threads x) (λ x. refl)
+  put_is (line_is.Version x) = none (line_is.Version x) (λ x. refl)
+  put_is (line_is.Desks x) = none (line_is.Desks x) (λ x. refl)
+  put_is line_is.Unknown = none line_is.Unknown (λ x. refl)
+  put_is line_is.TooLarge = none line_is.TooLarge (λ x. refl)
 
-  length_put : (x : List ℕ) → length (put_by g z x p a) ≡ length x
-  length_put x = ap length (put_is.puts x) ∙ tabs.length_over x put_is.place put_is.bytes
+  length_put : (a : Act) (x : List ℕ) → length (put_by g z x p a) ≡ length x
+  length_put a x = ap length ((put_is a).puts x) ∙ tabs.length_over x (put_is a).place (put_is a).bytes
 
-  put_front : (b x : List ℕ) → length x ≡ z → z ≤ length b → put_by g z (over b 0 x) p a ≡ over b 0 (put_by g z x p a)
-  put_front b x e h =
-      put_is.puts (over b 0 x)
-      ∙ front_over b put_is.bytes x put_is.place (omega arith) (omega (arith, put_is.within))
-      ∙ ap (over b 0) (sym (put_is.puts x))
+  put_front : (a : Act) (b x : List ℕ) → length x ≡ z → z ≤ length b → put_by g z (over b 0 x) p a ≡ over b 0 (put_by g z x p a)
+  put_front a b x e h =
+      (put_is a).puts (over b 0 x)
+      ∙ front_over b (put_is a).bytes x (put_is a).place (omega arith) (omega (arith, (put_is a).within))
+      ∙ ap (over b 0) (sym ((put_is a).puts x))
 
 module _ (b : List ℕ) (g : Shape) (z : ℕ) (k : known g.form ≡ true) (m : events_start g ≤ z) (h : z ≤ length b) where
   pub all_front : (x : List ℕ) (p : ℕ) (l : List Act) → length x ≡ z → put_all g z (over b 0 x) p l ≡ over b 0 (put_all g z x p l)

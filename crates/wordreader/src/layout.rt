@@ -7,7 +7,7 @@ ghost use Rattle.spelling.specs.Layout.{said_shape, head_start, node_start, head
 
 use codec::{put_content, put_word};
 use image::{Content, Shape};
-use spelling::{Act, Survey};
+use spelling::Survey;
 
 // An event.
 pub const EVENT: usize = 6;
@@ -48,25 +48,25 @@ pub fn node_start(g: Shape, i: usize) -> usize
     }
 }
 
-pub fn put_node_at(b: &mut [u8], form: u8, at: usize, a: Act)
+pub fn put_node_at(b: &mut [u8], form: u8, at: usize, linked: u64, index: u64, item: u64)
     requires { (known form ≡ true) × (at + node_size form ≤ length b.old) }
-    ensures { b.new ≡ over b.old at (node_said form a) }
+    ensures { b.new ≡ over b.old at (node_said form linked index item) }
 {
     let v = Content {
-        index: a.c,
-        item: (a.d % 4294967296) as u32,
-        linked: (a.b % 256) as u8,
+        index,
+        item: (item % 4294967296) as u32,
+        linked: (linked % 256) as u8,
     };
     put_content(b, form, at, v);
 }
 
-pub fn put_event_at(b: &mut [u8], at: usize, a: Act)
+pub fn put_event_at(b: &mut [u8], at: usize, kind: u64, number: u64, item: u64)
     requires { at + 6 ≤ length b.old }
-    ensures { b.new ≡ over b.old at (event_said a) }
+    ensures { b.new ≡ over b.old at (event_said kind number item) }
 {
-    b[at] = (a.a % 256) as u8;
-    b[at + 1] = (a.b % 256) as u8;
-    put_word(b, at + 2, a.c);
+    b[at] = (kind % 256) as u8;
+    b[at + 1] = (number % 256) as u8;
+    put_word(b, at + 2, item);
 }
 
 // Three letters and a version.

@@ -1,7 +1,7 @@
 // What a line says.
 ghost use Rattle.std.specs.Prelude.{◌≡◌, ◌<◌, ◌≤◌};
 ghost use Rattle.spelling.specs.Words.{value_of};
-ghost use Rattle.spelling.specs.Lines.{act, grade, worse, graded, key_in, shape_of, said_by, said};
+ghost use Rattle.spelling.specs.Lines.{grade, worse, graded, key_in, shape_of, said_by, said};
 
 use crate::words::end_word;
 use spelling::{Act, Grade, Line, Word};
@@ -68,15 +68,9 @@ fn graded_act(g: Grade, a: Act) -> Act
 {
     match g {
         Grade::Fits => a,
-        Grade::Large => an_act(9, 0, 0, 0, 0),
-        Grade::Strange => an_act(8, 0, 0, 0, 0),
+        Grade::Large => Act::TooLarge,
+        Grade::Strange => Act::Unknown,
     }
-}
-
-fn an_act(tag: u8, a: u64, b: u64, c: u64, d: u64) -> Act
-    ensures { result ≡ act tag a b c d }
-{
-    Act { tag, a, b, c, d }
 }
 
 #[tactic(auto, unfolding(spelling::specs::Lines::key_in))]
@@ -121,39 +115,39 @@ fn said_by(shape: u64, u: Word, v: Word, w: Word, x: Word, y: Word) -> Act
 {
     let (a, b, c, d) = (value_of(u), value_of(v), value_of(w), value_of(x));
     match shape {
-        0 => an_act(0, 0, 0, 0, 0),
-        NODES => graded_act(grade_of(v, WIDE), an_act(1, b, 0, 0, 0)),
-        THREADS => graded_act(grade_of(v, BYTE), an_act(2, b, 0, 0, 0)),
-        HEAD => graded_act(grade_of(v, WIDE), an_act(3, 0, b, 0, 0)),
+        0 => Act::Nothing,
+        NODES => graded_act(grade_of(v, WIDE), Act::Nodes(b)),
+        THREADS => graded_act(grade_of(v, BYTE), Act::Threads(b)),
+        HEAD => graded_act(grade_of(v, WIDE), Act::Head(None, b)),
         NODE => {
             let g = worse_of(grade_of(v, WIDE), grade_of(w, BYTE));
             let h = worse_of(grade_of(x, WIDE), grade_of(y, WORD));
-            graded_act(worse_of(g, h), an_act(4, b, c, d, value_of(y)))
+            graded_act(worse_of(g, h), Act::Node(b, c, d, value_of(y)))
         }
         ENQUEUE => {
             let g = worse_of(grade_of(u, BYTE), grade_of(w, WORD));
-            graded_act(g, an_act(5, 1, a, c, 1))
+            graded_act(g, Act::Events(1, a, c, 1))
         }
-        DEQUEUE => graded_act(grade_of(u, BYTE), an_act(5, 2, a, 0, 1)),
-        STEP => graded_act(grade_of(u, BYTE), an_act(5, 3, a, 0, 1)),
+        DEQUEUE => graded_act(grade_of(u, BYTE), Act::Events(2, a, 0, 1)),
+        STEP => graded_act(grade_of(u, BYTE), Act::Events(3, a, 0, 1)),
         STEPS => {
             let g = worse_of(grade_of(u, BYTE), grade_of(w, WIDE));
-            graded_act(g, an_act(5, 3, a, 0, c))
+            graded_act(g, Act::Events(3, a, 0, c))
         }
-        WRITE_BACK => graded_act(grade_of(v, BYTE), an_act(5, 4, b, 0, 1)),
-        CRASH => an_act(5, 5, 0, 0, 1),
+        WRITE_BACK => graded_act(grade_of(v, BYTE), Act::Events(4, b, 0, 1)),
+        CRASH => Act::Events(5, 0, 0, 1),
         EVENT => {
             let g = worse_of(grade_of(w, BYTE), grade_of(x, WORD));
             let h = worse_of(grade_of(v, BYTE), g);
-            graded_act(h, an_act(5, b, c, d, 1))
+            graded_act(h, Act::Events(b, c, d, 1))
         }
-        VERSION => graded_act(grade_of(v, WIDE), an_act(6, b, 0, 0, 0)),
-        DESKS => graded_act(grade_of(v, BYTE), an_act(7, b, 0, 0, 0)),
+        VERSION => graded_act(grade_of(v, WIDE), Act::Version(b)),
+        DESKS => graded_act(grade_of(v, BYTE), Act::Desks(b)),
         HEAD_OF_DESK => {
             let g = worse_of(grade_of(v, WIDE), grade_of(w, WIDE));
-            graded_act(g, an_act(3, b, c, 1, 0))
+            graded_act(g, Act::Head(Some(b), c))
         }
-        _ => an_act(8, 0, 0, 0, 0),
+        _ => Act::Unknown,
     }
 }
 

@@ -3,7 +3,7 @@ ghost use Rattle.std.specs.Prelude.{◌≡◌, ◌<◌, ltb};
 ghost use Rattle.spelling.specs.Lines.{acts_of};
 ghost use Rattle.lists.specs.Find.{pick};
 ghost use Rattle.spelling.specs.declared.Misread.TheVariants.{Large};
-ghost use Rattle.spelling.specs.Reading.{no_survey, faulted, with_index, version_form, head_named, index_said, nodes_said, version_said, desks_said, threads_said, heads_said, events_said, behind_nodes, surveyed, survey_of, last_from};
+ghost use Rattle.spelling.specs.Reading.{no_survey, faulted, with_index, version_form, head_at, index_said, nodes_said, version_said, desks_said, threads_said, heads_said, events_said, behind_nodes, surveyed, survey_of, last_from};
 ghost use Rattle.wordreader.specs.Turns.{line_next, number_next, survey_next};
 
 use crate::layout::shape_said;
@@ -59,9 +59,8 @@ fn version_form(x: u64) -> Option<u8>
 fn index_said(a: Act) -> u64
     ensures { result ≡ index_said a }
 {
-    match a.tag {
-        3 => a.b,
-        4 => a.c,
+    match a {
+        Act::Head(_, index) | Act::Node(_, _, index, _) => index,
         _ => 0,
     }
 }
@@ -133,26 +132,25 @@ fn index_at(v: Survey) -> Survey
     Survey { settled: true, ..v }
 }
 
-// Whether `head` names one of several head lines.
-#[tactic(auto, unfolding(spelling::specs::Reading::head_named, image::specs::Form::per_desk))]
-fn head_named(form: u8) -> u64
-    ensures { result ≡ head_named form }
+// An index of head line k.
+fn head_at(i: u64, v: Survey, k: u64) -> Survey
+    ensures { result ≡ head_at i v k }
 {
-    if form == 4 { 1 } else { 0 }
-}
-
-#[tactic(auto, unfolding(spelling::specs::Reading::heads_said))]
-fn heads_said(i: u64, v: Survey, a: Act) -> Survey
-    ensures { result ≡ heads_said i v a }
-{
-    if a.c != head_named(v.form) {
-        return fault_at(v, Misread::Strange(i));
-    }
-    let count = head_lines(shape_said(v)) as u64;
-    if count <= a.a {
+    if head_lines(shape_said(v)) as u64 <= k {
         return fault_at(v, Misread::Large(i));
     }
     index_at(v)
+}
+
+#[tactic(auto, unfolding(spelling::specs::Reading::heads_said, spelling::specs::Reading::head_named, image::specs::Form::per_desk))]
+fn heads_said(i: u64, v: Survey, named: Option<u64>) -> Survey
+    ensures { result ≡ heads_said i v named }
+{
+    match named {
+        Some(k) if v.form == 4 => head_at(i, v, k),
+        None if v.form != 4 => head_at(i, v, 0),
+        _ => fault_at(v, Misread::Strange(i)),
+    }
 }
 
 fn nodes_index(i: u64, v: Survey, x: u64) -> Survey
@@ -179,14 +177,16 @@ fn events_said(i: u64, v: Survey, x: u64) -> Survey
 fn behind_nodes(i: u64, v: Survey, a: Act) -> Survey
     ensures { result ≡ behind_nodes i v a }
 {
-    match a.tag {
-        2 => threads_said(i, v, a.a),
-        3 => heads_said(i, v, a),
-        4 => nodes_index(i, v, a.a),
-        5 => events_said(i, v, a.d),
-        6 => version_said(i, v, a.a),
-        7 => desks_said(i, v, a.a),
-        _ => fault_at(v, Misread::Strange(i)),
+    match a {
+        Act::Threads(x) => threads_said(i, v, x),
+        Act::Head(named, _) => heads_said(i, v, named),
+        Act::Node(n, _, _, _) => nodes_index(i, v, n),
+        Act::Events(_, _, _, times) => events_said(i, v, times),
+        Act::Version(x) => version_said(i, v, x),
+        Act::Desks(x) => desks_said(i, v, x),
+        Act::Nothing | Act::Nodes(_) | Act::Unknown | Act::TooLarge => {
+            fault_at(v, Misread::Strange(i))
+        }
     }
 }
 
@@ -195,22 +195,17 @@ fn behind_nodes(i: u64, v: Survey, a: Act) -> Survey
 pub fn survey_act(i: u64, v: Survey, a: Act) -> Survey
     ensures { result ≡ surveyed i v a }
 {
-    if v.fault.is_some() || a.tag == 0 {
+    if v.fault.is_some() {
         return v;
     }
-    if a.tag == 9 {
-        return fault_at(v, Misread::Large(i));
+    match a {
+        Act::Nothing => v,
+        Act::TooLarge => fault_at(v, Misread::Large(i)),
+        _ if top_of(v.form) < index_said(a) => fault_at(v, Misread::Large(i)),
+        Act::Nodes(x) => nodes_said(i, v, x),
+        _ if v.begun => behind_nodes(i, v, a),
+        _ => fault_at(v, Misread::Strange(i)),
     }
-    if top_of(v.form) < index_said(a) {
-        return fault_at(v, Misread::Large(i));
-    }
-    if a.tag == 1 {
-        return nodes_said(i, v, a.a);
-    }
-    if v.begun {
-        return behind_nodes(i, v, a);
-    }
-    fault_at(v, Misread::Strange(i))
 }
 
 #[tactic(auto, unfolding(crate::specs::Turns::line_next))]

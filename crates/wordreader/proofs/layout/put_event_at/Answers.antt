@@ -12,4 +12,4 @@ pub put_word-requires : goal.put_word-requires
 put_word-requires c = simp length-set (omega arith)
 
 pub returns : goal.returns
-returns c = c.put_word.ensures ∙ puts.event_over c.args.b.now c.args.at (c.args.a.a % 256) (c.args.a.b % 256) c.args.a.c
+returns c = c.put_word.ensures ∙ puts.event_over c.args.b.now c.args.at (c.args.kind % 256) (c.args.number % 256) c.args.item

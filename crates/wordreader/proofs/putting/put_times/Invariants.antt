@@ -5,4 +5,4 @@ use Rattle.spelling.specs.Reading.{times}
 use Rattle.wordreader.proofs.putting.put_times.Given as goal
 
 abbrev pub invariant-loop-i : goal.invariant-loop-i
-invariant-loop-i l = l.b ≡ over l.initial.b l.at (times l.i (event_said l.a))
+invariant-loop-i l = l.b ≡ over l.initial.b l.at (times l.i (event_said l.kind l.number l.item))
