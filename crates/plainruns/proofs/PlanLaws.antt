@@ -78,6 +78,13 @@ module _ (s : List ℕ) (h : accepted (page_answer s) ≡ true) (i : ℕ) (m mac
   pub coming_next : eqb e.kind 5 ≡ false → Coming s (i + 1) o.machine machine at
   coming_next k = subst (λ (x : ℕ). Coming s x o.machine machine at) (sym (add-one i)) (coming_suc false k)
 
+  -- either, where the two ways join
+  pub coming_after : (b : Bool) → eqb e.kind 5 ≡ b → (x : Machine) (y : ℕ) → x ≡ pick b o.machine machine → y ≡ pick b (i + 1) at → Coming s (i + 1) o.machine x y
+  coming_after true k x y p q =
+      subst (λ (z : Machine). Coming s (i + 1) o.machine z y) (sym p) (subst (λ (n : ℕ). Coming s (i + 1) o.machine o.machine n) (sym q) (coming_start k))
+  coming_after false k x y p q =
+      subst (λ (z : Machine). Coming s (i + 1) o.machine z y) (sym p) (subst (λ (n : ℕ). Coming s (i + 1) o.machine machine n) (sym q) (coming_next k))
+
 pub coming_range : (s : List ℕ) → Bytes s → accepted (page_answer s) ≡ true → (i : ℕ) (m machine : Machine) (at : ℕ) → Coming s i m machine at → in_range m ≡ true
 coming_range s y h i m machine at c = ap in_range c.now ∙ bench_range s y h i c.within
 

@@ -9,7 +9,7 @@ pub mod turns;
 use machine::Machine;
 
 // The machine at the last start, the number of the first event since, and how many there are.
-#[derive(Clone, Copy)]
+#[derive(Clone, Copy, Debug, PartialEq, Eq)]
 pub struct Plan {
     pub machine: Machine,
     pub at: usize,

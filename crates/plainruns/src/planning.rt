@@ -24,16 +24,14 @@ pub fn plan_of(s: &[u8], d: Schedule) -> Plan
     let mut m = machine::start::start(g, d.t);
     let mut machine = m;
     let mut at = 0;
-    let mut i = 0;
-    while i < count {
+    for i in 0..count {
         let e = codec::event_at(s, z, i);
         let out = events::act(i as u32, m, e);
-        let next = out.machine;
-        m = next;
-        i += 1;
-        if e.kind == 5 {
+        m = out.machine;
+        let crash = e.kind == 5;
+        if crash {
             machine = m;
-            at = i;
+            at = i + 1;
         }
     }
     Plan {

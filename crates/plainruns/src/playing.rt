@@ -18,8 +18,7 @@ fn moved(m: Machine, k: usize) -> Machine
     requires { Ready m k }
     ensures { result ≡ (deeds.stepped m k (stage m k)).machine }
 {
-    let o = steps::one_step(m, k);
-    o.machine
+    steps::one_step(m, k).machine
 }
 
 // Line j written back, clean or not.
@@ -32,8 +31,7 @@ fn written_back(m: Machine, j: u8) -> Machine
         n: m.n,
         t: m.t,
     };
-    let l = line_at(z, j);
-    persist_line(m, l)
+    persist_line(m, line_at(z, j))
 }
 
 // One event.
@@ -41,13 +39,12 @@ fn play(m: Machine, e: Event) -> Machine
     requires { Playable m e }
     ensures { result ≡ played m e }
 {
-    let kind = e.kind;
-    match kind {
+    match e.kind {
         1 => steps::begin(m, e.number as usize, Machine::A1, e.item),
         2 => steps::begin(m, e.number as usize, Machine::D1, 0),
         3 => moved(m, e.number as usize),
         4 => written_back(m, e.number),
-        0 | 5..=255 => m,
+        _ => m,
     }
 }
 
@@ -57,15 +54,10 @@ fn back(m: Machine, picks: [u8; 6], n: usize, r: u8) -> Machine
     ensures { result ≡ backed picks r m n }
 {
     let mut x = m;
-    let mut j = 0;
-    while j < n {
-        if picks[j] != r + 1 {
-            j += 1;
-            continue;
+    for j in 0..n {
+        if picks[j] == r + 1 {
+            x = written_back(x, j as u8);
         }
-        let y = written_back(x, j as u8);
-        x = y;
-        j += 1;
     }
     x
 }
@@ -82,13 +74,9 @@ pub fn run_picked(s: &[u8], p: Plan, picks: [u8; 6], n: usize) -> Machine
         t: start.t,
     };
     let mut m = back(start, picks, n, 0);
-    let mut i = 0;
-    while i < p.since {
+    for i in 0..p.since {
         let e = codec::event_at(s, z, i + p.at);
-        let x = play(m, e);
-        i += 1;
-        let y = back(x, picks, n, i as u8);
-        m = y;
+        m = back(play(m, e), picks, n, i as u8 + 1);
     }
     m
 }

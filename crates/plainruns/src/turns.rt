@@ -2,10 +2,11 @@
 ghost use Rattle.std.specs.Prelude.{◌≡◌, ◌<◌, ◌≤◌, ◌^◌};
 ghost use Rattle.plainruns.specs.Turns.{no_picks, turn_in};
 
+#[tactic(auto, unfolding(crate::specs::Turns::no_picks))]
 fn no_picks() -> [u8; 6]
     ensures { result ≡ no_picks }
 {
-    [0u8; 6]
+    [0; 6]
 }
 
 // Run k of the `runs` there are with `base` picks a line and n lines: line 0 turns slowest.
@@ -16,12 +17,10 @@ pub fn turn_of(base: u32, n: usize, runs: u32, k: u32) -> [u8; 6]
     let mut picks = no_picks();
     let mut w = runs;
     let mut x = k;
-    let mut j = 0;
-    while j < n {
-        w = w / base;
+    for j in 0..n {
+        w /= base;
         picks[j] = (x / w) as u8;
-        x = x % w;
-        j += 1;
+        x %= w;
     }
     picks
 }

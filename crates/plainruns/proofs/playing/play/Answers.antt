@@ -1,19 +1,20 @@
-use Prim.Native.Nat.{ℕ, ◌≤◌}
-use mathlib.Core.Path.{◌≡◌, ap}
+use Prim.Native.Nat.{ℕ, zero, suc, ◌+◌, ◌≤◌}
+use mathlib.Core.Path.{◌≡◌, refl}
 use mathlib.Core.Logic.{◌≢◌}
 use native.Mathlib.Omega.{arith}
-use native.Mathlib.Decide.{ℕ_discrete}
 use lib.ListN.{get_or-eq_default}
 use Rattle.machine.specs.Event.{deeds, deed_of, unknown, crashes}
 use Rattle.plainruns.proofs.playing.play.Goals as goal
 
 -- no crash, and no known kind: nothing is done
-none : (k : ℕ) → 5 ≤ k → deed_of k ≢ crashes → deed_of k ≡ unknown
-none k h ne = by (ℕ_discrete k 5)
-  where
-    by : Dec (k ≡ 5) → deed_of k ≡ unknown
-    by (yes e) = absurd (ne (ap deed_of e))
-    by (no e) = let h : 6 ≤ k = omega arith in get_or-eq_default deeds unknown h
+none : (k : ℕ) → (k ≡ 1 → ⊥) → (k ≡ 2 → ⊥) → (k ≡ 3 → ⊥) → (k ≡ 4 → ⊥) → deed_of k ≢ crashes → deed_of k ≡ unknown
+none zero a b d e ne = refl
+none (suc zero) a b d e ne = absurd (a refl)
+none (suc (suc zero)) a b d e ne = absurd (b refl)
+none (suc (suc (suc zero))) a b d e ne = absurd (d refl)
+none (suc (suc (suc (suc zero)))) a b d e ne = absurd (e refl)
+none (suc (suc (suc (suc (suc zero))))) a b d e ne = absurd (ne refl)
+none (suc (suc (suc (suc (suc (suc k)))))) a b d e ne = let h : 6 ≤ suc (suc (suc (suc (suc (suc k))))) = omega arith in get_or-eq_default deeds unknown h
 
 pub begin-requires : goal.begin-requires
 begin-requires c = c.requires.enqueue c.in-1.is
@@ -39,8 +40,5 @@ returns-in-3 c = rw c.in-3.is c.moved.ensures
 pub returns-in-4 : goal.returns-in-4
 returns-in-4 c = rw c.in-4.is c.written_back.ensures
 
-pub returns-in-0 : goal.returns-in-0
-returns-in-0 c = rw c.in-0.in-0-own.keys5
-
-pub returns-in-0-2 : goal.returns-in-0-2
-returns-in-0-2 c = rw (none c.args.e.kind (omega arith) c.requires.free)
+pub returns-in_default : goal.returns-in_default
+returns-in_default c = rw (none c.args.e.kind (λ k. omega arith) (λ k. omega arith) (λ k. omega arith) (λ k. omega arith) c.requires.free)
