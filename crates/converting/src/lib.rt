@@ -15,7 +15,8 @@ use codec::{check_alone, form_in, image_in, put_image};
 pub use desks::{export_desks, import_desks};
 use image::{fitting_of, size_of};
 
-// From one form with one head line to another, into the buffer's first bytes, or nothing.
+// From one form with one head line to another, into the buffer's first bytes, or nothing. Both conversions are this one; the two forms
+// are numbers, since const parameters in their place would be no plainer.
 fn convert(s: &[u8], b: &mut [u8], from: u8, to: u8) -> Answer
     requires { (known to ≡ true) × (per_desk to ≡ false) }
     ensures answers { result ≡ convert_answer from to s.now (length b.old) }

@@ -1,18 +1,18 @@
 -- Laws of `cleared`: what it keeps of an image, and which nodes are recovered or have twins then. Assumes nothing.
-use Prim.Native.Nat.{ℕ, zero, suc, ◌+◌, ◌≤◌, ◌<◌}
+use Prim.Native.Nat.{ℕ, ◌+◌, ◌≤◌, ◌<◌}
 use mathlib.Core.Path.{◌≡◌, refl, sym, ap, ap₂, ◌∙◌}
-use mathlib.Core.Bool.{Bool, true, false, not}
+use mathlib.Core.Bool.{Bool, true, false}
 use mathlib.Core.List.{List, ◌++◌}
 use native.Mathlib.Omega.{arith}
 use native.Mathlib.Nat.{zero-add}
-use lib.ListN.{length, get_or, take, drop, take-append-drop}
+use lib.ListN.{length, get_or, drop, take-append-drop}
 use lib.Seq.{drop_at}
 use lib.Dec.{eqb, ltb}
-use borrow.Author.Tests.{ltb-true, ltb-false, lt-ltb, le-ltb}
-use Rattle.lists.specs.Find.{pick, both, least, any}
+use borrow.Author.Tests.{ltb-true, ltb-false}
+use Rattle.lists.specs.Find.{least}
 use Rattle.lists.specs.Tab.{tab, front}
 use Rattle.lists.proofs.BoolLaws.{no_way, false_true, both_true, both_of}
-use Rattle.lists.proofs.FindLaws.{least_none, least_clear, least_le, any_none, any_clear}
+use Rattle.lists.proofs.FindLaws.{least_none, least_clear, any_none, any_clear}
 use Rattle.lists.proofs.TabLaws as tabs
 use Rattle.image.specs.Layout.{content_at, no_content}
 use Rattle.image.specs.Recovered.{head_of, recovered, recovered_at, twins, has_twin}

@@ -1,14 +1,13 @@
 -- The mended image is accepted; an accepted image comes back the same; what is listed is what changed. Assumes nothing.
-use Prim.Native.Nat.{ℕ, zero, suc, ◌+◌, ◌≤◌, ◌<◌}
-use mathlib.Core.Path.{◌≡◌, refl, sym, ap, ap₂, ◌∙◌}
+use Prim.Native.Nat.{ℕ, zero, suc, ◌≤◌, ◌<◌}
+use mathlib.Core.Path.{◌≡◌, refl, sym, ap, ◌∙◌}
 use mathlib.Core.Bool.{Bool, true, false, not}
-use mathlib.Core.List.{List}
 use native.Mathlib.Omega.{arith}
 use lib.ListN.{length, drop}
 use lib.Dec.{eqb, ltb}
 use borrow.Author.Tests.{eqb-true, eqb-false, ltb-true, ltb-false, eq-eqb, ne_eqb, le-ltb, not-false, not-true}
-use Rattle.lists.specs.Find.{pick, both, least}
-use Rattle.lists.proofs.BoolLaws.{no_way, false_true, both_true, both_of}
+use Rattle.lists.specs.Find.{pick, least}
+use Rattle.lists.proofs.BoolLaws.{false_true, both_true, both_of}
 use Rattle.lists.proofs.FindLaws.{least_clear, least_found, least_le}
 use Rattle.answer.specs.Answers.{check, accepted, Taken, Linked, Twin, NoDummy}
 use Rattle.image.specs.Layout.{content_at}

@@ -1,15 +1,15 @@
 -- THE MENDER ON BYTES, for every image that passes 1, 2, 3, 1, in every form: the mended image is accepted; an accepted one comes back the
 -- same with an empty list; only the linked bytes of the listed nodes differ; mending twice is mending once.
-use Prim.Native.Nat.{ℕ, zero, suc, ◌+◌, ◌-◌, ◌*◌, ◌^◌, ◌≤◌, ◌<◌}
+use Prim.Native.Nat.{ℕ, zero, suc, ◌+◌, ◌-◌, ◌*◌, ◌≤◌, ◌<◌}
 use mathlib.Core.Path.{◌≡◌, refl, sym, ap, ap₂, subst, ◌∙◌}
 use mathlib.Core.Bool.{Bool, true, false, not}
-use mathlib.Core.List.{List, [], ◌∷◌, ◌++◌}
+use mathlib.Core.List.{List, [], ◌∷◌}
 use native.Mathlib.Omega.{arith}
 use native.Mathlib.Decide.{dec_lt}
 use native.Mathlib.Numerals.{add-one}
 use native.Mathlib.Nat.{add-zero}
-use borrow.Author.Tests.{eqb-true, eq-eqb, ne_eqb, not-true, not-false}
-use lib.ListN.{length, get_or, take, drop, get_or-append}
+use borrow.Author.Tests.{eq-eqb, ne_eqb}
+use lib.ListN.{length, get_or, drop, get_or-append}
 use lib.Seq.{drop_at, take_all}
 use lib.Dec.{eqb}
 use Rattle.lists.specs.Find.{pick}
@@ -17,15 +17,15 @@ use Rattle.lists.specs.Tab.{tab, front}
 use Rattle.lists.proofs.BoolLaws.{no_way}
 use Rattle.lists.proofs.TabLaws as tabs
 use Rattle.answer.specs.Answers.{accepted, Taken}
-use Rattle.image.specs.Bytes.{at_w, at4}
+use Rattle.image.specs.Bytes.{at_w}
 use Rattle.image.specs.Form.{known, width_of, heads_at, node_size, head_lines, own_threads, header_size, node_place, image_size}
 use Rattle.image.specs.declared.Shape.{Shape}
-use Rattle.image.specs.Layout.{no_content, no_contents, content_at, head_in, heads_of, image_shape, shape_in, node_bytes, head_bytes, body_bytes, read_content, read_nodes, read_heads, image_in, image_bytes}
+use Rattle.image.specs.Layout.{no_contents, content_at, head_in, heads_of, image_shape, shape_in, node_bytes, head_bytes, read_content, read_nodes, read_heads, image_in, image_bytes}
 use Rattle.image.specs.Refusals.{sound, whole, alone_answer, write_answer, read_image, Read}
 use Rattle.image.specs.declared.Content.{Content}
 use Rattle.image.specs.declared.Image.{Image}
 use Rattle.image.proofs.ByteLaws as num
-use Rattle.image.proofs.FormLaws.{size_is, place_next, place_zero, place_within}
+use Rattle.image.proofs.FormLaws.{size_is, place_next, place_zero}
 use Rattle.image.proofs.HeadLaws.{heads_at_lem, heads_same}
 use Rattle.image.proofs.SoundLaws.{Fitting, whole_sound, is_fitting}
 use Rattle.image.proofs.ShapeLaws.{Shaped, agree_own, nodes_range}

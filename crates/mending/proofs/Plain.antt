@@ -1,12 +1,11 @@
 -- The reasons can be read off the image as it came: the first two steps hide no recovered node that a later one asks for. Assumes nothing.
-use Prim.Native.Nat.{ℕ, zero, suc, ◌+◌, ◌≤◌, ◌<◌}
+use Prim.Native.Nat.{ℕ, zero, suc, ◌≤◌, ◌<◌}
 use mathlib.Core.Path.{◌≡◌, refl, sym, ap, ap₂, ◌∙◌}
 use mathlib.Core.Bool.{Bool, true, false, not}
 use native.Mathlib.Omega.{arith}
 use lib.Dec.{eqb, ltb}
-use borrow.Author.Tests.{eqb-true, eqb-false, ltb-true, eq-eqb, ne_eqb, not-false}
-use Rattle.lists.specs.Find.{pick, both, least}
-use Rattle.lists.proofs.BoolLaws.{no_way, false_true, both_true, both_of}
+use borrow.Author.Tests.{eqb-true, eqb-false, ltb-true, eq-eqb, ne_eqb}
+use Rattle.lists.specs.Find.{pick, both}
 use Rattle.lists.proofs.FindLaws.{least_clear, any_same}
 use Rattle.image.specs.Layout.{content_at}
 use Rattle.image.specs.Recovered.{head_of, recovered, recovered_at, twins, has_twin, first_twin, dummy_of}

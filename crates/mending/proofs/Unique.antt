@@ -8,7 +8,7 @@ use contract.Lifetimes.{Lfts}
 use denote.MutBor.{MutBor}
 use denote.Ref.{Bor}
 use lib.ListN.{length}
-use Rattle.std.specs.Prelude.{Result, Ok, Err}
+use Rattle.std.specs.Prelude.{Result, Err}
 use Rattle.answer.specs.declared.Refusal.{Refusal}
 use Rattle.answer.specs.Answers.{accepted}
 use Rattle.answer.proofs.Results.{came_back, given_refused}

@@ -1,5 +1,5 @@
 -- Mending an image: whose linked flags are cleared, in 02's three steps, and the reason for each.
-use Rattle.std.specs.Prelude.{ℕ, zero, suc, Bool, true, false, not, List, [], ◌∷◌, eqb, ltb}
+use Rattle.std.specs.Prelude.{ℕ, zero, suc, Bool, not, List, [], ◌∷◌, eqb, ltb}
 use Rattle.lists.specs.Find.{pick, both, count}
 use Rattle.lists.specs.Tab.{joined, front}
 use Rattle.image.specs.Layout.{content_at}

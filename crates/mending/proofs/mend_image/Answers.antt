@@ -13,7 +13,6 @@ use Rattle.image.specs.declared.Image.{Image}
 use Rattle.codec.specs.Parts.{Lies}
 use Rattle.codec.proofs.Accepted as acc
 use Rattle.codec.proofs.Lying.{nodes_in_lem}
-use Rattle.mending.specs.Mended.{changed, changes}
 use Rattle.mending.specs.Bytes.{mend_bytes, mend_list, mend_changed, mend_shape}
 use Rattle.mending.proofs.Answers as laws
 use Rattle.mending.proofs.Turns as turns

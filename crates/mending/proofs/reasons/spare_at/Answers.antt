@@ -1,8 +1,7 @@
 use borrow.Author.Tests.{eq-eqb, ne_eqb}
 use Rattle.image.specs.Layout.{image_in}
 use Rattle.image.specs.Recovered.{dummy_of}
-use mathlib.Core.Path.{refl, ◌∙◌, ap}
-use Rattle.mending.specs.Mended.{largest_at}
+use mathlib.Core.Path.{refl}
 use Rattle.mending.proofs.Turns as turns
 use Rattle.mending.proofs.reasons.spare_at.Goals as goal
 use Rattle.mending.proofs.reasons.spare_at.Goals.{then-first_twin-n-via-then-first_twin-n, then-first_twin-n-via-else-first_twin-n+then-dummy-n}
