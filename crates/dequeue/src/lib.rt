@@ -19,33 +19,21 @@ use machine::{Acted, Line, Machine, Thread, Touch};
 fn by_form(form: u8, a: u8, b: u8) -> u8
     ensures { result ≡ pick (per_desk form) a b }
 {
-    if form == 4 {
-        return a;
-    }
-    b
+    if form == 4 { a } else { b }
 }
 
 // Head's index as D1 reads it: where each desk has an index line, Head has none.
 fn index_read(form: u8, x: u64) -> u64
     ensures { result ≡ pick (per_desk form) 0 x }
 {
-    if form == 4 {
-        return 0;
-    }
-    x
+    if form == 4 { 0 } else { x }
 }
 
 // Whether Head, the node h with index x, is still what the thread read: the number alone where each desk has an index line.
 fn is_still(form: u8, h: u8, x: u64, th: Thread) -> bool
     ensures { result ≡ both (eqb h th.head) (pick (per_desk form) true (eqb x th.index)) }
 {
-    if h != th.head {
-        return false;
-    }
-    if form == 4 {
-        return true;
-    }
-    x == th.index
+    h == th.head && (form == 4 || x == th.index)
 }
 
 // D1 Head read, number and index.
@@ -58,13 +46,7 @@ pub fn d1(m: Machine, k: usize) -> Acted
     th.head = r.head;
     let x = index_read(r.form, r.heads[0]);
     th.index = x;
-    th.step = Machine::D2;
-    r.threads[k] = th;
-    Acted {
-        answer: Ok(Reply::Taken),
-        machine: r,
-        touch: Touch::Nothing,
-    }
+    Acted::moving(r, k, th, Machine::D2)
 }
 
 // D2 next of that node read: none goes to D3, or S3, else to D4.
@@ -79,21 +61,9 @@ pub fn d2(m: Machine, k: usize) -> Acted
     th.next = x;
     if x == 255 {
         let s = by_form(r.form, Machine::S3, Machine::D3);
-        th.step = s;
-        r.threads[k] = th;
-        return Acted {
-            answer: Ok(Reply::Taken),
-            machine: r,
-            touch: Touch::Nothing,
-        };
+        return Acted::moving(r, k, th, s);
     }
-    th.step = Machine::D4;
-    r.threads[k] = th;
-    Acted {
-        answer: Ok(Reply::Taken),
-        machine: r,
-        touch: Touch::Nothing,
-    }
+    Acted::moving(r, k, th, Machine::D4)
 }
 
 // The index of node x stored in the thread's own head line, and on to step s.
@@ -104,13 +74,7 @@ fn store_index(m: Machine, k: usize, x: usize, s: u8) -> Acted
     let mut r = m;
     let v = r.nodes[x];
     r.heads[k] = v.index;
-    r.threads[k].step = s;
-    let own = Line::OfHead(k as u8);
-    Acted {
-        answer: Ok(Reply::Taken),
-        machine: r,
-        touch: Touch::Store(own),
-    }
+    Acted::going(r, k, s).touching(Touch::Store(Line::OfHead(k as u8)))
 }
 
 // S3 the index of the node found last.
@@ -130,12 +94,7 @@ pub fn d3(m: Machine, k: usize) -> Acted
     let h = by_form(m.form, k as u8, 0);
     let line = Line::OfHead(h);
     let mut r = flush_line(m, k, line);
-    r.threads[k].step = Machine::F3;
-    Acted {
-        answer: Ok(Reply::Taken),
-        machine: r,
-        touch: Touch::Flush(k as u8, line),
-    }
+    Acted::going(r, k, Machine::F3).touching(Touch::Flush(k as u8, line))
 }
 
 // F3 the fence: what D3 flushed is persisted. Answer Empty.
@@ -164,33 +123,18 @@ pub fn d4(m: Machine, k: usize) -> Acted
     let mut r = m;
     let th = r.threads[k];
     if !is_still(r.form, r.head, r.heads[0], th) {
-        r.threads[k].step = Machine::D1;
-        return Acted {
-            answer: Ok(Reply::Taken),
-            machine: r,
-            touch: Touch::Nothing,
-        };
+        return Acted::going(r, k, Machine::D1);
     }
     if r.form == 4 {
         r.head = th.next;
-        r.threads[k].step = Machine::D5;
-        return Acted {
-            answer: Ok(Reply::Taken),
-            machine: r,
-            touch: Touch::Nothing,
-        };
+        return Acted::going(r, k, Machine::D5);
     }
     let x = th.next as usize;
     let v = r.nodes[x];
     r.head = th.next;
     r.heads[0] = v.index;
-    r.threads[k].step = Machine::D5;
     let line = Line::OfHead(0);
-    Acted {
-        answer: Ok(Reply::Taken),
-        machine: r,
-        touch: Touch::Store(line),
-    }
+    Acted::going(r, k, Machine::D5).touching(Touch::Store(line))
 }
 
 // D5 item of the next node read.
@@ -204,13 +148,7 @@ pub fn d5(m: Machine, k: usize) -> Acted
     let v = r.nodes[x];
     th.item = v.item;
     let s = by_form(r.form, Machine::S6, Machine::D6);
-    th.step = s;
-    r.threads[k] = th;
-    Acted {
-        answer: Ok(Reply::Taken),
-        machine: r,
-        touch: Touch::Nothing,
-    }
+    Acted::moving(r, k, th, s)
 }
 
 // S6 the index of the new dummy.
@@ -230,12 +168,7 @@ pub fn d6(m: Machine, k: usize) -> Acted
     let own = by_form(m.form, k as u8, 0);
     let line = Line::OfHead(own);
     let mut r = flush_line(m, k, line);
-    r.threads[k].step = Machine::F6;
-    Acted {
-        answer: Ok(Reply::Taken),
-        machine: r,
-        touch: Touch::Flush(k as u8, line),
-    }
+    Acted::going(r, k, Machine::F6).touching(Touch::Flush(k as u8, line))
 }
 
 // F6 the fence: what D6 flushed is persisted.
@@ -246,12 +179,7 @@ pub fn f6(m: Machine, k: usize) -> Acted
     let own = by_form(m.form, k as u8, 0);
     let line = Line::OfHead(own);
     let mut r = fence_line(m, k, line);
-    r.threads[k].step = Machine::D7;
-    Acted {
-        answer: Ok(Reply::Taken),
-        machine: r,
-        touch: Touch::Fence(k as u8, line),
-    }
+    Acted::going(r, k, Machine::D7).touching(Touch::Fence(k as u8, line))
 }
 
 // D7 the node this thread held, if any, is retired; the old dummy is now held. Answer the item.
@@ -262,17 +190,9 @@ pub fn d7(m: Machine, k: usize) -> Acted
     let th = m.threads[k];
     if th.held == 255 {
         let rest = leave(m, k, th.head);
-        return Acted {
-            answer: Ok(Reply::Item(th.item)),
-            machine: rest,
-            touch: Touch::Nothing,
-        };
+        return Acted::quiet(Ok(Reply::Item(th.item)), rest);
     }
     let r = retire(m, k, th.held as usize);
     let rest = leave(r, k, th.head);
-    Acted {
-        answer: Ok(Reply::Item(th.item)),
-        machine: rest,
-        touch: Touch::Nothing,
-    }
+    Acted::quiet(Ok(Reply::Item(th.item)), rest)
 }

@@ -20,11 +20,7 @@ pub fn a1(m: Machine, k: usize) -> Acted
     let f = m.free;
     if f == 0 {
         let rest = leave(m, k, th.held);
-        return Acted {
-            answer: Ok(Reply::Full),
-            machine: rest,
-            touch: Touch::Nothing,
-        };
+        return Acted::quiet(Ok(Reply::Full), rest);
     }
     let i = bits::after(f, m.last as u32);
     let taken = bits::without_bit(f, i);
@@ -33,13 +29,7 @@ pub fn a1(m: Machine, k: usize) -> Acted
     r.free = taken;
     r.last = x;
     th.node = x;
-    th.step = Machine::A2;
-    r.threads[k] = th;
-    Acted {
-        answer: Ok(Reply::Taken),
-        machine: r,
-        touch: Touch::Nothing,
-    }
+    Acted::moving(r, k, th, Machine::A2)
 }
 
 // A2 item stored.
@@ -51,13 +41,8 @@ pub fn a2(m: Machine, k: usize) -> Acted
     let th = r.threads[k];
     let i = th.node as usize;
     r.nodes[i].item = th.item;
-    r.threads[k].step = Machine::A3;
     let line = Line::OfNode(th.node);
-    Acted {
-        answer: Ok(Reply::Taken),
-        machine: r,
-        touch: Touch::Store(line),
-    }
+    Acted::going(r, k, Machine::A3).touching(Touch::Store(line))
 }
 
 // A3 next set to none.
@@ -69,12 +54,7 @@ pub fn a3(m: Machine, k: usize) -> Acted
     let th = r.threads[k];
     let i = th.node as usize;
     r.nodes[i].next = 255;
-    r.threads[k].step = Machine::A4;
-    Acted {
-        answer: Ok(Reply::Taken),
-        machine: r,
-        touch: Touch::Nothing,
-    }
+    Acted::going(r, k, Machine::A4)
 }
 
 // A4 linked set to 0.
@@ -86,13 +66,8 @@ pub fn a4(m: Machine, k: usize) -> Acted
     let th = r.threads[k];
     let i = th.node as usize;
     r.nodes[i].linked = 0;
-    r.threads[k].step = Machine::A5;
     let line = Line::OfNode(th.node);
-    Acted {
-        answer: Ok(Reply::Taken),
-        machine: r,
-        touch: Touch::Store(line),
-    }
+    Acted::going(r, k, Machine::A5).touching(Touch::Store(line))
 }
 
 // A5 Tail read as t.
@@ -103,13 +78,7 @@ pub fn a5(m: Machine, k: usize) -> Acted
     let mut r = m;
     let mut th = r.threads[k];
     th.tail = r.tail;
-    th.step = Machine::A6;
-    r.threads[k] = th;
-    Acted {
-        answer: Ok(Reply::Taken),
-        machine: r,
-        touch: Touch::Nothing,
-    }
+    Acted::moving(r, k, th, Machine::A6)
 }
 
 // A6 next of t read: none goes to A7, else to A12.
@@ -122,19 +91,9 @@ pub fn a6(m: Machine, k: usize) -> Acted
     let t = th.tail as usize;
     let x = r.nodes[t].next;
     if x == 255 {
-        r.threads[k].step = Machine::A7;
-        return Acted {
-            answer: Ok(Reply::Taken),
-            machine: r,
-            touch: Touch::Nothing,
-        };
+        return Acted::going(r, k, Machine::A7);
     }
-    r.threads[k].step = Machine::A12;
-    Acted {
-        answer: Ok(Reply::Taken),
-        machine: r,
-        touch: Touch::Nothing,
-    }
+    Acted::going(r, k, Machine::A12)
 }
 
 // A7 index set to t's index + 1; at the form's largest index the node becomes free again, and the answer is Worn out.
@@ -152,20 +111,11 @@ pub fn a7(m: Machine, k: usize) -> Acted
         let f = bits::with_bit(r.free, i as u32);
         r.free = f;
         let rest = leave(r, k, th.held);
-        return Acted {
-            answer: Ok(Reply::WornOut),
-            machine: rest,
-            touch: Touch::Nothing,
-        };
+        return Acted::quiet(Ok(Reply::WornOut), rest);
     }
     r.nodes[i].index = v.index + 1;
-    r.threads[k].step = Machine::A8;
     let line = Line::OfNode(th.node);
-    Acted {
-        answer: Ok(Reply::Taken),
-        machine: r,
-        touch: Touch::Store(line),
-    }
+    Acted::going(r, k, Machine::A8).touching(Touch::Store(line))
 }
 
 // A8 if t's next is none it becomes the new node, go to A9; else to A12.
@@ -179,19 +129,9 @@ pub fn a8(m: Machine, k: usize) -> Acted
     let x = r.nodes[t].next;
     if x == 255 {
         r.nodes[t].next = th.node;
-        r.threads[k].step = Machine::A9;
-        return Acted {
-            answer: Ok(Reply::Taken),
-            machine: r,
-            touch: Touch::Nothing,
-        };
+        return Acted::going(r, k, Machine::A9);
     }
-    r.threads[k].step = Machine::A12;
-    Acted {
-        answer: Ok(Reply::Taken),
-        machine: r,
-        touch: Touch::Nothing,
-    }
+    Acted::going(r, k, Machine::A12)
 }
 
 // A9 linked set to 1.
@@ -203,13 +143,8 @@ pub fn a9(m: Machine, k: usize) -> Acted
     let th = r.threads[k];
     let i = th.node as usize;
     r.nodes[i].linked = 1;
-    r.threads[k].step = Machine::A10;
     let line = Line::OfNode(th.node);
-    Acted {
-        answer: Ok(Reply::Taken),
-        machine: r,
-        touch: Touch::Store(line),
-    }
+    Acted::going(r, k, Machine::A10).touching(Touch::Store(line))
 }
 
 // A10 the node's line is flushed, and on to the fence.
@@ -220,12 +155,7 @@ pub fn a10(m: Machine, k: usize) -> Acted
     let th = m.threads[k];
     let line = Line::OfNode(th.node);
     let mut r = flush_line(m, k, line);
-    r.threads[k].step = Machine::F10;
-    Acted {
-        answer: Ok(Reply::Taken),
-        machine: r,
-        touch: Touch::Flush(k as u8, line),
-    }
+    Acted::going(r, k, Machine::F10).touching(Touch::Flush(k as u8, line))
 }
 
 // F10 the fence: what A10 flushed is persisted.
@@ -236,12 +166,7 @@ pub fn f10(m: Machine, k: usize) -> Acted
     let th = m.threads[k];
     let line = Line::OfNode(th.node);
     let mut r = fence_line(m, k, line);
-    r.threads[k].step = Machine::A11;
-    Acted {
-        answer: Ok(Reply::Taken),
-        machine: r,
-        touch: Touch::Fence(k as u8, line),
-    }
+    Acted::going(r, k, Machine::A11).touching(Touch::Fence(k as u8, line))
 }
 
 // A11 Tail becomes the new node if it is still t. Answer Done.
@@ -254,18 +179,10 @@ pub fn a11(m: Machine, k: usize) -> Acted
     if r.tail == th.tail {
         r.tail = th.node;
         let rest = leave(r, k, th.held);
-        return Acted {
-            answer: Ok(Reply::Done),
-            machine: rest,
-            touch: Touch::Nothing,
-        };
+        return Acted::quiet(Ok(Reply::Done), rest);
     }
     let rest = leave(r, k, th.held);
-    Acted {
-        answer: Ok(Reply::Done),
-        machine: rest,
-        touch: Touch::Nothing,
-    }
+    Acted::quiet(Ok(Reply::Done), rest)
 }
 
 // A12 Tail becomes t's next if it is still t. Back to A5.
@@ -276,19 +193,9 @@ pub fn a12(m: Machine, k: usize) -> Acted
     let mut r = m;
     let th = r.threads[k];
     let t = th.tail as usize;
-    r.threads[k].step = Machine::A5;
     let x = r.nodes[t].next;
     if r.tail == th.tail {
         r.tail = x;
-        return Acted {
-            answer: Ok(Reply::Taken),
-            machine: r,
-            touch: Touch::Nothing,
-        };
     }
-    Acted {
-        answer: Ok(Reply::Taken),
-        machine: r,
-        touch: Touch::Nothing,
-    }
+    Acted::going(r, k, Machine::A5)
 }

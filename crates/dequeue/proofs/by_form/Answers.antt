@@ -6,6 +6,6 @@ pub returns-then-form-eq4 : goal.returns-then-form-eq4
 unfolding per_desk
 returns-then-form-eq4 c = rw (eq-eqb _ _ c.if-form-eq4.true)
 
-pub returns : goal.returns
+pub returns-else-form-eq4 : goal.returns-else-form-eq4
 unfolding per_desk
-returns c = rw (ne_eqb _ _ c.if-form-eq4.false)
+returns-else-form-eq4 c = rw (ne_eqb _ _ c.if-form-eq4.false)

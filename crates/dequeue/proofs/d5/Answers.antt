@@ -1,4 +1,4 @@
 use Rattle.dequeue.proofs.d5.Goals as goal
 
 pub returns : goal.returns
-returns c = rw c.by_form-s.ensures
+returns c = rw (c.moving.ensures, c.by_form-s.ensures)

@@ -5,4 +5,4 @@ pub flush_line-r-requires : goal.flush_line-r-requires
 flush_line-r-requires c = let p = c.requires in (p.0, p.1, own_place _ _ _ c.by_form-own.ensures p.0)
 
 pub returns : goal.returns
-returns c = rw (c.flush_line-r.ensures, c.by_form-own.ensures)
+returns c = rw (c.touching.ensures, c.going.ensures, c.flush_line-r.ensures, c.by_form-own.ensures)

@@ -1,14 +1,12 @@
-use borrow.Author.Tests.{eq-eqb, ne_eqb}
+use Rattle.std.proofs.Common.{arith}
+use Rattle.std.proofs.lemmas.Grind.{common_steps}
 use Rattle.image.specs.Form.{per_desk}
 use Rattle.dequeue.proofs.is_still.Goals as goal
 
-pub returns-then-h-th : goal.returns-then-h-th
-returns-then-h-th c = rw (ne_eqb _ _ c.if-h-th.true)
-
 pub returns-then-form-eq4 : goal.returns-then-form-eq4
 unfolding per_desk
-returns-then-form-eq4 c = rw (eq-eqb _ _ c.if-h-th.false, eq-eqb _ _ c.if-form-eq4.true)
+returns-then-form-eq4 c = grind (arith, common_steps)
 
-pub returns : goal.returns
+pub returns-else-form-eq4 : goal.returns-else-form-eq4
 unfolding per_desk
-returns c = rw (eq-eqb _ _ c.if-h-th.false, ne_eqb _ _ c.if-form-eq4.false)
+returns-else-form-eq4 c = grind (arith, common_steps)

@@ -5,7 +5,7 @@ use mathlib.Core.Path.{◌∙◌}
 use Rattle.enqueue.proofs.a1.Goals as goal
 
 pub returns-then-f-eq0 : goal.returns-then-f-eq0
-returns-then-f-eq0 c = rw (c.leave-rest.ensures, eq-eqb _ _ c.if-f-eq0.true)
+returns-then-f-eq0 c = rw (c.quiet.ensures, c.leave-rest.ensures, eq-eqb _ _ c.if-f-eq0.true)
 
 pub after-i-requires : goal.after-i-requires
 after-i-requires c = let p = c.requires in omega (arith, p.1, p.3)
@@ -20,6 +20,7 @@ pub returns : goal.returns
 returns c =
     let l = c.if-f-eq0.false in
     rw (
+      c.moving.ensures,
       ne_eqb _ _ l,
       c.without_bit-taken.ensures,
       c.after-i.ensures ∙ laws.after_free c.args.m l c.requires.1 c.requires.2 c.requires.3,
