@@ -2,16 +2,16 @@
 use Prim.Native.Nat.{ℕ, zero, suc, ◌+◌, ◌-◌, ◌*◌, ◌<◌, ◌≤◌}
 use mathlib.Core.Path.{◌≡◌, refl, sym, ap, ap₂, subst, ◌∙◌}
 use mathlib.Core.Bool.{Bool, true, false, not}
-use mathlib.Core.List.{List, [], ◌∷◌, ◌++◌}
+use mathlib.Core.List.{List, ◌++◌}
 use native.Mathlib.Omega.{arith}
 use native.Mathlib.Decide.{ℕ_discrete, dec_lt}
-use lib.Dec.{eqb, ltb, leb, eqb_refl}
+use lib.Dec.{eqb, ltb, leb}
 use lib.ListN.{length, get_or, take, drop, replicate, length-drop, length-replicate, get_or-replicate}
 use lib.Seq.{get_or-drop, get_or-append-add}
-use borrow.Author.Tests.{lt-ltb, le-ltb, eq-eqb, ne_eqb, lt-leb, le-leb, not-true, not-false}
-use Rattle.lists.specs.Find.{pick, both, least}
+use borrow.Author.Tests.{lt-ltb, le-ltb, eq-eqb, ne_eqb, lt-leb, le-leb}
+use Rattle.lists.specs.Find.{pick, both}
 use Rattle.lists.specs.Tab.{tab, over, front}
-use Rattle.lists.proofs.BoolLaws.{no_way, yes_of, no_of, both_true}
+use Rattle.lists.proofs.BoolLaws.{no_way, yes_of, no_of}
 use Rattle.lists.proofs.TabLaws as tabs
 use Rattle.std.specs.Prelude.{Result, Ok}
 use Rattle.answer.specs.Answers.{accepted, given, check, Answer, Taken, NoEnding, Room}
@@ -24,27 +24,22 @@ use Rattle.image.specs.Recovered.{head_of, recovered, recovered_at, dummy_of}
 use Rattle.image.specs.Refusals.{read_image}
 use Rattle.image.specs.declared.Content.{Content}
 use Rattle.image.specs.declared.Image.{Image}
-use Rattle.image.specs.declared.Read.{Read}
-use Rattle.image.specs.declared.Shape.{Shape}
 use Rattle.image.proofs.ShapeLaws.{shaped_lines}
-use Rattle.machine.specs.Line.{shape_of}
 use Rattle.machine.specs.Record.{node, blank_node, blank_nodes, zero_node}
-use Rattle.machine.specs.Start.{start_node, queue_of, start_with, start_of, start_answer, start_from}
+use Rattle.machine.specs.Start.{start_node, queue_of, start_with, start_of, start_answer}
 use Rattle.machine.specs.declared.Machine.{Machine}
 use Rattle.machine.specs.declared.Node.{Node}
-use Rattle.machine.specs.declared.Out.{Out}
 use Rattle.schedule.specs.declared.Schedule.{Schedule}
 use Rattle.schedule.specs.Layout.{read_schedule, schedule_in, schedule_answer, schedule_shape, threads_in, count_in, image_part}
-use Rattle.schedule.specs.Run.{Bench, Ran, ran}
 use Rattle.page.specs.Endings.{image_of, ending}
 use Rattle.page.specs.Refusals.{page_answer, ending_count, ending_in, ending_answer, ending_written}
-use Rattle.lawful.specs.Demand3.{Bytes, Recovers}
+use Rattle.lawful.specs.Demand3.{Bytes}
 use Rattle.codec.proofs.Accepted as codec
 use Rattle.pages.proofs.OwnLaws.{size_few}
 use Rattle.filling.proofs.Numbers.{ran_shape}
 use Rattle.tied.proofs.Accepted.{sound_is, dummy_free}
 use Rattle.lawproof.proofs.Lawful3.{page_parts, page_lawful}
-use Rattle.endread.proofs.Bytes.{ending_size, ending_taken, bytes_read, bytes_front}
+use Rattle.endread.proofs.Bytes.{ending_size, bytes_read, bytes_front}
 use Rattle.parcels.specs.Parcel.{node_at, no_parcel, is_linked, parcels_in}
 use Rattle.parcels.specs.Despatch.{handed_out, still_queued, turned_away, taken_alone, group_of, entry_bytes, entries_to, list_bytes, despatch_answer, despatch_count, despatch_written}
 use Rattle.parcels.specs.Started.{end_size, started_from, no_bytes, head_in, queued_in, alone_in, group_in, packed_to, pack_answer, Packed}

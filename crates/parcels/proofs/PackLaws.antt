@@ -1,24 +1,21 @@
 -- The loop over a schedule's events, at the code's terms: the machine and the parcels after each of them.
 use Prim.Native.Nat.{ℕ, zero, suc, ◌+◌, ◌-◌, ◌<◌, ◌≤◌}
 use mathlib.Core.Path.{◌≡◌, refl, sym, ap, ap₂, subst, subst₂, ◌∙◌}
-use mathlib.Core.Bool.{Bool, true, false}
+use mathlib.Core.Bool.{true}
 use mathlib.Core.List.{List, [], ◌∷◌, ◌++◌, map, map-append}
-use mathlib.Core.Logic.{◌⊎◌, inl, inr}
 use native.Mathlib.Omega.{arith}
 use native.Mathlib.Numerals.{add-one}
-use lib.Dec.{ltb}
 use lib.ListN.{length, get_or, take, drop, set, length-set, length-map, length-append, length-drop, length-replicate}
 use lib.Seq.{take-suc-set, take-suc, take_at, take_all, length-take-le, get_or-append-add, get_or-drop}
 use borrow.Author.Tests.{lt-ltb, lt-leb}
-use Rattle.lists.specs.Find.{pick, both}
 use Rattle.lists.specs.Tab.{tab, front}
 use Rattle.lists.proofs.TabLaws as tabs
 use Rattle.std.specs.Prelude.{Result, Ok, Err}
 use Rattle.answer.specs.Answers.{told, accepted, given, Answer, Taken}
 use Rattle.answer.specs.declared.Refusal.{Refusal}
 use Rattle.answer.proofs.Injective.{told_injective}
-use Rattle.machine.specs.Start.{start_of, start_answer, start_from}
-use Rattle.machine.specs.Event.{Deed, unknown, enqueues, dequeues, steps, writes_back, crashes, deeds, deed_of, handed, event_at, event_on}
+use Rattle.machine.specs.Start.{start_from}
+use Rattle.machine.specs.Event.{deed_of, handed, event_on}
 use Rattle.machine.specs.Range.{in_range}
 use Rattle.machine.specs.declared.Machine.{Machine}
 use Rattle.machine.specs.declared.Event.{Event}
@@ -26,7 +23,6 @@ use Rattle.machine.specs.declared.Acted.{Acted}
 use Rattle.machine.specs.declared.Out.{Out}
 use Rattle.schedule.specs.Layout.{schedule_in, schedule_answer, event_in, events_in, count_in}
 use Rattle.schedule.specs.Run.{Bench, Ran, run, ran, opened, bench_at}
-use Rattle.schedule.specs.Running.{bench_to}
 use Rattle.schedule.specs.declared.Schedule.{Schedule}
 use Rattle.page.specs.Refusals.{page_answer}
 use Rattle.lawful.specs.Demand3.{Bytes}
@@ -36,8 +32,8 @@ use Rattle.events.proofs.ByAnswer.{on_in}
 use Rattle.tied.proofs.Schedules as schedules
 use Rattle.lawproof.proofs.Lawful3.{page_parts}
 use Rattle.pageproof.proofs.Events.{Takes, placed}
-use Rattle.pageproof.proofs.Runs.{Accepts, and_after, run_front, run_append, run_first}
-use Rattle.onward.proofs.Come.{Come, reply_in, come_none, come_next, next_machine}
+use Rattle.pageproof.proofs.Runs.{Accepts, run_front, run_append, run_first}
+use Rattle.onward.proofs.Come.{Come, come_none, come_next, next_machine}
 use Rattle.parcels.specs.Parcel.{no_parcel, news_of, moved, fresh, noted, machine_at, acted_at, parcels_to, parcels_in}
 use Rattle.parcels.specs.Started.{no_parcels}
 use Rattle.parcels.proofs.Gives.{start_given, ok_is, no_ok}

@@ -13,7 +13,6 @@ use Rattle.machine.specs.declared.Thread.{Thread}
 use Rattle.machine.specs.declared.Event.{Event}
 use Rattle.machine.specs.declared.Acted.{Acted}
 use Rattle.schedule.specs.Layout.{event_in, count_in}
-use Rattle.schedule.specs.Run.{Bench}
 use Rattle.schedule.specs.Running.{bench_to}
 use Rattle.parcels.specs.declared.News.{News}
 use Rattle.parcels.specs.declared.News.TheVariants.{Nothing, Linked, Answered, Took, Gave}

@@ -1,5 +1,5 @@
 -- The same as the code finds it: the ending is a machine that was started from its image.
-use Rattle.std.specs.Prelude.{Result, ℕ, zero, suc, ◌-◌, ◌*◌, ◌≡◌, Bool, true, false, not, List, [], ◌++◌, length, get_or, replicate, eqb, ltb, leb}
+use Rattle.std.specs.Prelude.{Result, ℕ, zero, suc, ◌-◌, ◌*◌, ◌≡◌, Bool, not, List, [], ◌++◌, length, get_or, replicate, eqb, ltb, leb}
 use Rattle.lists.specs.Find.{pick, both}
 use Rattle.lists.specs.Tab.{over}
 use Rattle.answer.specs.Answers.{check, accepted, given, Answer, Taken, Room}

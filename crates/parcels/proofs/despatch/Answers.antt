@@ -1,15 +1,13 @@
 use Prim.Native.Nat.{ℕ}
 use mathlib.Core.Path.{◌≡◌, sym, ap, ◌∙◌}
-use mathlib.Core.Bool.{true, false}
 use mathlib.Core.List.{List}
 use native.Mathlib.Omega.{arith}
 use lib.ListN.{length}
-use Rattle.answer.specs.Answers.{told, accepted, Answer, given}
+use Rattle.answer.specs.Answers.{told, Answer}
 use Rattle.answer.proofs.Injective.{told_injective}
 use Rattle.answer.proofs.Results.{went_on, came_back, gave_none}
 use Rattle.page.specs.Refusals.{ending_answer, ending_written}
 use Rattle.lawful.specs.Demand3.{Bytes}
-use Rattle.codec.proofs.Accepted as codec
 use Rattle.lawproof.proofs.Lawful3.{page_parts}
 use Rattle.parcels.specs.Despatch.{despatch_count}
 use Rattle.parcels.specs.Started.{no_bytes}

@@ -1,13 +1,11 @@
 use Prim.Native.Nat.{ℕ, ◌<◌, ◌≤◌}
-use mathlib.Core.Path.{◌≡◌, sym, ap, ◌∙◌}
+use mathlib.Core.Path.{◌≡◌, sym, ap}
 use native.Mathlib.Omega.{arith}
 use mathlib.Core.List.{List}
-use lib.ListN.{length}
 use lib.Seq.{length-take-le}
 use Rattle.schedule.specs.Layout.{schedule_in, count_in}
 use Rattle.schedule.specs.declared.Schedule.{Schedule}
 use Rattle.lawful.specs.Demand3.{Bytes}
-use Rattle.parcels.specs.declared.Parcel.{Parcel}
 use Rattle.parcels.proofs.PackLaws as laws
 use Rattle.parcels.proofs.WriteLaws as outs
 use Rattle.parcels.proofs.packing.packed.Goals.{in-1, in-3, in-5, in_default}

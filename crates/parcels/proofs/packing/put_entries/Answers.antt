@@ -1,13 +1,10 @@
-use native.Mathlib.Omega.{arith}
 use mathlib.Core.Path.{refl, ap, ◌∙◌}
 use mathlib.Core.List.{List}
 use Prim.Native.Nat.{ℕ, ◌*◌}
-use lib.ListN.{length, get_or}
+use lib.ListN.{get_or}
 use Rattle.lists.specs.Tab.{over}
-use Rattle.lists.proofs.TabLaws.{length_over}
 use Rattle.parcels.specs.Parcel.{no_parcel}
 use Rattle.parcels.specs.Despatch.{entry_bytes}
-use Rattle.parcels.specs.Started.{packed_to}
 use Rattle.parcels.proofs.WriteLaws as outs
 use Rattle.parcels.proofs.packing.put_entries.Goals as goal
 

@@ -1,8 +1,7 @@
 use native.Mathlib.Omega.{arith}
-use mathlib.Core.Path.{sym, ap, ◌∙◌}
+use mathlib.Core.Path.{ap, ◌∙◌}
 use mathlib.Core.List.{List}
-use Prim.Native.Nat.{ℕ}
-use lib.ListN.{length, get_or, set}
+use lib.ListN.{get_or, set}
 use Rattle.parcels.specs.Parcel.{no_parcel, moved}
 use Rattle.parcels.specs.declared.Parcel.{Parcel}
 use Rattle.parcels.proofs.PackLaws as laws
