@@ -3,24 +3,31 @@ use Prim.Native.Nat.{ℕ}
 use mathlib.Core.Path.{◌≡◌, refl, sym, ap, ◌∙◌}
 use mathlib.Core.Bool.{Bool, true, false}
 use mathlib.Core.List.{List}
+use Rattle.std.specs.Prelude.{Option, Some, None}
 use lib.ListN.{length}
 use lib.Dec.{ltb}
 use Rattle.lists.specs.Find.{pick, both}
 use Rattle.lists.specs.Tab.{over}
 use Rattle.answer.specs.Answers.{told, check, accepted, Answer, Taken, Room}
-use Rattle.answer.proofs.Injective.{told_injective}
-use Rattle.replaying.specs.Replay.{replay_answer, replay_of}
-use Rattle.replaying.specs.declared.Replayed.{Replayed}
-use Rattle.replaying.proofs.First.{answer_is}
+use Rattle.replaying.specs.Replay.{replay_answer, replay_of, Replayed, difference_of, difference_in}
+use Rattle.replaying.specs.declared.Difference.{Difference}
 use Rattle.calls.specs.Probes.{replay_answered, both_bytes, replay_written}
 use Rattle.calls.proofs.Laws as laws
 
--- the call's contract makes its result the definition's
-pub replay_is : (s : List ℕ) (r : Replayed) → told r.answer ≡ told (replay_answer s) → r.differs ≡ (replay_of s).differs → r.event ≡ (replay_of s).event → r.seen ≡ (replay_of s).seen
-    → r.seen_item ≡ (replay_of s).seen_item → r.given ≡ (replay_of s).given → r.given_item ≡ (replay_of s).given_item → r ≡ replay_of s
-replay_is s r a d e o oi g gi =
-    let t = told_injective r.answer (replay_answer s) a ∙ sym (answer_is s) in
-    λ k. record { answer = t k; differs = d k; event = e k; seen = o k; seen_item = oi k; given = g k; given_item = gi k }
+-- what the call gives, by the definition's record
+pub differs_some : (r : Replayed) (o : Option Difference) (d : Difference) → o ≡ difference_in r → o ≡ Some d → (r.differs ≡ true) × (d ≡ difference_of r)
+differs_some r o d e w = by r.differs refl (sym e ∙ w)
+  where
+    by : (b : Bool) → r.differs ≡ b → pick b (Some (difference_of r)) None ≡ Some d → (r.differs ≡ true) × (d ≡ difference_of r)
+    by true h q = (h, cc)
+    by false h q = cc
+
+pub differs_none : (r : Replayed) (o : Option Difference) → o ≡ difference_in r → o ≡ None → r.differs ≡ false
+differs_none r o e w = by r.differs refl (sym e ∙ w)
+  where
+    by : (b : Bool) → r.differs ≡ b → ◌≡◌ {A = Option Difference} (pick b (Some (difference_of r)) None) None → r.differs ≡ false
+    by true h q = cc
+    by false h q = h
 
 module _ (s : List ℕ) where
   abbrev room_for : ℕ → Answer

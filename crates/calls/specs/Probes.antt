@@ -5,8 +5,7 @@ use Rattle.lists.specs.Tab.{over}
 use Rattle.answer.specs.Answers.{told, check, accepted, Answer, Taken, Room}
 use Rattle.image.specs.Bytes.{le4}
 use Rattle.page.specs.Refusals.{and_then}
-use Rattle.replaying.specs.Replay.{replay_answer, replay_of}
-use Rattle.replaying.specs.declared.Replayed.{Replayed}
+use Rattle.replaying.specs.Replay.{Replayed, replay_answer, replay_of}
 use Rattle.calls.specs.Packed.{packed}
 
 -- the file's own refusals; then 17, where the buffer has fewer than ten bytes
