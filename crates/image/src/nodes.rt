@@ -106,12 +106,17 @@ pub fn first_twin<S: Nodes>(s: &S, h: u64) -> usize
     ensures { result ≡ first_twin (S.image s.now) }
 {
     let n = s.count() as usize;
-    for i in 0..n {
-        if has_twin(s, i, h) {
-            return i;
+    let mut found = n;
+    // Document 01 names this form: two loops, left from inside by a label.
+    'pairs: for i in 0..n {
+        for j in 0..i {
+            if are_twins_at(s, i, j, h) {
+                found = i;
+                break 'pairs;
+            }
         }
     }
-    n
+    found
 }
 
 // The lowest-numbered node that is not recovered, and N where every node is.

@@ -174,7 +174,7 @@ pub fn used_by(s: u8) -> Used
             dequeue: true,
             ..NOTHING
         },
-        _ => NOTHING,
+        25..=255 => NOTHING,
     }
 }
 
