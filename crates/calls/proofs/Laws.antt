@@ -100,6 +100,10 @@ module _ (s : List ℕ) (t : ℕ) where
         let p = codec.part_taken t 0 s h in
         rw fit (ap accepted (shape_then t (shape_in s) (whole (image_in s) Taken) p.shape ∙ there.read_whole s y p.clear))
 
+    pub start_taken : num.Bytes s → accepted (image_answer t 0 s) ≡ true → accepted (start_from (image_in s) t).answer ≡ true
+    unfolding start_from
+    start_taken y h = let a = starts y h in rw (a, start_from) a
+
     pub start_machine : num.Bytes s → accepted (image_answer t 0 s) ≡ true → (start_from (image_in s) t).machine ≡ start_of (image_in s) t
     unfolding start_from
     start_machine y h = rw (starts y h, start_from)
