@@ -1,8 +1,9 @@
 use native.Mathlib.Omega.{arith}
-use mathlib.Core.Path.{sym, ap, ◌∙◌}
+use mathlib.Core.Path.{◌≡◌, sym, ap, ◌∙◌}
+use mathlib.Core.Bool.{true, false}
 use Prim.Native.Nat.{◌+◌, ◌*◌, ◌≤◌}
 use lib.ListN.{length}
-use borrow.Author.Tests.{not-true, not-false}
+use borrow.Author.Rules.{rules as all_rules}
 use Rattle.image.specs.Form.{known}
 use Rattle.image.specs.declared.Shape.{Shape}
 use Rattle.spelling.specs.declared.Survey.{Survey}
@@ -22,9 +23,10 @@ returns-in-Some c =
 
 pub returns-then-not-v : goal.returns-then-not-v
 returns-then-not-v c =
+    let unbegun : c.survey_of-s.result.survey.begun ≡ false = search all_rules in
     let t = c.args.t.now in
     let e = c.survey_of-s.ensures.survey in
-    let q = rules.unbegun t (length c.args.b.now) (sym (ap (λ (z : Survey). z.fault) e) ∙ c.in_default.is) (sym (ap (λ (z : Survey). z.begun) e) ∙ not-true _ c.if-not-v.true)
+    let q = rules.unbegun t (length c.args.b.now) (sym (ap (λ (z : Survey). z.fault) e) ∙ c.in_default.is) (sym (ap (λ (z : Survey). z.begun) e) ∙ unbegun)
     ∙ ap Strange (sym c.survey_of-s.ensures.last) in
     let whole = rules.gives_none t c.args.b.now (why.Strange c.survey_of-s.result.last) q in
     record { answers = whole.0; written = whole.1 }
@@ -42,10 +44,11 @@ overflow_add-z c = omega (arith, (rules.known_count c.args.t.now _ c.survey_of-s
 
 pub returns-then-b-z : goal.returns-then-b-z
 returns-then-b-z c =
+    let begun : c.survey_of-s.result.survey.begun ≡ true = search all_rules in
     let t = c.args.t.now in
     let e = c.survey_of-s.ensures.survey in
     let f = c.node_start-from.ensures.start ∙ ap (λ (g : Shape). events_start g) c.shape_said-g.ensures in
-    let q = rules.no_room t (length c.args.b.now) (sym (ap (λ (z : Survey). z.fault) e) ∙ c.in_default.is) (sym (ap (λ (z : Survey). z.begun) e) ∙ not-false _ c.if-not-v.false)
+    let q = rules.no_room t (length c.args.b.now) (sym (ap (λ (z : Survey). z.fault) e) ∙ c.in_default.is) (sym (ap (λ (z : Survey). z.begun) e) ∙ begun)
     (omega (arith, ap size_of e, f, c.if-b-z.true)) in
     let whole = rules.gives_none t c.args.b.now why.Room q in
     record { answers = whole.0; written = whole.1 }
@@ -68,6 +71,7 @@ put_text-requires c =
 
 pub returns : goal.returns
 returns c =
+    let begun : c.survey_of-s.result.survey.begun ≡ true = search all_rules in
     let t = c.args.t.now in
     let s = c.survey_of-s.result.survey in
     let e = c.survey_of-s.ensures.survey in
@@ -76,7 +80,7 @@ returns c =
     let f = c.node_start-from.ensures.start ∙ ap (λ (g : Shape). events_start g) g in
     let l : size_of s ≤ length c.args.b.now = omega (arith, f, c.if-b-z.false) in
     let p = c.put_text.ensures ∙ ap (λ (g : Shape). put_all g (c.node_start-from.result + s.count * 6) c.put_blank.new.b c.node_start-from.result (acts_of t)) g in
-    let q = rules.fits t (length c.args.b.now) (sym (ap (λ (z : Survey). z.fault) e) ∙ c.in_default.is) (sym (ap (λ (z : Survey). z.begun) e) ∙ not-false _ c.if-not-v.false)
+    let q = rules.fits t (length c.args.b.now) (sym (ap (λ (z : Survey). z.fault) e) ∙ c.in_default.is) (sym (ap (λ (z : Survey). z.begun) e) ∙ begun)
     (omega (arith, ap size_of e, l)) in
     let whole = rules.gives_some t c.args.b.now s c.put_text.new.b c.put_blank.new.b e k.0 q l
     c.put_blank.ensures (p ∙ ap (λ f. put_all (said_shape s) (f + s.count * 6) c.put_blank.new.b f (acts_of t)) f) in
