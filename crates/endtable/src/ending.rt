@@ -9,7 +9,7 @@ use answer::{Answer, Refusal, Reply};
 use image::{Content, Image, Shape, head_lines, no_contents, no_heads};
 use machine::Machine;
 
-// The first line with more than 16 contents, and the number of lines where none has.
+// The first line with more than 16 contents, and the number of lines where none has, as the definition crowded_at counts.
 pub fn first_crowded(counts: [u8; 72], lines: usize) -> usize
     requires { lines ≤ 72 }
     ensures { result ≡ crowded_at counts lines }
@@ -22,7 +22,8 @@ pub fn first_crowded(counts: [u8; 72], lines: usize) -> usize
     lines
 }
 
-// How many endings there are; 65,537 stands for any number above 65,536, and the product stops there.
+// How many endings there are; 65,537 stands for any number above 65,536, and the product stops there. The number is that of the definition capped:
+// behind counts_answer an Option would give each caller an arm that cannot be.
 pub fn ending_count(counts: [u8; 72], lines: usize) -> u32
     requires { (lines ≤ 72) × Counted counts lines }
     ensures { result ≡ capped (prod counts lines) }
@@ -54,7 +55,8 @@ pub fn counts_answer(counts: [u8; 72], lines: usize) -> Answer
     Ok(Reply::Taken)
 }
 
-// The choices of the first `left` lines in ending k, written to the front of `picks`. The last line turns fastest.
+// The choices of the first `left` lines in ending k, written to the front of `picks`. The last line turns fastest. A recursion, as its
+// definition digits is.
 fn split(counts: [u8; 72], left: usize, k: u32, picks: [u8; 72]) -> [u8; 72]
     requires { (left ≤ 72) × Counted counts left }
     ensures { result ≡ digits counts left k ++ drop left picks }

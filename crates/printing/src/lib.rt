@@ -61,7 +61,8 @@ fn put_short(b: &mut [u8], at: usize, x: u32) -> usize
     at + 4
 }
 
-// The number x in decimal from `at` on; gives the place behind it. Twenty bytes are room for every number of 64 bits.
+// The number x in decimal from `at` on; gives the place behind it. By hand, since the theorems speak of the bytes that `decimal` gives at a place.
+// Twenty bytes are room for every number of 64 bits.
 // The digits go in groups of four; only a number of more than twelve, which no page has, takes a further turn.
 pub fn put_decimal(b: &mut [u8], at: usize, x: u64) -> usize
     requires { at + length (decimal x) ≤ length b.old }
