@@ -1,4 +1,4 @@
-use Rattle.std.proofs.Common.{◌≤◌, ◌≡◌, ◌×◌, length}
+use Rattle.std.proofs.Common.{◌≤◌}
 use Rattle.many.proofs.print_all.Given as goal
 
 abbrev pub invariant-loop-done : goal.invariant-loop-done
