@@ -6,6 +6,7 @@ ghost use Rattle.endtable.specs.Opened.{opened_row, opened_count};
 ghost use Rattle.endtable.specs.Rows.{blank_row, joined_row, row_of};
 
 use image::Content;
+use machine::Machine;
 
 // A buffer with its length beside it: the library has no heap.
 #[derive(Clone, Copy)]
@@ -28,7 +29,7 @@ impl Row {
     {
         Row {
             count: 0,
-            at: [Content::of_head(0); 16],
+            at: [Content::of_head(0); Machine::CONTENTS],
         }
     }
 
@@ -38,7 +39,7 @@ impl Row {
     {
         Row {
             count: 1,
-            at: [c; 16],
+            at: [c; Machine::CONTENTS],
         }
     }
 

@@ -1,6 +1,7 @@
 -- The page's lines from the table that the code keeps, and the line of a refusal.
-use Rattle.std.specs.Prelude.{ℕ, zero, suc, ◌≤◌, ◌≡◌, true, List, length, ltb}
+use Rattle.std.specs.Prelude.{ℕ, zero, suc, ◌≤◌, ◌≡◌, true, List, length, ltb, Result, Ok, Err}
 use Rattle.lists.specs.Tab.{over}
+use Rattle.answer.specs.declared.Refusal.{Refusal}
 use Rattle.answer.specs.Answers.{told, check, accepted, Answer, Taken, Room}
 use Rattle.image.specs.declared.Content.{Content}
 use Rattle.image.specs.declared.Shape.{Shape}
@@ -19,6 +20,11 @@ table_line t cs z threads events count (suc k) = line_from t cs z k
 -- how many lines the call writes, and how many bytes they are
 abbrev pub lines_said : List ℕ → ℕ → ℕ → Lines
 lines_said s k room = record { lines = lines_taken s k room; bytes = length (lines_bytes s k room) }
+
+-- the answer of a call that gives a value: number and place are its `told`
+abbrev pub answered : {A : Type 0} → Result A Refusal → Answer
+answered (Ok x) = Taken
+answered (Err e) = Err e
 
 -- a buffer with room for the longest line takes line k, where the page is not refused and has that line
 abbrev pub TakesOne : List ℕ → ℕ → ℕ → Answer → Type 0

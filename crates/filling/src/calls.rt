@@ -2,7 +2,7 @@
 ghost use Rattle.std.specs.Prelude.{◌≡◌, length};
 ghost use Rattle.answer.specs.Answers.{given};
 ghost use Rattle.page.specs.Filled.{lines_answer, lines_written};
-ghost use Rattle.filling.specs.Lines.{TakesOne, lines_said, refusal_answer, refusal_bytes, refusal_written};
+ghost use Rattle.filling.specs.Lines.{TakesOne, answered, lines_said, refusal_answer, refusal_bytes, refusal_written};
 
 use crate::table::fill;
 use answer::Refusal;
@@ -25,7 +25,7 @@ pub struct Lines {
 pub fn page_lines(s: &[u8], k: u64, b: &mut [u8]) -> Result<Lines, Refusal>
     ensures answers { result ≡ given (lines_answer s.now k (length b.old)) (lines_said s.now k (length b.old)) }
     ensures written { b.new ≡ lines_written s.now k b.old }
-    ensures onward { TakesOne s.now k (length b.old) (lines_answer s.now k (length b.old)) }
+    ensures onward { TakesOne s.now k (length b.old) (answered result) }
 {
     let r = page_of(s)?;
     let z = r.machine.shape();

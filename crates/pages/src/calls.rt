@@ -36,7 +36,8 @@ pub fn ending_of(s: &[u8], k: u64, b: &mut [u8]) -> Answer
         return Err(Refusal::Room);
     }
     let picks = ending_picks(counts, z, k as u32);
-    let g = ending_image(table_of(r.rows), picks, z);
+    let t = table_of(r.rows);
+    let g = ending_image(t, picks, z);
     codec::put_image(b, g);
     Ok(Reply::Taken)
 }

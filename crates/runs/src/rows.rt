@@ -13,7 +13,7 @@ use machine::Machine;
 fn no_rows() -> [Row; 72]
     ensures { result ≡ no_rows }
 {
-    [Row::blank(); 72]
+    [Row::blank(); Machine::LINES]
 }
 
 // How many lines there are.

@@ -104,4 +104,4 @@ returns c =
     let l = lined.lined_goes (page_line s) c.args.b.now c.args.k (suc (ending_count s)) (length c.args.b.now) _ c.fill-w.result.next c.fill-w.result.place x c.if-w-from.false in
     let e = answers.lines_taken_lem s (numbers.page_yes s r p) c.args.k (length c.args.b.now) h l in
     let q = answers.said_some s c.args.k c.args.b.now _ c.fill-w.result.next c.fill-w.result.place e x in
-    record { answers = q.0; written = q.1; onward = λ h l m. ap told (sym e) }
+    record { answers = q.0; written = q.1; onward = λ h l m. refl }

@@ -86,5 +86,5 @@ returns c =
     let lt : c.args.k < ending_count s = omega (arith, n, c.if-count-k.false) in
     let z = rw c.shape-z.ensures at c.size_of.ensures in
     let e = laws.ending_taken s r p c.args.k (length c.args.b.now) lt (omega (arith, c.if-b-size_of.false, z)) in
-    let g : c.ending_image-g.result ≡ ending_in s c.args.k = rw (c.table_of.ensures, c.ending_picks-picks.ensures, c.shape-z.ensures, c.counts_of-counts.ensures) at c.ending_image-g.ensures ∙ laws.page_ending s r p c.args.k lt in
+    let g : c.ending_image-g.result ≡ ending_in s c.args.k = rw (c.table_of-t.ensures, c.ending_picks-picks.ensures, c.shape-z.ensures, c.counts_of-counts.ensures) at c.ending_image-g.ensures ∙ laws.page_ending s r p c.args.k lt in
     record { answers = ap told e; bytes = c.put_image.ensures ∙ ap (λ (x : Image). over c.args.b.now 0 (image_bytes x)) g ∙ laws.ending_bytes s c.args.k c.args.b.now (ap accepted (sym e)) }
