@@ -5,9 +5,9 @@
 use answer::{Answer, Refusal};
 use image::{Content, Image, Shape, no_contents, no_heads};
 
-mod outcomes;
 pub mod blank;
 pub mod lines;
+mod outcomes;
 pub mod queue;
 pub mod start;
 

@@ -21,7 +21,10 @@ pub fn node_of(m: &Machine, i: u8) -> Option<Node> {
 }
 
 pub fn thread_of(m: &Machine, k: u8) -> Thread {
-    m.threads.get(k as usize).copied().unwrap_or(Thread::idle(Machine::NONE))
+    m.threads
+        .get(k as usize)
+        .copied()
+        .unwrap_or(Thread::idle(Machine::NONE))
 }
 
 // The cached content of a line.
