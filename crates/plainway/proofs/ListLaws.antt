@@ -1,16 +1,15 @@
 -- Images one after the other in a buffer.
 use Prim.Native.Nat.{ℕ, zero, suc, ◌+◌, ◌*◌, ◌≤◌, ◌<◌}
 use mathlib.Core.Path.{◌≡◌, refl, sym, ap, ap₂, subst, ◌∙◌}
-use mathlib.Core.Bool.{Bool, true, false, not}
+use mathlib.Core.Bool.{Bool, true, false}
 use mathlib.Core.List.{List, [], ◌∷◌, ◌++◌, append_assoc, append-nil}
 use mathlib.Core.Logic.{◌⊎◌, inl, inr}
 use native.Mathlib.Omega.{arith}
 use native.Mathlib.Nat.{zero-mul, suc-mul, mul-le-mul_right}
 use lib.ListN.{length, get_or, take, drop, length-append, take-append-drop, get_or-append}
-use lib.Seq.{get_or-append-add, get_or-take, take_at, ext_get_or, take-append_seam}
+use lib.Seq.{get_or-append-add, get_or-take, ext_get_or, take-append_seam}
 use lib.Dec.{eqb}
 use borrow.Author.Tests.{eqb-true, eq-eqb}
-use Rattle.lists.specs.Find.{any}
 use Rattle.lists.specs.Tab.{over}
 use Rattle.lists.proofs.FindLaws as find
 use Rattle.lists.proofs.TabLaws as tabs

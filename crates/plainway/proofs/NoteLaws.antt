@@ -1,28 +1,27 @@
 -- The images of the runs, one run more, and what a buffer holds of them.
-use Prim.Native.Nat.{ℕ, zero, suc, ◌+◌, ◌-◌, ◌*◌, ◌^◌, ◌≤◌, ◌<◌}
+use Prim.Native.Nat.{ℕ, suc, ◌+◌, ◌-◌, ◌*◌, ◌≤◌, ◌<◌}
 use mathlib.Core.Path.{◌≡◌, refl, sym, ap, ap₂, subst, ◌∙◌}
-use mathlib.Core.Bool.{Bool, true, false}
+use mathlib.Core.Bool.{true, false}
 use mathlib.Core.List.{List, [], ◌∷◌, ◌++◌, map, append-nil}
 use mathlib.Core.Logic.{◌⊎◌, inl, inr}
 use native.Mathlib.Omega.{arith}
 use native.Mathlib.Numerals.{add-one}
 use native.Mathlib.Nat.{suc-mul, mul-le-mul_right}
-use lib.ListN.{length, get_or, take, drop, replicate, length-append, length-map, length-replicate, get_or-append}
+use lib.ListN.{length, get_or, take, length-append, length-map}
 use lib.Seq.{get_or-take, length-take-le, ext_get_or}
-use Rattle.lists.specs.Tab.{tab, joined, front, over}
-use Rattle.lists.proofs.BoolLaws.{no_way, false_true}
+use Rattle.lists.specs.Tab.{tab, over}
+use Rattle.lists.proofs.BoolLaws.{no_way}
 use Rattle.lists.proofs.TabLaws as tabs
 use Rattle.answer.specs.Answers.{accepted, Taken}
-use Rattle.image.specs.Form.{known, head_lines, own_threads, image_size}
-use Rattle.image.specs.Layout.{no_content, no_contents, content_at, node_bytes, image_shape, head_in, heads_of, head_bytes, body_bytes, image_bytes}
+use Rattle.image.specs.Form.{image_size}
+use Rattle.image.specs.Layout.{no_content, no_contents, content_at, node_bytes, head_in, body_bytes, image_bytes}
 use Rattle.image.specs.Refusals.{read_image, Read}
 use Rattle.image.specs.declared.Image.{Image}
-use Rattle.image.specs.declared.Shape.{Shape}
 use Rattle.image.proofs.HeadLaws.{heads_at_lem}
-use Rattle.machine.specs.Line.{shape_of, line_count, persisted}
+use Rattle.machine.specs.Line.{shape_of, persisted}
 use Rattle.machine.specs.declared.Machine.{Machine}
 use Rattle.schedule.specs.Layout.{schedule_shape}
-use Rattle.schedule.specs.Run.{Bench, Ran, ran}
+use Rattle.schedule.specs.Run.{ran}
 use Rattle.page.specs.Endings.{choices, image_of, endings, ending}
 use Rattle.page.specs.Refusals.{table_in, page_answer, ending_count, ending_in}
 use Rattle.lawful.specs.Demand3.{Bytes, image_left}
@@ -30,10 +29,10 @@ use Rattle.moments.proofs.Blocks as blocks
 use Rattle.moments.proofs.Choices.{choices_length}
 use Rattle.moments.proofs.Distinct.{no_image}
 use Rattle.codec.proofs.ReadWrite.{heads_there}
-use Rattle.pages.proofs.OwnLaws.{owned, own_lines, own_size}
+use Rattle.pages.proofs.OwnLaws.{owned, own_lines}
 use Rattle.pageproof.proofs.Holds.{page_ran}
-use Rattle.plainproof.specs.Once.{joins_by, gathered_by, once, choices_of, same_image}
-use Rattle.plainproof.specs.Plain.{start_machine, since_count, event_since, lines_in, picks_of, picks_in, played_at, left_by, plain_images}
+use Rattle.plainproof.specs.Once.{joins_by, gathered_by, once, same_image}
+use Rattle.plainproof.specs.Plain.{start_machine, since_count, event_since, lines_in, picks_in, played_at, left_by, plain_images}
 use Rattle.plainproof.proofs.OnceLaws as laws
 use Rattle.plainproof.proofs.OnceLaws.{In}
 use Rattle.plainproof.proofs.Images.{image_tells}

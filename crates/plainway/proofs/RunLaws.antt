@@ -1,10 +1,9 @@
 -- One run noted, at the code's terms.
-use Prim.Native.Nat.{ℕ, suc, ◌+◌, ◌*◌, ◌^◌, ◌≤◌, ◌<◌}
-use mathlib.Core.Path.{◌≡◌, refl, sym, ap, ap₂, subst, ◌∙◌}
+use Prim.Native.Nat.{ℕ, ◌+◌, ◌*◌, ◌≤◌, ◌<◌}
+use mathlib.Core.Path.{◌≡◌, sym, ap, ap₂, subst, ◌∙◌}
 use mathlib.Core.Bool.{true, false}
-use mathlib.Core.List.{List, ◌++◌}
+use mathlib.Core.List.{List}
 use native.Mathlib.Omega.{arith}
-use native.Mathlib.Nat.{suc-mul, mul-le-mul_right}
 use lib.ListN.{length, get_or, take, drop, get_or-append}
 use Rattle.lists.specs.Tab.{over}
 use Rattle.lists.proofs.TabLaws as tabs
@@ -16,17 +15,17 @@ use Rattle.image.specs.declared.Shape.{Shape}
 use Rattle.machine.specs.Line.{shape_of, persisted}
 use Rattle.machine.specs.declared.Machine.{Machine}
 use Rattle.schedule.specs.Layout.{schedule_shape}
-use Rattle.page.specs.Refusals.{page_answer, ending_count}
+use Rattle.page.specs.Refusals.{page_answer}
 use Rattle.lawful.specs.Demand3.{Bytes}
 use Rattle.codec.proofs.ReadWrite.{over_front}
 use Rattle.codec.proofs.WriteRead.{size_back}
 use Rattle.pages.proofs.OwnLaws.{owned, own_lines, own_size}
 use Rattle.filling.proofs.Numbers.{count_few}
-use Rattle.plainproof.specs.Plain.{start_machine, since_count, event_since, lines_in, played_at, plain_images}
+use Rattle.plainproof.specs.Plain.{start_machine, since_count, event_since, lines_in, played_at}
 use Rattle.plainproof.proofs.Plain.{plain_count_lem}
 use Rattle.plainruns.specs.Turns.{turn_in}
 use Rattle.plainruns.proofs.PlayLaws.{shape_at}
-use Rattle.plainway.specs.Plainly.{plain_room, all_bytes}
+use Rattle.plainway.specs.Plainly.{all_bytes}
 use Rattle.plainway.specs.Noting.{is_noted, runs_in, image_at, images_to, Laid, NotedTo}
 use Rattle.plainway.specs.declared.way.Way.{Way}
 use Rattle.plainway.proofs.ListLaws as lists

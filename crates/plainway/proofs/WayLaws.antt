@@ -1,30 +1,24 @@
 -- The refusals of the plain way, in their order, and what a schedule that passes them is laid out as.
-use Prim.Native.Nat.{ℕ, zero, suc, ◌+◌, ◌*◌, ◌^◌, ◌≤◌, ◌<◌}
+use Prim.Native.Nat.{ℕ, suc, ◌+◌, ◌*◌, ◌^◌, ◌≤◌, ◌<◌}
 use mathlib.Core.Path.{◌≡◌, refl, sym, ap, ap₂, subst, ◌∙◌}
 use mathlib.Core.Bool.{Bool, true, false}
 use mathlib.Core.List.{List}
 use native.Mathlib.Omega.{arith}
-use native.Mathlib.Numerals.{add-one}
-use native.Mathlib.Nat.{pow-zero, pow-suc, pow-le-pow_left, pow-le-pow_right, mul-le-mul}
+use native.Mathlib.Nat.{pow-le-pow_left, pow-le-pow_right, mul-le-mul}
 use lib.ListN.{length}
 use lib.Dec.{ltb}
 use borrow.Author.Tests.{lt-ltb, le-ltb}
 use Rattle.lists.specs.Find.{pick}
 use Rattle.lists.specs.Tab.{over}
 use Rattle.lists.proofs.BoolLaws.{no_way, yes_of, no_of}
-use Rattle.answer.specs.Answers.{check, accepted, Answer, Taken, Endings, Room}
+use Rattle.answer.specs.Answers.{check, accepted, given, Answer, Taken, Endings, Room}
 use Rattle.image.specs.Form.{known, head_lines, image_size}
-use Rattle.image.specs.Layout.{form_in, image_in, shape_in}
-use Rattle.image.specs.declared.Image.{Image}
 use Rattle.image.specs.declared.Shape.{Shape}
-use Rattle.machine.specs.Line.{shape_of, line_count}
-use Rattle.machine.specs.declared.Machine.{Machine}
+use Rattle.machine.specs.Line.{line_count}
 use Rattle.schedule.specs.Layout.{threads_in, count_in, nodes_in, schedule_in, schedule_answer, schedule_shape, read_schedule}
 use Rattle.schedule.specs.declared.Schedule.{Schedule}
-use Rattle.schedule.specs.Layout.{Opened}
-use Rattle.schedule.specs.Run.{Bench, Ran, ran}
 use Rattle.page.specs.Refusals.{page_answer, ending_count}
-use Rattle.plainproof.specs.Plain.{last_start, since_count, lines_in, plain_images}
+use Rattle.plainproof.specs.Plain.{since_count, lines_in, plain_images}
 use Rattle.plainproof.proofs.Plain.{plain_count_lem}
 use Rattle.image.proofs.HeadLaws.{lines_few}
 use Rattle.image.proofs.ShapeLaws.{nodes_range, threads_range}
@@ -37,19 +31,20 @@ use Rattle.plainruns.proofs.PlanLaws.{shape_of_lem, count_of_lem}
 use Rattle.plainruns.specs.declared.Plan.{Plan}
 use Rattle.plainruns.specs.Playable.{Planned}
 use Rattle.plainway.specs.Plainly.{too_large, plain_room, plain_answer, plain_count, all_bytes, plain_written}
-use Rattle.plainway.specs.Noting.{base_in, runs_in, Laid, WayIs}
+use Rattle.plainway.specs.Noting.{base_in, WayIs}
 use Rattle.plainway.specs.declared.way.Way.{Way}
+use Rattle.std.specs.Prelude.{Result, Ok, Err}
+use Rattle.answer.specs.declared.Refusal.{Refusal}
+use Rattle.answer.proofs.Results.{came_back, given_taken, given_refused}
 
 -- ---- powers
 
-pub power_fits : (b i n : ℕ) → 1 ≤ b → b ≤ 14 → n ≤ 6 → i < n → b ^ i * b ≤ 7529536
-power_fits b i n one h q lt =
-    let x = pow-le-pow_right {n = b} (omega arith) {i = suc i} {j = 6} (omega arith) in
+-- the runs of six lines, each with at most 14 picks
+pub power_fits : (b n : ℕ) → 1 ≤ b → b ≤ 14 → n ≤ 6 → b ^ n ≤ 7529536
+power_fits b n one h q =
+    let x = pow-le-pow_right {n = b} (omega arith) {i = n} {j = 6} (omega arith) in
     let y = pow-le-pow_left {n = b} {m = 14} h 6 in
-    omega (arith, pow-suc b i, x, y)
-
-pub power_next : (b i w : ℕ) → w ≡ b ^ i → w * b ≡ b ^ (i + 1)
-power_next b i w e = ap (λ (x : ℕ). x * b) e ∙ sym (pow-suc b i) ∙ ap (λ (k : ℕ). b ^ k) (sym (add-one i))
+    omega (arith, x, y)
 
 -- ---- the answer
 
@@ -114,6 +109,11 @@ pub written_taken : (s b : List ℕ) → accepted (plain_answer s (length b)) �
 unfolding plain_written
 written_taken s b h = yes_of (over b 0 (all_bytes (plain_images s))) b (accepted (plain_answer s (length b))) h
 
+-- an accepted answer gives its value
+pub given_yes : {A : Type 0} (a : Answer) (v : A) → accepted a ≡ true → given a v ≡ Ok v
+given_yes (Ok r) v h = refl
+given_yes (Err e) v h = no_way (sym h ∙ came_back {a = Err e} refl refl)
+
 -- what is taken is a page that is taken
 pub page_taken : (s : List ℕ) (room : ℕ) → accepted (plain_answer s room) ≡ true → accepted (page_answer s) ≡ true
 page_taken s room h = by (accepted (page_answer s)) refl
@@ -132,14 +132,9 @@ since_few s h = omega arith
 
 -- ---- at the code's terms
 
-pub way_no : (s : List ℕ) (room : ℕ) (w : Way) (x : Answer) → w.answer ≡ x → x ≡ plain_answer s room → accepted x ≡ false → WayIs s room w
-way_no s room w x e q r =
-    let n : (accepted w.answer ≡ true → ⊥) = λ a. no_way (sym a ∙ ap accepted e ∙ r) in
-    record { answer = e ∙ q; laid = λ a. absurd (n a); fits = λ a. absurd (n a) }
-
 -- the page's answer was a refusal
-pub way_page : (s : List ℕ) (room : ℕ) (w : Way) (x : Answer) → w.answer ≡ x → x ≡ page_answer s → accepted x ≡ false → WayIs s room w
-way_page s room w x e q r = way_no s room w x e (q ∙ sym (answer_refused s room (ap accepted (sym q) ∙ r))) r
+pub way_page : (s : List ℕ) (room : ℕ) (r : Result Way Refusal) (e : Refusal) → page_answer s ≡ Err e → r ≡ Err e → WayIs s room r
+way_page s room r e q w = subst (WayIs s room) (sym w) (answer_refused s room (came_back refl q) ∙ q)
 
 pub count_is : (s : List ℕ) → accepted (page_answer s) ≡ true → count_of s ≡ ending_count s
 unfolding count_of
@@ -161,13 +156,15 @@ module _ (s : List ℕ) (h : accepted (page_answer s) ≡ true) where
   pub size_small : image_size (schedule_shape s) ≤ 846
   size_small = size_few (schedule_shape s) form_known nodes_few heads_few
 
-  module _ (o : Opened) (oe : o ≡ read_schedule s) where
-    abbrev d : Schedule
-    d = o.schedule
+  -- the schedule is read
+  pub read_is : {d : Schedule} {r : Result Schedule Refusal} → r ≡ given (read_schedule s).answer (read_schedule s).schedule → r ≡ Ok d → d ≡ schedule_in s
+  read_is e w = (given_taken (read_schedule s).answer (read_schedule s).schedule e w).1 ∙ codec.opened_schedule s yes
 
-    pub d_is : d ≡ schedule_in s
-    d_is = ap (λ (x : Opened). x.schedule) oe ∙ codec.opened_schedule s yes
+  -- so reading it is not refused
+  pub is_read : {A : Type 0} {r : Result Schedule Refusal} {w : Refusal} → r ≡ given (read_schedule s).answer (read_schedule s).schedule → r ≡ Err w → A
+  is_read e was = no_way (sym yes ∙ ap accepted (sym (codec.opened_answer s)) ∙ came_back refl (given_refused (read_schedule s).answer (read_schedule s).schedule e was))
 
+  module _ (d : Schedule) (d_is : d ≡ schedule_in s) where
     abbrev z : Shape
     z = record { form = d.image.form; n = d.image.n; t = d.t }
 
@@ -197,14 +194,13 @@ module _ (s : List ℕ) (h : accepted (page_answer s) ≡ true) where
       room_fits = mul-le-mul {n₁ = c} {m₁ = n} {n₂ = 65536} {m₂ = 846} (omega (arith, ce, count_is s h, count_few s h)) (omega (arith, ne, ap image_size z_is, size_small))
 
     pub way_yes : (room : ℕ) (p : Plan) (n size base runs c : ℕ) → count_in s ≤ 12 → nodes_in s ≤ 4 → n ≤ 6 → c ≡ count_of s → c * size ≤ room → n ≡ line_count z → size ≡ image_size z → Planned s p → base ≡ p.since + 2 → runs ≡ base ^ n
-        → WayIs s room (record { answer = Taken; plan = p; lines = n; size = size; base = base; runs = runs })
+        → WayIs s room (Ok (record { plan = p; lines = n; size = size; base = base; runs = runs }))
     way_yes room p n size base runs c few small short ce fits ne se pl be re =
         let e = lines_in_lem n ne in
         let b : base ≡ base_in s = be ∙ ap (λ (x : ℕ). x + 2) pl.since ∙ (let y : since_count s + 2 ≡ suc (suc (since_count s)) = omega arith in y) in
-        let q : plain_room s ≤ room = omega (arith, fits, room_in c size ce se) in
-        record {
-          answer = sym (answer_taken s room h few small (omega (arith, e)) q);
-          laid = λ a. record {
+        let q : plain_room s ≤ room = omega (arith, fits, room_in c size ce se) in (
+          ap accepted (answer_taken s room h few small (omega (arith, e)) q),
+          record {
             planned = pl;
             lines = e;
             few = omega (arith, e);
@@ -212,6 +208,6 @@ module _ (s : List ℕ) (h : accepted (page_answer s) ≡ true) where
             size = se ∙ ap image_size z_is;
             base = b;
             runs = re ∙ ap₂ ◌^◌ b e;
-          };
-          fits = λ a. q;
-        }
+          },
+          q,
+        )

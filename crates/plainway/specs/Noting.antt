@@ -1,8 +1,9 @@
 -- Images noted in a buffer, run after run.
-use Rattle.std.specs.Prelude.{ℕ, suc, ◌+◌, ◌*◌, ◌^◌, ◌≤◌, ◌≡◌, Bool, true, not, List, length, get_or, take, eqb}
+use Rattle.std.specs.Prelude.{ℕ, suc, ◌+◌, ◌*◌, ◌^◌, ◌≤◌, ◌≡◌, Bool, true, not, List, length, get_or, take, eqb, Result, Ok, Err}
 use Rattle.lists.specs.Find.{any}
 use Rattle.lists.specs.Tab.{tab}
 use Rattle.answer.specs.Answers.{accepted}
+use Rattle.answer.specs.declared.Refusal.{Refusal}
 use Rattle.image.specs.Form.{image_size}
 use Rattle.image.specs.declared.Image.{Image}
 use Rattle.schedule.specs.Layout.{schedule_shape}
@@ -48,11 +49,10 @@ pub record Laid (s : List ℕ) (w : Way) : Type 0 where
   pub base : w.base ≡ base_in s
   pub runs : w.runs ≡ runs_in s
 
--- the answer and, where it is taken, all that the runs need; the images fit into `room` bytes
-pub record WayIs (s : List ℕ) (room : ℕ) (w : Way) : Type 0 where
-  pub answer : w.answer ≡ plain_answer s room
-  pub laid : accepted w.answer ≡ true → Laid s w
-  pub fits : accepted w.answer ≡ true → plain_room s ≤ room
+-- all that the runs need, and the images fit into `room` bytes, where that is answered; else the refusal
+abbrev pub WayIs : List ℕ → ℕ → Result Way Refusal → Type 0
+WayIs s room (Ok w) = (accepted (plain_answer s room) ≡ true) × Laid s w × (plain_room s ≤ room)
+WayIs s room (Err e) = plain_answer s room ≡ Err e
 
 -- the buffer b has the c images of the first k runs in front, and room for all
 pub record NotedTo (s : List ℕ) (k : ℕ) (b : List ℕ) (c : ℕ) : Type 0 where

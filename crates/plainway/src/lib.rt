@@ -8,34 +8,19 @@ pub mod noting;
 pub mod way;
 
 ghost use Rattle.std.specs.Prelude.{◌≡◌, length};
-ghost use Rattle.answer.specs.Answers.{told};
+ghost use Rattle.answer.specs.Answers.{given};
 ghost use Rattle.plainway.specs.Plainly.{plain_answer, plain_count, plain_written};
 
-use answer::Answer;
+use answer::Refusal;
 use noting::note_some;
 use way::way_of;
 
-// How many images there are; none beside a refusal.
-#[derive(Clone, Copy)]
-pub struct Plain {
-    pub answer: Answer,
-    pub count: u32,
-}
-
-// All images, one after the other, in the first bytes of the lent buffer; the bytes after them stay. On a refusal nothing is written.
-pub fn plain_page(s: &[u8], b: &mut [u8]) -> Plain
-    ensures answers { told result.answer ≡ told (plain_answer s.now (length b.old)) }
-    ensures counts { result.count ≡ plain_count s.now (length b.old) }
+// All images, one after the other, in the first bytes of the lent buffer; the bytes after them stay. How many there are. On a refusal nothing is written.
+pub fn plain_page(s: &[u8], b: &mut [u8]) -> Result<u32, Refusal>
+    ensures counts { result ≡ given (plain_answer s.now (length b.old)) (plain_count s.now (length b.old)) }
     ensures bytes { b.new ≡ plain_written s.now b.old }
 {
-    let w = way_of(s, b.len());
-    let a = w.answer;
-    if !answer::is_taken(a) {
-        return Plain {
-            answer: a,
-            count: 0,
-        };
-    }
+    let w = way_of(s, b.len())?;
     let count = note_some(s, w, 0, w.runs, b, 0);
-    Plain { answer: a, count }
+    Ok(count)
 }

@@ -14,12 +14,10 @@ fn is_at(b: &[u8], at: usize, x: &[u8], n: usize) -> bool
     requires { (at + n ≤ length b.now) × (n ≤ length x.now) }
     ensures { result ≡ same_at b.now at x.now n }
 {
-    let mut i = 0;
-    while i < n {
+    for i in 0..n {
         if b[at + i] != x[i] {
             return false;
         }
-        i += 1;
     }
     true
 }
@@ -29,12 +27,10 @@ fn is_noted(b: &[u8], c: usize, x: &[u8], n: usize) -> bool
     requires { (c * n ≤ length b.now) × (n ≤ length x.now) }
     ensures { result ≡ is_noted b.now c x.now n }
 {
-    let mut i = 0;
-    while i < c {
+    for i in 0..c {
         if is_at(b, i * n, x, n) {
             return true;
         }
-        i += 1;
     }
     false
 }
@@ -62,12 +58,9 @@ pub fn note_some(s: &[u8], w: Way, from: u32, to: u32, b: &mut [u8], c: u32) -> 
     requires { Laid s.now w × NotedTo s.now from b.old c × (from ≤ to) × (to ≤ w.runs) }
     ensures { NotedTo s.now to b.new result × (b.new ≡ over b.old 0 (all_bytes (images_to s.now to))) }
 {
-    let mut k = from;
     let mut n = c;
-    while k < to {
-        let x = note(s, w, k, b, n);
-        n = x;
-        k += 1;
+    for k in from..to {
+        n = note(s, w, k, b, n);
     }
     n
 }

@@ -1,4 +1,3 @@
-use Prim.Native.Nat.{◌-◌, ◌≤◌}
 use mathlib.Core.Path.{◌≡◌}
 use Rattle.lists.specs.Tab.{over}
 use Rattle.plainway.specs.Plainly.{all_bytes}
@@ -6,7 +5,4 @@ use Rattle.plainway.specs.Noting.{images_to, NotedTo}
 use Rattle.plainway.proofs.noting.note_some.Given as goal
 
 abbrev pub invariant-loop-k : goal.invariant-loop-k
-invariant-loop-k l = (l.k ≤ l.to) × NotedTo l.s l.k l.b l.n × (l.b ≡ over l.initial.b 0 (all_bytes (images_to l.s l.k)))
-
-abbrev pub decreases-loop-k : goal.decreases-loop-k
-decreases-loop-k l = l.to - l.k
+invariant-loop-k l = NotedTo l.s l.k l.b l.n × (l.b ≡ over l.initial.b 0 (all_bytes (images_to l.s l.k)))
