@@ -7,24 +7,24 @@
 mod running;
 mod showing;
 
-use answer::{Told, told_of};
+use answer::told_of;
 use plainway::way::way_of;
 use running::run_all;
 use showing::{show_first, show_images};
 
-fn refused(rt: &impl Print, t: Told) -> bool {
-    println!(rt; "refused {} at {}", t.number, t.place).is_ok()
-}
-
+// Whether standard output took the page, or the line of its refusal.
 fn print_plain(rt: &(impl Print + Eprint), s: &[u8], b: &mut [u8]) -> bool {
-    let w = way_of(s, b.len());
-    let a = w.answer;
-    if !answer::is_taken(a) {
-        return refused(rt, told_of(a));
+    match way_of(s, b.len()) {
+        Ok(w) => {
+            let count = run_all(rt, s, w, b);
+            show_first(rt, s, count);
+            show_images(rt, b, w.size, count)
+        }
+        Err(e) => {
+            let told = told_of(Err(e));
+            println!(rt; "refused {} at {}", told.number, told.place).is_ok()
+        }
     }
-    let count = run_all(rt, s, w, b);
-    show_first(rt, s, count);
-    show_images(rt, &b[..], w.size, count)
 }
 
 fn main(rt: HostRuntime) {
