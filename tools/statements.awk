@@ -115,13 +115,17 @@ function plan(key,    file, what, from, to, deep, n, d, text) {
     ends[file, from] = to
     begins[file, from] = from
     while (comment(lines[file, begins[file, from] - 1])) begins[file, from]--
+    # what a trait's promise is here stands before its function
+    n = begins[file, from] - 1
+    while (blank(lines[file, n]) && n > 1) n--
+    if (lines[file, n] ~ /^ +ghost [a-z_]+ = \{.*\};$/) begins[file, from] = n
     # the modules that it stands in
     deep = indent(lines[file, from])
     for (n = from - 1; n > 0 && deep > 0; n--) {
         text = lines[file, n]
         if (blank(text)) continue
         d = indent(text)
-        if (d < deep && text ~ /^ *(module|impl) /) { deep = d; above[file, from] = n " " above[file, from] }
+        if (d < deep && text ~ /^ *(module|impl|trait|pub trait)[ <]/) { deep = d; above[file, from] = n " " above[file, from] }
     }
 }
 
