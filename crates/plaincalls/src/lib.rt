@@ -6,15 +6,13 @@ ghost use Rattle.std.specs.Prelude.{◌≡◌, length};
 ghost use Rattle.plainway.specs.Plainly.{plain_written};
 ghost use Rattle.plaincalls.specs.Given.{plain_given};
 
-use calls::packing::packed_of;
+use calls::packing::packed_result;
 
 // All images, one after the other, into the buffer's first bytes: the value is how many there are.
 pub fn plain_page(schedule: &[u8], buffer: &mut [u8]) -> u64
     ensures answers { result ≡ plain_given schedule.now (length buffer.old) }
     ensures bytes { buffer.new ≡ plain_written schedule.now buffer.old }
 {
-    let page = plainway::plain_page(schedule, buffer);
-    let a = page.answer;
-    let count = page.count as u64;
-    packed_of(a, count)
+    let count = plainway::plain_page(schedule, buffer);
+    packed_result(count.map(|n| n as u64))
 }
