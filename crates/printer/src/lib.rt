@@ -3,7 +3,7 @@
 
 #![tactic(auto)]
 
-ghost use Rattle.std.specs.Prelude.{◌≡◌, Err, true, false, not, IfOk, IfErr, IfSome, ◌+◌, ◌≤◌, length};
+ghost use Rattle.std.specs.Prelude.{◌≡◌, Err, true, false, not, IfOk, IfErr, IfSome, OnOk, ◌+◌, ◌≤◌, length};
 ghost use Rattle.answer.specs.Answers.{accepted};
 ghost use Rattle.image.specs.Form.{head_lines};
 ghost use Rattle.machine.specs.Line.{line_count};
@@ -38,22 +38,29 @@ pub struct Printed {
     pub bytes: Option<usize>,
 }
 
-// The first n bytes of b, which are the next part of the page of s behind the `done` bytes that are written; how many are written then.
-fn write_front(out: &mut impl Write, s: &[u8], b: &[u8], n: usize, done: usize) -> io::Result<usize>
-    requires { NextPart (printed s.now) done b.now n }
-    ensures { IfOk result (λ now. now ≡ done + n) }
+// The first n bytes of b, which are the next part of the page of s; `done` counts the bytes that are written.
+fn write_front(
+    out: &mut impl Write,
+    s: &[u8],
+    b: &[u8],
+    n: usize,
+    done: &mut usize,
+) -> io::Result<()>
+    requires { NextPart (printed s.now) done.old b.now n }
+    ensures { OnOk result (done.new ≡ done.old + n) }
 {
     out.write_all(&b[..n])?;
-    Ok(done + n)
+    *done += n;
+    Ok(())
 }
 
-fn print_refused(out: &mut impl Write, s: &[u8], e: Refusal) -> io::Result<usize>
-    requires { refused_line (Err e) ≡ printed s.now }
-    ensures { IfOk result (λ n. n ≡ length (printed s.now)) }
+fn print_refused(out: &mut impl Write, s: &[u8], e: Refusal, done: &mut usize) -> io::Result<()>
+    requires { (refused_line (Err e) ≡ printed s.now) × (done.old ≡ 0) }
+    ensures { OnOk result (done.new ≡ length (printed s.now)) }
 {
     let mut b = [0; 64];
     let place = write_refused(&mut b, 0, Err(e));
-    write_front(out, s, &b, place, 0)
+    write_front(out, s, &b, place, done)
 }
 
 // A buffer of lines at a time, told from the table and its sheet, which is made once: it has room for the longest, so each turn prints one
@@ -68,13 +75,13 @@ fn print_lines(
     events: u16,
     count: u32,
     b: &mut [u8],
-) -> io::Result<usize>
+    done: &mut usize,
+) -> io::Result<()>
     requires n_bound { (z.n ≤ 64) × (head_lines z ≤ 8) × Ready counts (line_count z) × (threads ≤ 8) × (events ≤ 4096) × (count ≤ 65536) × (731 ≤ length b.old) × (length b.old ≤ 65536) }
-    requires count_value { lines_on (table_line t counts z threads events count) 0 (count + 1) ≡ printed s.now }
-    ensures { IfOk result (λ n. n ≡ length (printed s.now)) }
+    requires count_value { (lines_on (table_line t counts z threads events count) 0 (count + 1) ≡ printed s.now) × (done.old ≡ 0) }
+    ensures { OnOk result (done.new ≡ length (printed s.now)) }
 {
     let sheet = sheet_of(t, counts, z.n);
-    let mut done = 0;
     let mut next = 0;
     while next <= count {
         let filled = fill_told(
@@ -92,33 +99,45 @@ fn print_lines(
             next,
             b,
         );
-        done = write_front(out, s, b, filled.place, done)?;
+        write_front(out, s, b, filled.place, done)?;
         next = filled.next;
     }
-    Ok(done)
+    Ok(())
 }
 
 // The page of a run that is not refused.
-fn print_run(out: &mut impl Write, s: &[u8], d: Schedule, r: Run, b: &mut [u8]) -> io::Result<usize>
-    requires { PageTaken s.now r × (d ≡ schedule_in s.now) × (731 ≤ length b.old) × (length b.old ≤ 65536) }
-    ensures { IfOk result (λ n. n ≡ length (printed s.now)) }
+fn print_run(
+    out: &mut impl Write,
+    s: &[u8],
+    d: Schedule,
+    r: Run,
+    b: &mut [u8],
+    done: &mut usize,
+) -> io::Result<()>
+    requires { PageTaken s.now r × (d ≡ schedule_in s.now) × (731 ≤ length b.old) × (length b.old ≤ 65536) × (done.old ≡ 0) }
+    ensures { OnOk result (done.new ≡ length (printed s.now)) }
 {
     let z = r.machine.shape();
-    let counts = counts_of(r.rows);
+    let counts = counts_of(&r.rows);
     let count = ending_count(counts, lines_of(z));
-    let t = table_of(r.rows);
-    print_lines(out, s, t, counts, z, d.t, d.count, count, b)
+    let t = table_of(&r.rows);
+    print_lines(out, s, t, counts, z, d.t, d.count, count, b, done)
 }
 
-// The page, or its refusal.
-fn print_taken(out: &mut impl Write, s: &[u8], b: &mut [u8]) -> Result<Option<usize>, Refusal>
-    requires { (731 ≤ length b.old) × (length b.old ≤ 65536) }
-    ensures taken { IfOk result (λ bytes. (accepted (page_answer s.now) ≡ true) × IfSome bytes (λ n. n ≡ length (printed s.now))) }
-    ensures refused { IfErr result (λ e. Err e ≡ page_answer s.now) }
+// The page, or its refusal, before which nothing is written.
+fn print_taken(
+    out: &mut impl Write,
+    s: &[u8],
+    b: &mut [u8],
+    done: &mut usize,
+) -> Result<io::Result<()>, Refusal>
+    requires { (731 ≤ length b.old) × (length b.old ≤ 65536) × (done.old ≡ 0) }
+    ensures taken { IfOk result (λ written. (accepted (page_answer s.now) ≡ true) × OnOk written (done.new ≡ length (printed s.now))) }
+    ensures refused { IfErr result (λ e. (Err e ≡ page_answer s.now) × (done.new ≡ 0)) }
 {
-    let d = open_schedule(s)?;
     let r = page_of(s)?;
-    Ok(print_run(out, s, d, r, b).ok())
+    let d = open_schedule(s)?;
+    Ok(print_run(out, s, d, r, b, done))
 }
 
 // The page, or the line of its refusal. The buffer has room for the longest line.
@@ -127,14 +146,18 @@ pub fn print_page(out: &mut impl Write, s: &[u8], b: &mut [u8]) -> Printed
     ensures refuses { result.refused ≡ not (accepted (page_answer s.now)) }
     ensures prints { IfSome result.bytes (λ n. n ≡ length (printed s.now)) }
 {
-    match print_taken(out, s, b) {
-        Ok(bytes) => Printed {
+    let mut done = 0;
+    match print_taken(out, s, b, &mut done) {
+        Ok(written) => Printed {
             refused: false,
-            bytes,
+            bytes: written.is_ok().then_some(done),
         },
-        Err(e) => Printed {
-            refused: true,
-            bytes: print_refused(out, s, e).ok(),
-        },
+        Err(e) => {
+            let written = print_refused(out, s, e, &mut done);
+            Printed {
+                refused: true,
+                bytes: written.is_ok().then_some(done),
+            }
+        }
     }
 }

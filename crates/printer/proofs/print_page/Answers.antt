@@ -4,5 +4,7 @@ use Rattle.page.specs.Printed.{refused_line}
 use Rattle.printing.proofs.PageLaws as pages
 use Rattle.printer.proofs.print_page.Goals as goal
 
-pub print_refused-requires : goal.print_refused-requires
-print_refused-requires g c = ap refused_line c.in-Err.ensures.refused ∙ sym (pages.printed_refused c.args.s.now (came_back c.in-Err.ensures.refused refl))
+pub print_refused-written-requires : goal.print_refused-written-requires
+print_refused-written-requires g c =
+    let a = c.in-Err.ensures.refused.0 in
+    (ap refused_line a ∙ sym (pages.printed_refused c.args.s.now (came_back a refl)), c.in-Err.ensures.refused.1)

@@ -1,5 +1,5 @@
 use Prim.Native.Nat.{◌+◌}
-use mathlib.Core.Path.{◌≡◌, refl, sym, ap, ◌∙◌}
+use mathlib.Core.Path.{◌≡◌, sym, ap, ◌∙◌}
 use mathlib.Core.List.{[], append-nil}
 use lib.ListN.{length}
 use native.Mathlib.Omega.{arith}
@@ -10,7 +10,7 @@ use Rattle.printer.proofs.Parting as parts
 use Rattle.printer.proofs.print_refused.Goals as goal
 
 pub write_front-requires : goal.write_front-requires
-write_front-requires g c = parts.part_next _ [] (refused_line (Err c.args.e)) [] _ c.write_refused-place.new.b _ c.write_refused-place.result (sym c.requires ∙ sym (append-nil (refused_line (Err c.args.e)))) refl c.write_refused-place.ensures.place.0 (omega (arith, c.write_refused-place.ensures.place, c.write_refused-place.auto.b)) c.write_refused-place.ensures.bytes (omega (arith, c.write_refused-place.ensures.place.1))
+write_front-requires g c = parts.part_next _ [] (refused_line (Err c.args.e)) [] _ c.write_refused-place.new.b _ c.write_refused-place.result (sym c.requires.0 ∙ sym (append-nil (refused_line (Err c.args.e)))) c.requires.1 c.write_refused-place.ensures.place.0 (omega (arith, c.write_refused-place.ensures.place, c.write_refused-place.auto.b)) c.write_refused-place.ensures.bytes (omega (arith, c.write_refused-place.ensures.place.1, c.requires.1))
 
 pub returns : goal.returns
-returns g c = IfOk-weaker _ (λ now. now ≡ 0 + c.write_refused-place.result) (λ n. n ≡ length (printed c.args.s.now)) (λ n h. omega (arith, h, c.write_refused-place.ensures.place.0, ap length c.requires)) c.write_front.ensures
+returns g c = IfOk-weaker _ (λ _. c.write_front.new.done ≡ c.args.done.now + c.write_refused-place.result) (λ _. c.write_front.new.done ≡ length (printed c.args.s.now)) (λ _ h. omega (arith, h, c.requires.1, c.write_refused-place.ensures.place.0, ap length c.requires.0)) c.write_front.ensures

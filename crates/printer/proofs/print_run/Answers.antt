@@ -23,5 +23,5 @@ print_lines-requires g c =
     let d = numbers.opened_numbers s c.args.d c.requires.1 in
     let n = rw (c.lines_of.ensures, c.shape-z.ensures, c.counts_of-counts.ensures) at c.ending_count-count.ensures in record {
       n_bound = rw (c.shape-z.ensures, c.counts_of-counts.ensures) (w.0, w.1, pages.page_ready s r p, l.0, l.1, rw n (numbers.count_limit s r p), c.requires.2, c.requires.3);
-      count_value = rw c.shape-z.ensures (parts.page_is s r p _ _ _ _ _ c.table_of-t.ensures c.counts_of-counts.ensures d.0 d.1 (n ∙ pages.page_count s r p));
+      count_value = (rw c.shape-z.ensures (parts.page_is s r p _ _ _ _ _ c.table_of-t.ensures c.counts_of-counts.ensures d.0 d.1 (n ∙ pages.page_count s r p)), c.requires.4);
     }
