@@ -32,9 +32,9 @@ fn sets_fit(over: &[u8], t: u8) -> bool
     over.iter().all(|w| set_fits(*w as u64, t))
 }
 
-pub fn flushes_fit(m: Machine) -> bool
-    requires { (m.n ≤ 64) × (m.t ≤ 8) }
-    ensures { result ≡ flushes_fit m }
+pub fn flushes_fit(m: &Machine) -> bool
+    requires { (m.now.n ≤ 64) × (m.now.t ≤ 8) }
+    ensures { result ≡ flushes_fit m.now }
 {
     let lines = head_lines(m.shape());
     threads_flushed(m.flushed, m.late, top_of(m.form), m.t)

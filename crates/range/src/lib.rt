@@ -73,9 +73,9 @@ fn node_fits(n: u8, t: u8, v: Node, p: Content) -> bool
     is_link(n, v.next) && v.linked <= 1 && p.linked <= 1 && set_fits(v.waits as u64, t)
 }
 
-fn nodes_fit(m: Machine) -> bool
-    requires { (m.n ≤ 64) × (m.t ≤ 8) }
-    ensures { result ≡ not (any (bad_node m) m.n) }
+fn nodes_fit(m: &Machine) -> bool
+    requires { (m.now.n ≤ 64) × (m.now.t ≤ 8) }
+    ensures { result ≡ not (any (bad_node m.now) m.now.n) }
 {
     (0..m.n as usize).all(|i| node_fits(m.n, m.t, m.nodes[i], m.kept[i]))
 }
@@ -136,36 +136,22 @@ pub fn used_by(s: u8) -> Used
             ..NOTHING
         },
         Machine::D1 => NOTHING,
-        Machine::D2 => Used {
+        Machine::D2 | Machine::S3 => Used {
             head: true,
             ..NOTHING
         },
-        Machine::S3 => Used {
-            head: true,
-            ..NOTHING
-        },
-        Machine::D3 => NOTHING,
-        Machine::F3 => NOTHING,
+        Machine::D3 | Machine::F3 => NOTHING,
         Machine::D4 => Used {
             head: true,
             next: true,
             ..NOTHING
         },
-        Machine::D5 => Used {
+        Machine::D5 | Machine::S6 => Used {
             next: true,
             dequeue: true,
             ..NOTHING
         },
-        Machine::S6 => Used {
-            next: true,
-            dequeue: true,
-            ..NOTHING
-        },
-        Machine::D6 => Used {
-            dequeue: true,
-            ..NOTHING
-        },
-        Machine::F6 => Used {
+        Machine::D6 | Machine::F6 => Used {
             dequeue: true,
             ..NOTHING
         },
@@ -192,16 +178,16 @@ fn is_step(form: u8, s: u8) -> bool
 }
 
 // At A12 t's next is a node.
-fn after_fits(m: Machine, v: Thread) -> bool
-    requires { (m.n ≤ 64) × (v.step ≡ 12 → v.tail < m.n) }
-    ensures { result ≡ next_fits m (eqb v.step 12) v.tail }
+fn after_fits(m: &Machine, v: Thread) -> bool
+    requires { (m.now.n ≤ 64) × (v.step ≡ 12 → v.tail < m.now.n) }
+    ensures { result ≡ next_fits m.now (eqb v.step 12) v.tail }
 {
     v.step != Machine::A12 || m.nodes[v.tail as usize].next != 255
 }
 
-fn thread_fits(m: Machine, k: usize) -> bool
-    requires { (k < 8) × (m.n ≤ 64) }
-    ensures { result ≡ thread_fits m k }
+fn thread_fits(m: &Machine, k: usize) -> bool
+    requires { (k < 8) × (m.now.n ≤ 64) }
+    ensures { result ≡ thread_fits m.now k }
 {
     let v = m.threads[k];
     let u = used_by(v.step);
@@ -214,16 +200,16 @@ fn thread_fits(m: Machine, k: usize) -> bool
         && after_fits(m, v)
 }
 
-fn threads_fit(m: Machine) -> bool
-    requires { (m.n ≤ 64) × (m.t ≤ 8) }
-    ensures { result ≡ not (any (bad_thread m) m.t) }
+fn threads_fit(m: &Machine) -> bool
+    requires { (m.now.n ≤ 64) × (m.now.t ≤ 8) }
+    ensures { result ≡ not (any (bad_thread m.now) m.now.t) }
 {
     (0..m.t as usize).all(|k| thread_fits(m, k))
 }
 
 // N, T, every node, thread and step number and every set is in range, and each thread's next step has the nodes it uses.
-fn ranges_fit(m: Machine) -> bool
-    ensures { result ≡ ranges_fit m }
+fn ranges_fit(m: &Machine) -> bool
+    ensures { result ≡ ranges_fit m.now }
 {
     sizes_fit(m.n, m.t)
         && ends_fit(m.n, m.head, m.tail, m.last)
@@ -236,5 +222,5 @@ fn ranges_fit(m: Machine) -> bool
 pub fn in_range(m: Machine) -> bool
     ensures { result ≡ in_range m }
 {
-    ranges_fit(m) && form_fits(m) && flushes_fit(m)
+    ranges_fit(&m) && form_fits(&m) && flushes_fit(&m)
 }

@@ -7,9 +7,9 @@ use crate::used_by;
 use machine::{Machine, Places};
 
 // Along the links from Head's node, N moves at most.
-fn in_queue(m: Machine, i: usize) -> bool
-    requires { in_range m ≡ true }
-    ensures { result ≡ in_queue m i }
+fn in_queue(m: &Machine, i: usize) -> bool
+    requires { in_range m.now ≡ true }
+    ensures { result ≡ in_queue m.now i }
 {
     let mut x = m.head as usize;
     let mut c = m.n;
@@ -28,59 +28,59 @@ fn in_queue(m: Machine, i: usize) -> bool
 }
 
 // Some thread holds node i, owns it by an enqueue, owns it by a dequeue.
-fn is_held(m: Machine, i: usize) -> bool
-    requires { m.t ≤ 8 }
-    ensures { result ≡ is_held m i }
+fn is_held(m: &Machine, i: usize) -> bool
+    requires { m.now.t ≤ 8 }
+    ensures { result ≡ is_held m.now i }
 {
     (0..m.t as usize).any(|k| m.threads[k].held as usize == i)
 }
 
-fn in_enqueue(m: Machine, i: usize) -> bool
-    requires { m.t ≤ 8 }
-    ensures { result ≡ in_enqueue m i }
+fn in_enqueue(m: &Machine, i: usize) -> bool
+    requires { m.now.t ≤ 8 }
+    ensures { result ≡ in_enqueue m.now i }
 {
-    (0..m.t as usize).any(|k| used_by(m.threads[k].step).enqueue && m.threads[k].node as usize == i)
+    (0..m.t as usize).any(|k| m.threads[k].node as usize == i && used_by(m.threads[k].step).enqueue)
 }
 
-fn in_dequeue(m: Machine, i: usize) -> bool
-    requires { m.t ≤ 8 }
-    ensures { result ≡ in_dequeue m i }
+fn in_dequeue(m: &Machine, i: usize) -> bool
+    requires { m.now.t ≤ 8 }
+    ensures { result ≡ in_dequeue m.now i }
 {
-    (0..m.t as usize).any(|k| used_by(m.threads[k].step).dequeue && m.threads[k].head as usize == i)
+    (0..m.t as usize).any(|k| m.threads[k].head as usize == i && used_by(m.threads[k].step).dequeue)
 }
 
 // How many nodes wait for some thread, are held, owned by an enqueue, owned by a dequeue.
-fn waiting(m: Machine) -> usize
-    requires { m.n ≤ 64 }
-    ensures { result ≡ placed is_waiting m }
+fn waiting(m: &Machine) -> usize
+    requires { m.now.n ≤ 64 }
+    ensures { result ≡ placed is_waiting m.now }
 {
     (0..m.n as usize).filter(|i| m.nodes[*i].waits != 0).count()
 }
 
-fn held(m: Machine) -> usize
-    requires { m.t ≤ 8 }
-    ensures { result ≡ placed is_held m }
+fn held(m: &Machine) -> usize
+    requires { m.now.t ≤ 8 }
+    ensures { result ≡ placed is_held m.now }
 {
     (0..m.n as usize).filter(|i| is_held(m, *i)).count()
 }
 
-fn enqueued(m: Machine) -> usize
-    requires { m.t ≤ 8 }
-    ensures { result ≡ placed in_enqueue m }
+fn enqueued(m: &Machine) -> usize
+    requires { m.now.t ≤ 8 }
+    ensures { result ≡ placed in_enqueue m.now }
 {
     (0..m.n as usize).filter(|i| in_enqueue(m, *i)).count()
 }
 
-fn dequeued(m: Machine) -> usize
-    requires { m.t ≤ 8 }
-    ensures { result ≡ placed in_dequeue m }
+fn dequeued(m: &Machine) -> usize
+    requires { m.now.t ≤ 8 }
+    ensures { result ≡ placed in_dequeue m.now }
 {
     (0..m.n as usize).filter(|i| in_dequeue(m, *i)).count()
 }
 
-fn queued(m: Machine) -> usize
-    requires { in_range m ≡ true }
-    ensures { result ≡ placed in_queue m }
+fn queued(m: &Machine) -> usize
+    requires { in_range m.now ≡ true }
+    ensures { result ≡ placed in_queue m.now }
 {
     (0..m.n as usize).filter(|i| in_queue(m, *i)).count()
 }
@@ -91,11 +91,11 @@ pub fn places_of(m: Machine) -> Places
     ensures { result ≡ places_of m }
 {
     Places {
-        queue: queued(m) as u8,
+        queue: queued(&m) as u8,
         free: bits::total(m.free) as u8,
-        waiting: waiting(m) as u8,
-        held: held(m) as u8,
-        enqueue: enqueued(m) as u8,
-        dequeue: dequeued(m) as u8,
+        waiting: waiting(&m) as u8,
+        held: held(&m) as u8,
+        enqueue: enqueued(&m) as u8,
+        dequeue: dequeued(&m) as u8,
     }
 }

@@ -4,7 +4,9 @@
 
 ghost use Rattle.std.specs.Prelude.{◌≡◌, ◌≤◌, length};
 ghost use Rattle.lists.specs.Tab.{over};
-ghost use Rattle.calls.specs.Calls.{start_answered, event_answered, save_answered, places_answered, started, start_written, happened, event_written, saved_bytes, save_written, places_counted, places_written, place_bytes, event_given};
+ghost use Rattle.answer.specs.Answers.{told};
+ghost use Rattle.calls.specs.Packed.{packed, reply_of};
+ghost use Rattle.calls.specs.Calls.{start_answered, save_answered, places_answered, started, start_written, happened, event_written, saved_bytes, save_written, places_counted, places_written, place_bytes, event_given};
 
 use answer::{Answer, Refusal, Reply};
 use calls::packing::{packed_answer, packed_of, reply_of};
@@ -31,24 +33,32 @@ pub fn start(image: &[u8], threads: u8, bytes: &mut [u8]) -> u64
     packed_answer(put_start(image, threads, bytes))
 }
 
-fn put_event(bytes: &mut [u8], e: Event) -> Answer
-    ensures answers { result ≡ event_answered bytes.old e }
-    ensures written { bytes.new ≡ event_written bytes.old e }
+// What an event answers, as one number: the value is what an operation answered with it.
+fn packed_event(a: Answer) -> u64
+    ensures { result ≡ packed (told a) (reply_of (told a)) }
 {
-    let m = record::read_record(bytes)?;
-    let out = events::on_event(m, e);
-    let reply = out.answer?;
-    let _ = record::write_record(out.machine, bytes);
-    Ok(reply)
+    packed_of(a, reply_of(a))
 }
 
-// One event on a record's bytes, in place. The value is what an operation answered with it.
+// One event on a record's bytes, in place.
+// Each way answers for itself and by no `?`: an answer that is put together behind them has the record copied twice more, 5 KB of stack.
 pub fn event(bytes: &mut [u8], kind: u8, number: u8, item: u32) -> u64
     ensures answers { result ≡ happened bytes.old (event_given kind number item) }
     ensures written { bytes.new ≡ event_written bytes.old (event_given kind number item) }
 {
-    let a = put_event(bytes, Event { kind, number, item });
-    packed_of(a, reply_of(a))
+    match record::read_record(bytes) {
+        Err(refusal) => packed_event(Err(refusal)),
+        Ok(m) => {
+            let out = events::on_event(m, Event { kind, number, item });
+            match out.answer {
+                Err(refusal) => packed_event(Err(refusal)),
+                Ok(reply) => {
+                    let _ = record::write_record(out.machine, bytes);
+                    packed_event(Ok(reply))
+                }
+            }
+        }
+    }
 }
 
 fn put_saved(bytes: &[u8], buffer: &mut [u8]) -> Answer

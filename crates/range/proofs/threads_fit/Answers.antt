@@ -7,4 +7,4 @@ use Rattle.range.proofs.threads_fit.Goals as goal
 
 pub returns : goal.returns
 unfolding bad_thread
-returns c = all_ranged (thread_fits c.args.m) _ _ _ _ _ (bad_thread c.args.m) c.all.ensures.ran refl (λ x b q k. search (rules, tests)) (λ k. refl)
+returns c = all_ranged (thread_fits c.args.m.now) _ _ _ _ _ (bad_thread c.args.m.now) c.all.ensures.ran refl (λ x b q k. search (rules, tests)) (λ k. refl)

@@ -1,22 +1,26 @@
-use mathlib.Core.Path.{refl}
+use mathlib.Core.Path.{refl, ◌∙◌}
 use native.Mathlib.Omega.{arith}
 use borrow.Author.Tests.{eq-eqb, ne_eqb, le-leb, lt-leb}
 use Rattle.answer.specs.Answers.{Taken, Number, Busy}
 use Rattle.machine.specs.Event.{enqueues}
+use Rattle.events.proofs.ByAnswer as by
 use Rattle.range.proofs.InRange as range
 use Rattle.events.proofs.arms.enqueue.Goals as goal
 
 pub returns-then-m-e : goal.returns-then-m-e
-returns-then-m-e c = rw (le-leb _ _ c.if-m-e.true)
+returns-then-m-e c = c.quiet.ensures ∙ by.refused c.args.p c.args.m c.args.e enqueues (Number c.args.p) (rw (le-leb _ _ c.if-m-e.true)) refl
 
-pub bounds-m-k : goal.bounds-m-k
-bounds-m-k c = omega (arith, (range.in_range_lem _ c.requires).sizes.threads_high, c.if-m-e.false)
+pub bounds-threads-k : goal.bounds-threads-k
+bounds-threads-k c = omega (arith, (range.in_range_lem _ c.requires).sizes.threads_high, c.if-m-e.false)
 
-pub returns-then-m-k-ne0 : goal.returns-then-m-k-ne0
-returns-then-m-k-ne0 c = rw (lt-leb _ _ c.if-m-e.false, ne_eqb _ _ c.if-m-k-ne0.true)
+pub returns-then-threads-k-ne0 : goal.returns-then-threads-k-ne0
+returns-then-threads-k-ne0 c =
+    c.quiet-then-threads-k-ne0.ensures ∙ by.refused c.args.p c.args.m c.args.e enqueues (Busy c.args.p) (rw (lt-leb _ _ c.if-m-e.false, ne_eqb _ _ c.if-threads-k-ne0.true)) refl
 
 pub begin-machine-requires : goal.begin-machine-requires
 begin-machine-requires c = omega (arith, (range.in_range_lem _ c.requires).sizes.threads_high, c.if-m-e.false)
 
 pub returns : goal.returns
-returns c = rw (c.quiet.ensures, c.begin-machine.ensures, lt-leb _ _ c.if-m-e.false, eq-eqb _ _ c.if-m-k-ne0.false)
+returns c =
+    rw c.begin-machine.ensures
+    (by.taken c.args.p c.args.m c.args.e enqueues Taken (rw (lt-leb _ _ c.if-m-e.false, eq-eqb _ _ c.if-threads-k-ne0.false)) refl)

@@ -14,6 +14,7 @@ use Rattle.machine.specs.declared.Machine.{Machine}
 use Rattle.machine.proofs.LineLaws.{line_in}
 use Rattle.hands.specs.Places.{HasPlace}
 use Rattle.hands.proofs.HandLaws.{place_in}
+use Rattle.events.proofs.ByAnswer as by
 use Rattle.range.proofs.InRange as range
 use Rattle.events.proofs.arms.write_back.Goals as goal
 
@@ -31,49 +32,41 @@ tested m l l' r b e f g = sym (ap (clean m) f) ∙ sym e ∙ g
 
 pub overflow_add-lines : goal.overflow_add-lines
 overflow_add-lines c =
-    let e : c.head_lines.result ≡ head_lines (shape_of c.args.m) = rw c.shape-z.ensures at c.head_lines.ensures in
+    let e : c.head_lines.result ≡ head_lines (shape_of c.args.m) = c.head_lines.ensures in
     omega (arith, e, few c.args.m c.requires, (range.in_range_lem _ c.requires).sizes.nodes_high)
 
 pub returns-then-lines-e : goal.returns-then-lines-e
 returns-then-lines-e c =
-    let e : c.head_lines.result ≡ head_lines (shape_of c.args.m) = rw c.shape-z.ensures at c.head_lines.ensures in
-    rw (le-leb (line_count (shape_of c.args.m)) c.args.e.number (omega (arith, e, c.if-lines-e.true)))
+    let e : c.head_lines.result ≡ head_lines (shape_of c.args.m) = c.head_lines.ensures in
+    c.quiet.ensures ∙ by.refused c.args.p c.args.m c.args.e writes_back (Number c.args.p) (rw (le-leb (line_count (shape_of c.args.m)) c.args.e.number (omega (arith, e, c.if-lines-e.true)))) refl
 
 pub returns-then-e-ne0 : goal.returns-then-e-ne0
 returns-then-e-ne0 c =
-    let e : c.head_lines.result ≡ head_lines (shape_of c.args.m) = rw c.shape-z.ensures at c.head_lines.ensures in
-    rw (lt-leb (line_count (shape_of c.args.m)) c.args.e.number (omega (arith, e, c.if-lines-e.false)), ne_eqb _ _ c.if-e-ne0.true)
+    let e : c.head_lines.result ≡ head_lines (shape_of c.args.m) = c.head_lines.ensures in
+    c.quiet-then-e-ne0.ensures ∙ by.refused c.args.p c.args.m c.args.e writes_back (NotZero c.args.p) (rw (lt-leb (line_count (shape_of c.args.m)) c.args.e.number (omega (arith, e, c.if-lines-e.false)), ne_eqb _ _ c.if-e-ne0.true)) refl
 
 pub line_at-line-requires : goal.line_at-line-requires
-line_at-line-requires c = rw c.shape-z.ensures (omega (arith, few c.args.m c.requires))
+line_at-line-requires c = omega (arith, few c.args.m c.requires)
 
 pub is_clean-requires : goal.is_clean-requires
 is_clean-requires c =
-    let e : c.head_lines.result ≡ head_lines (shape_of c.args.m) = rw c.shape-z.ensures at c.head_lines.ensures in
-    there c.args.m _ c.args.e.number c.requires (omega (arith, e, c.if-lines-e.false)) (rw c.shape-z.ensures at c.line_at-line.ensures)
+    let e : c.head_lines.result ≡ head_lines (shape_of c.args.m) = c.head_lines.ensures in
+    there c.args.m _ c.args.e.number c.requires (omega (arith, e, c.if-lines-e.false)) c.line_at-line.ensures
 
 pub returns-then-is_clean : goal.returns-then-is_clean
 returns-then-is_clean c =
-    let e : c.head_lines.result ≡ head_lines (shape_of c.args.m) = rw c.shape-z.ensures at c.head_lines.ensures in
-    let is = tested c.args.m _ (line_at (shape_of c.args.m) c.args.e.number) c.is_clean.result true c.is_clean.ensures (rw c.shape-z.ensures at c.line_at-line.ensures) c.if-is_clean.true in
-    rw (lt-leb (line_count (shape_of c.args.m)) c.args.e.number (omega (arith, e, c.if-lines-e.false)), eq-eqb _ _ c.if-e-ne0.false, is)
+    let e : c.head_lines.result ≡ head_lines (shape_of c.args.m) = c.head_lines.ensures in
+    let is = tested c.args.m _ (line_at (shape_of c.args.m) c.args.e.number) c.is_clean.result true c.is_clean.ensures c.line_at-line.ensures c.if-is_clean.true in
+    c.quiet-then-is_clean.ensures ∙ by.refused c.args.p c.args.m c.args.e writes_back (Clean c.args.p) (rw (lt-leb (line_count (shape_of c.args.m)) c.args.e.number (omega (arith, e, c.if-lines-e.false)), eq-eqb _ _ c.if-e-ne0.false, is)) refl
 
 pub persist_line-machine-requires : goal.persist_line-machine-requires
 persist_line-machine-requires c =
-    let e : c.head_lines.result ≡ head_lines (shape_of c.args.m) = rw c.shape-z.ensures at c.head_lines.ensures in
-    ((range.in_range_lem c.args.m c.requires).sizes.threads_high, there c.args.m _ c.args.e.number c.requires (omega (arith, e, c.if-lines-e.false)) (rw c.shape-z.ensures at c.line_at-line.ensures))
+    let e : c.head_lines.result ≡ head_lines (shape_of c.args.m) = c.head_lines.ensures in
+    ((range.in_range_lem c.args.m c.requires).sizes.threads_high, there c.args.m _ c.args.e.number c.requires (omega (arith, e, c.if-lines-e.false)) c.line_at-line.ensures)
 
 pub returns : goal.returns
 returns c =
-    let e : c.head_lines.result ≡ head_lines (shape_of c.args.m) = rw c.shape-z.ensures at c.head_lines.ensures in
-    let l : c.line_at-line.result ≡ line_at (shape_of c.args.m) c.args.e.number = rw c.shape-z.ensures at c.line_at-line.ensures in
-    let is = tested c.args.m _ (line_at (shape_of c.args.m) c.args.e.number) c.is_clean.result false c.is_clean.ensures l c.if-is_clean.false in
-    rw (
-      c.touching.ensures,
-      c.quiet.ensures,
-      c.persist_line-machine.ensures,
-      l,
-      lt-leb (line_count (shape_of c.args.m)) c.args.e.number (omega (arith, e, c.if-lines-e.false)),
-      eq-eqb _ _ c.if-e-ne0.false,
-      is,
-    )
+    let e : c.head_lines.result ≡ head_lines (shape_of c.args.m) = c.head_lines.ensures in
+    let is = tested c.args.m _ (line_at (shape_of c.args.m) c.args.e.number) c.is_clean.result false c.is_clean.ensures c.line_at-line.ensures c.if-is_clean.false in
+    rw (c.persist_line-machine.ensures, c.line_at-line.ensures)
+    (by.taken c.args.p c.args.m c.args.e writes_back Taken (rw (lt-leb (line_count (shape_of c.args.m)) c.args.e.number (omega (arith, e, c.if-lines-e.false)), eq-eqb _ _ c.if-e-ne0.false, is)) refl)

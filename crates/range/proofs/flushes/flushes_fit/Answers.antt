@@ -11,13 +11,13 @@ shared_ref_as_front-sets_fit c = rw (c.head_lines-lines.ensures, c.shape.ensures
 
 pub returns-then-sets_fit : goal.returns-then-sets_fit
 returns-then-sets_fit c =
-    let m = c.args.m in
+    let m = c.args.m.now in
     let heads : head_lines (shape_of m) ≤ length m.over_heads = omega (arith, lines_few (shape_of m) c.requires.1) in
     let nodes : m.n ≤ length m.over = omega (arith, c.requires.0) in
     rw (flushes_by m, ← sets_by m.t (head_lines (shape_of m)) m.over_heads heads, ← sets_by m.t m.n m.over nodes) (grind (arith, common_steps))
 
 pub returns-else-sets_fit : goal.returns-else-sets_fit
 returns-else-sets_fit c =
-    let m = c.args.m in
+    let m = c.args.m.now in
     let heads : head_lines (shape_of m) ≤ length m.over_heads = omega (arith, lines_few (shape_of m) c.requires.1) in
     rw (flushes_by m, ← sets_by m.t (head_lines (shape_of m)) m.over_heads heads) (grind (arith, common_steps))

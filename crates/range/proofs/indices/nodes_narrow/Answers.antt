@@ -10,6 +10,6 @@ use Rattle.range.proofs.indices.nodes_narrow.Goals as goal
 pub returns : goal.returns
 unfolding wide_node index_fits
 returns c =
-    let m = c.args.m in
+    let m = c.args.m.now in
     let top = c.top_of-top.result in
     all_ranged (λ i. both (leb (node m i).index top) (leb (kept m i).index top)) _ _ _ _ _ (wide_node m) c.all.ensures.ran refl (λ x b q k. search (rules, tests)) (λ k. rw c.top_of-top.ensures)

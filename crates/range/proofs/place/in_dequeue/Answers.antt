@@ -11,5 +11,5 @@ use Rattle.range.proofs.place.in_dequeue.Goals as goal
 pub returns : goal.returns
 unfolding in_dequeue
 returns c =
-    let m = c.args.m in
+    let m = c.args.m.now in
     any_ranged (λ k. both (dequeue_owns (stage m k)) (eqb (thread m k).head c.args.i)) _ _ _ _ _ c.any.ensures.ran refl (λ x b q k. search (rules, tests))

@@ -8,4 +8,4 @@ use Rattle.range.proofs.place.is_held.Goals as goal
 
 pub returns : goal.returns
 unfolding is_held
-returns c = any_ranged (λ k. eqb (thread c.args.m k).held c.args.i) _ _ _ _ _ c.any.ensures.ran refl (λ x b q k. search (rules, tests))
+returns c = any_ranged (λ k. eqb (thread c.args.m.now k).held c.args.i) _ _ _ _ _ c.any.ensures.ran refl (λ x b q k. search (rules, tests))

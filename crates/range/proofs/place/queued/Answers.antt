@@ -6,4 +6,4 @@ use Rattle.range.proofs.place.queued.Goals as goal
 
 pub returns : goal.returns
 returns c =
-    counted_ranged (in_queue c.args.m) _ _ _ _ c.count.ensures.ran c.filter.ensures.source c.filter.ensures.closure (λ x b q k. search (rules, tests))
+    counted_ranged (in_queue c.args.m.now) _ _ _ _ c.count.ensures.ran c.filter.ensures.source c.filter.ensures.closure (λ x b q k. search (rules, tests))
