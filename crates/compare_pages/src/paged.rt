@@ -32,8 +32,8 @@ fn sum_run(r: Run, s: &[u8], count: u32) -> Sum
 {
     let mut lent = [0; 846];
     sum_table(
-        table_of(r.rows),
-        counts_of(r.rows),
+        table_of(&r.rows),
+        counts_of(&r.rows),
         r.machine.shape(),
         count,
         &mut lent,

@@ -29,13 +29,13 @@ pub fn page_lines(s: &[u8], k: u64, b: &mut [u8]) -> Result<Lines, Refusal>
 {
     let r = page_of(s)?;
     let z = r.machine.shape();
-    let counts = counts_of(r.rows);
+    let counts = counts_of(&r.rows);
     let count = ending_count(counts, lines_of(z));
     if (count as u64) < k {
         return Err(Refusal::NoEnding);
     }
     let d = codec::open_schedule(s)?;
-    let t = table_of(r.rows);
+    let t = table_of(&r.rows);
     let from = k as u32;
     let w = fill(t, counts, z, d.t, d.count, count, from, b);
     if w.next == from {

@@ -104,7 +104,8 @@ pub fn fill_told(
     }
 }
 
-// The same from the table itself.
+// The same from the table itself. A call of its own: the sheet stands on the stack only while it is read, and not while a schedule runs.
+#[inline(never)]
 pub fn fill(
     t: [[Content; 16]; 72],
     counts: [u8; 72],

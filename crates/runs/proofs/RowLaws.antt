@@ -32,6 +32,7 @@ use Rattle.machine.specs.declared.Acted.{Acted}
 use Rattle.endtable.specs.Touched.{Touched, touched_row}
 use Rattle.runs.specs.Rows.{ats_of, counts_of, no_rows, row_at, rows_of, line_row, opened_rows, over_in, rows_touched, line_in, OfThreads, rows_left, since_left, rows_after, since_now}
 use Rattle.endtable.specs.declared.row.Row.{Row}
+use Rattle.endtable.proofs.Openings as openings
 
 -- what the first n of a list are filled with leaves the others
 front_rest : {A : Type 0} (f : ℕ → A) (n i : ℕ) (l : List A) (d : A) → n ≤ i → get_or (front f n l) i d ≡ get_or l i d
@@ -101,6 +102,23 @@ mapped_at rows t long e h =
 pub mapped_count : (rows : List Row) (cs : List ℕ) → length rows ≡ 72 → length cs ≡ 72 → ((i : ℕ) → i < 72 → get_or cs i 0 ≡ (get_or rows i no_row).count) → cs ≡ counts_of rows
 mapped_count rows cs long e h =
     ext_get_or 0 cs (counts_of rows) (omega (arith, length-map rows (λ (r : Row). r.count))) (λ i p. h i (omega arith) ∙ sym (count_of_lem rows i))
+
+-- the loops that fill them, up to the last line
+abbrev pub ats_at : List Row → ℕ → List Content
+ats_at rows l = (get_or rows l no_row).at
+
+abbrev pub count_at : List Row → ℕ → ℕ
+count_at rows l = (get_or rows l no_row).count
+
+pub ats_all : (rows : List Row) → length rows ≡ 72 → front (ats_at rows) 72 blank_table ≡ ats_of rows
+ats_all rows h =
+    mapped_at rows (front (ats_at rows) 72 blank_table) h (tabs.front_size (ats_at rows) 72 blank_table (omega (arith, openings.length_blank_table)) ∙ openings.length_blank_table)
+    (λ i p. tabs.front_at (ats_at rows) 72 blank_table i [] p)
+
+pub counts_all : (rows : List Row) → length rows ≡ 72 → front (count_at rows) 72 blank_counts ≡ counts_of rows
+counts_all rows h =
+    mapped_count rows (front (count_at rows) 72 blank_counts) h (tabs.front_size (count_at rows) 72 blank_counts (omega (arith, openings.length_blank_counts)) ∙ openings.length_blank_counts)
+    (λ i p. tabs.front_at (count_at rows) 72 blank_counts i 0 p)
 
 -- ---- after an event
 

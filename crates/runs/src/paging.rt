@@ -14,6 +14,6 @@ pub fn page_of(s: &[u8]) -> Result<Run, Refusal>
 {
     let d = codec::open_schedule(s)?;
     let r = run_events(s, d)?;
-    counts_answer(counts_of(r.rows), lines_of(r.machine.shape()))?;
+    counts_answer(counts_of(&r.rows), lines_of(r.machine.shape()))?;
     Ok(r)
 }

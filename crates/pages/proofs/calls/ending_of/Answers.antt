@@ -61,8 +61,8 @@ ending_picks-picks-requires c =
     let n = laws.page_small c.args.s.now c.in_ok-r.r c.in_ok-r.ensures in
     rw (c.shape-z.ensures, c.counts_of-counts.ensures) (n.0, n.1, (laws.page_ready c.args.s.now c.in_ok-r.r c.in_ok-r.ensures).0)
 
-pub ending_image-g-requires : goal.ending_image-g-requires
-ending_image-g-requires c =
+pub picked-g-requires : goal.picked-g-requires
+picked-g-requires c =
     let n = laws.page_small c.args.s.now c.in_ok-r.r c.in_ok-r.ensures in
     rw (c.ending_picks-picks.ensures, c.shape-z.ensures, c.counts_of-counts.ensures) (n.0, n.1, laws.page_filled c.args.s.now c.in_ok-r.r c.in_ok-r.ensures c.args.k)
 
@@ -71,7 +71,7 @@ put_image-requires c =
     let r = c.in_ok-r.r in
     let n = laws.page_small c.args.s.now r c.in_ok-r.ensures in
     let y : Shape = shape_of r.machine in
-    let e : image_shape c.ending_image-g.result ≡ own.owned y = ap image_shape (rw c.shape-z.ensures at c.ending_image-g.ensures) ∙ laws.picked_shape _ _ y in
+    let e : image_shape c.picked-g.result ≡ own.owned y = ap image_shape (rw c.shape-z.ensures at c.picked-g.ensures) ∙ laws.picked_shape _ _ y in
     let l = c.if-b-size_of.false in
     let z = rw c.shape-z.ensures at c.size_of.ensures in
     subst (λ (x : Shape). (known x.form ≡ true) × ((x.n ≤ 64) × ((head_lines x ≤ 8) × (image_size x ≤ length c.args.b.now)))) (sym e)
@@ -86,5 +86,5 @@ returns c =
     let lt : c.args.k < ending_count s = omega (arith, n, c.if-count-k.false) in
     let z = rw c.shape-z.ensures at c.size_of.ensures in
     let e = laws.ending_taken s r p c.args.k (length c.args.b.now) lt (omega (arith, c.if-b-size_of.false, z)) in
-    let g : c.ending_image-g.result ≡ ending_in s c.args.k = rw (c.table_of-t.ensures, c.ending_picks-picks.ensures, c.shape-z.ensures, c.counts_of-counts.ensures) at c.ending_image-g.ensures ∙ laws.page_ending s r p c.args.k lt in
+    let g : c.picked-g.result ≡ ending_in s c.args.k = rw (c.ending_picks-picks.ensures, c.shape-z.ensures, c.counts_of-counts.ensures) at c.picked-g.ensures ∙ laws.page_ending s r p c.args.k lt in
     record { answers = ap told e; bytes = c.put_image.ensures ∙ ap (λ (x : Image). over c.args.b.now 0 (image_bytes x)) g ∙ laws.ending_bytes s c.args.k c.args.b.now (ap accepted (sym e)) }

@@ -1,13 +1,21 @@
-use Prim.Native.Nat.{ℕ, ◌<◌}
-use lib.ListN.{length, get_or}
-use mathlib.Core.Path.{◌≡◌}
+use mathlib.Core.Path.{◌≡◌, ap, ◌∙◌}
+use native.Mathlib.Omega.{arith}
 use borrow.Author.Rules.{rules}
-use Rattle.endtable.specs.Rows.{no_row}
+use lib.ListN.{length}
+use Rattle.lists.specs.Tab.{front}
+use Rattle.lists.proofs.TabLaws as tabs
+use Rattle.endtable.specs.Opened.{blank_counts}
+use Rattle.endtable.proofs.Openings as openings
 use Rattle.runs.proofs.RowLaws as laws
 use Rattle.runs.proofs.tables.counts_of.Goals as goal
 
+pub loop-l-init : goal.loop-l-init
+loop-l-init c = c.blank_counts-counts.ensures ∙ tabs.front_none (laws.count_at c.args.rows.now) blank_counts
+
+pub loop-l-preserved : goal.loop-l-preserved
+loop-l-preserved c = rw c.loop-l.invariant (tabs.front_next (laws.count_at c.args.rows.now) c.loop-l.l blank_counts (omega (arith, openings.length_blank_counts)))
+
 pub returns : goal.returns
 returns c =
-    let n : length c.args.rows ≡ 72 = search rules in
-    let each : (i : ℕ) → i < 72 → get_or c.map.result i 0 ≡ (get_or c.args.rows i no_row).count = λ i p. let one = c.map.ensures.items.at i no_row 0 p in search rules in
-    laws.mapped_count c.args.rows c.map.result n c.map.ensures.items.long each
+    let n : length c.args.rows.now ≡ 72 = search rules in
+    c.loop-l.invariant ∙ ap (λ k. front (laws.count_at c.args.rows.now) k blank_counts) (omega arith) ∙ laws.counts_all c.args.rows.now n
