@@ -56,16 +56,16 @@ impl History<'_> {
 impl Standing<'_> {
     // Whether every answered operation is taken and the queue is the recovered one.
     #[tactic(auto, unfolding(crate::specs::Place::is_finished))]
-    pub fn is_finished(self) -> bool
-        ensures { result ≡ is_finished self.entry.history.bytes.now self.entry.place }
+    pub fn is_finished(&self) -> bool
+        ensures { result ≡ is_finished self.now.history.bytes.now self.now.place }
     {
         !self.history.any_due(self.place.taken) && self.is_same()
     }
 
     // Whether a dequeue with answer a and item v fits the queue.
     #[tactic(auto, unfolding(crate::specs::Place::gives))]
-    fn is_given(self, a: u8, v: u32) -> bool
-        ensures { result ≡ gives self.entry.history.bytes.now self.entry.place a v }
+    fn is_given(&self, a: u8, v: u32) -> bool
+        ensures { result ≡ gives self.now.history.bytes.now self.now.place a v }
     {
         match a {
             0 => true,
@@ -76,9 +76,9 @@ impl Standing<'_> {
 
     // Whether operation i is eligible.
     #[tactic(auto, unfolding(crate::specs::Place::is_eligible))]
-    fn is_eligible(self, i: usize) -> bool
-        requires { i < count_in self.history.bytes.now }
-        ensures { result ≡ is_eligible self.entry.history.bytes.now self.entry.place i }
+    fn is_eligible(&self, i: usize) -> bool
+        requires { i < count_in self.now.history.bytes.now }
+        ensures { result ≡ is_eligible self.now.history.bytes.now self.now.place i }
     {
         self.place.taken[i] == 0
             && self.history.began(i) <= self.place.bar
@@ -88,9 +88,9 @@ impl Standing<'_> {
 
     // The first eligible operation from i on.
     #[tactic(auto, using(lists::proofs::FindLaws::least_next, crate::proofs::Found::found_at, crate::proofs::Found::found_end), unfolding(crate::specs::Place::next_from))]
-    pub fn next_eligible(self, i: usize) -> Option<usize>
-        requires { i ≤ count_in self.history.bytes.now }
-        ensures { result ≡ found (count_in self.entry.history.bytes.now) (next_from self.entry.history.bytes.now self.entry.place i) }
+    pub fn next_eligible(&self, i: usize) -> Option<usize>
+        requires { i ≤ count_in self.now.history.bytes.now }
+        ensures { result ≡ found (count_in self.now.history.bytes.now) (next_from self.now.history.bytes.now self.now.place i) }
     {
         for j in i..self.history.count() {
             if self.is_eligible(j) {

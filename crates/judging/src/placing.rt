@@ -43,9 +43,9 @@ impl History<'_> {
 impl Standing<'_> {
     // The queue after operation i, which fits it.
     #[tactic(auto, unfolding(crate::specs::Place::served))]
-    fn serve(self, i: usize) -> Place
-        requires { (self.place.put < 16) × (self.place.from < 255) × (i < count_in self.history.bytes.now) }
-        ensures { result ≡ served self.entry.history.bytes.now self.entry.place i }
+    fn serve(&self, i: usize) -> Place
+        requires { (self.now.place.put < 16) × (self.now.place.from < 255) × (i < count_in self.now.history.bytes.now) }
+        ensures { result ≡ served self.now.history.bytes.now self.now.place i }
     {
         let mut r = self.place;
         if self.history.kind(i) == 1 {
@@ -61,9 +61,9 @@ impl Standing<'_> {
 
     // The place after operation i, which is eligible.
     #[tactic(auto, unfolding(crate::specs::Place::took))]
-    pub fn take(self, i: usize) -> Place
-        requires { (self.place.put < 16) × (self.place.from < 255) × (self.place.count < 16) × (i < count_in self.history.bytes.now) }
-        ensures { result ≡ took self.entry.history.bytes.now self.entry.place i }
+    pub fn take(&self, i: usize) -> Place
+        requires { (self.now.place.put < 16) × (self.now.place.from < 255) × (self.now.place.count < 16) × (i < count_in self.now.history.bytes.now) }
+        ensures { result ≡ took self.now.history.bytes.now self.now.place i }
     {
         let mut r = self.serve(i);
         r.taken[i] = 1;

@@ -1,5 +1,6 @@
 // A history's bytes: its numbers, and the parts of an operation. Kind and answer stay bytes: `judge_history` refuses a wrong one with 9.
 ghost use Rattle.std.specs.Prelude.{◌≡◌, Bool, ◌+◌, ◌*◌, ◌≤◌, ◌<◌, length};
+ghost use Rattle.lawful.specs.Demand3.{Bytes};
 ghost use Rattle.judging.specs.History.{count_in, first_count, last_count, operation_place, kind_at, began_at, ended_at, answer_at, item_at};
 ghost use Rattle.judging.specs.Place.{Whole};
 
@@ -20,11 +21,12 @@ pub fn operation_at(h: &[u8], i: usize) -> usize
     place_of(h[1], h[2], i)
 }
 
-// The bytes of a history, as many as its three counts say.
+// The bytes of a history, as many as its three counts say. That each is below 256 is said too: a proof knows it of a slice, not of one in a field.
 #[derive(Clone, Copy)]
 pub struct History<'a> {
     pub bytes: &'a [u8],
     ghost whole: { Whole bytes.now },
+    ghost in_range: { Bytes bytes.now },
 }
 
 impl History<'_> {

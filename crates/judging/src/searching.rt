@@ -1,6 +1,5 @@
 // The ordered search: one eligible operation is taken, then what is eligible next is asked, lowest number first; each taking is one try.
 ghost use Rattle.std.specs.Prelude.{◌≡◌, ◌+◌, ◌-◌, ◌≤◌, ◌<◌, true};
-ghost use Rattle.lawful.specs.Demand3.{Bytes};
 ghost use Rattle.judging.specs.History.{count_in, first_in, last_in, operations_in};
 ghost use Rattle.judging.specs.Search.{judged_of};
 ghost use Rattle.judging.specs.Place.{Clear, Ready, is_eligible, took};
@@ -24,8 +23,8 @@ fn say(verdict: Verdict, tries: u32) -> Judgement
 }
 
 // Lawful, with the order that shows it.
-fn say_lawful(x: Place, tries: u32) -> Judgement
-    ensures { result ≡ said_at x tries }
+fn say_lawful(x: &Place, tries: u32) -> Judgement
+    ensures { result ≡ said_at x.now tries }
 {
     let order = x.order;
     Judgement {
@@ -39,9 +38,9 @@ fn say_lawful(x: Place, tries: u32) -> Judgement
 impl Standing<'_> {
     // Asks which of the candidates from i on is eligible.
     #[cycle(carry_out_choose)]
-    fn choose(self, left: usize, i: usize, tries: u32) -> Judgement
-        requires { (i ≤ count_in self.history.bytes.now) × (tries ≤ 1000000) × Ready self.history.bytes.now left self.place }
-        ensures same { result ≡ said_of (asked_at self.entry.history.bytes.now left (count_in self.entry.history.bytes.now - i) self.entry.place i tries) }
+    fn choose(&self, left: usize, i: usize, tries: u32) -> Judgement
+        requires { (i ≤ count_in self.now.history.bytes.now) × (tries ≤ 1000000) × Ready self.now.history.bytes.now left self.now.place }
+        ensures same { result ≡ said_of (asked_at self.now.history.bytes.now left (count_in self.now.history.bytes.now - i) self.now.place i tries) }
         ensures bounded { result.tries ≤ 1000000 }
     {
         if left == 0 {
@@ -62,9 +61,9 @@ impl Standing<'_> {
 
     // Takes operation i and asks what is eligible next.
     #[cycle(carry_out_choose)]
-    fn carry_out(self, left: usize, i: usize, tries: u32) -> Judgement
-        requires { (i < count_in self.history.bytes.now) × (tries < 1000000) × (0 < left) × Ready self.history.bytes.now left self.place × (is_eligible self.history.bytes.now self.place i ≡ true) }
-        ensures same { result ≡ said_of (searched_at self.entry.history.bytes.now (left - 1) (took self.entry.history.bytes.now self.entry.place i) (tries + 1)) }
+    fn carry_out(&self, left: usize, i: usize, tries: u32) -> Judgement
+        requires { (i < count_in self.now.history.bytes.now) × (tries < 1000000) × (0 < left) × Ready self.now.history.bytes.now left self.now.place × (is_eligible self.now.history.bytes.now self.now.place i ≡ true) }
+        ensures same { result ≡ said_of (searched_at self.now.history.bytes.now (left - 1) (took self.now.history.bytes.now self.now.place i) (tries + 1)) }
         ensures bounded { result.tries ≤ 1000000 }
     {
         let next = Standing {
@@ -72,7 +71,7 @@ impl Standing<'_> {
             place: self.take(i),
         };
         if next.is_finished() {
-            return say_lawful(next.place, tries + 1);
+            return say_lawful(&next.place, tries + 1);
         }
         next.choose(left - 1, 0, tries + 1)
     }
@@ -81,7 +80,7 @@ impl Standing<'_> {
 impl History<'_> {
     // The search from its beginning.
     pub fn judged(self) -> Judgement
-        requires { Bytes self.bytes.now × Clear self.bytes.now }
+        requires { Clear self.bytes.now }
         ensures { result ≡ said_of (judged_of (operations_in self.entry.bytes.now) (first_in self.entry.bytes.now) (last_in self.entry.bytes.now)) }
     {
         let start = Standing {
@@ -89,7 +88,7 @@ impl History<'_> {
             place: self.fresh_place(),
         };
         if start.is_finished() {
-            return say_lawful(start.place, 0);
+            return say_lawful(&start.place, 0);
         }
         start.choose(self.count(), 0, 0)
     }

@@ -18,9 +18,9 @@ pub struct Standing<'a> {
 impl Standing<'_> {
     // The item at place p of all items.
     #[tactic(auto, unfolding(crate::specs::Place::item_of))]
-    pub fn item(self, p: usize) -> u32
-        requires { p < first_count self.history.bytes.now + self.place.put }
-        ensures { result ≡ item_of self.entry.history.bytes.now self.entry.place p }
+    pub fn item(&self, p: usize) -> u32
+        requires { p < first_count self.now.history.bytes.now + self.now.place.put }
+        ensures { result ≡ item_of self.now.history.bytes.now self.now.place p }
     {
         let a = self.history.bytes[1] as usize;
         if p < a {
@@ -30,16 +30,16 @@ impl Standing<'_> {
     }
 
     // Whether the queue has an item.
-    pub fn is_there(self) -> bool
-        ensures { result ≡ is_there self.entry.history.bytes.now self.entry.place }
+    pub fn is_there(&self) -> bool
+        ensures { result ≡ is_there self.now.history.bytes.now self.now.place }
     {
         (self.place.from as usize) < (self.history.bytes[1] as usize) + (self.place.put as usize)
     }
 
     // Whether the queue is the recovered one.
     #[tactic(auto, using(lists::proofs::FindLaws::any_hit, lists::proofs::FindLaws::any_more), unfolding(lists::specs::Find::any, crate::specs::Place::same_queue))]
-    pub fn is_same(self) -> bool
-        ensures { result ≡ same_queue self.entry.history.bytes.now self.entry.place }
+    pub fn is_same(&self) -> bool
+        ensures { result ≡ same_queue self.now.history.bytes.now self.now.place }
     {
         let a = self.history.bytes[1] as usize;
         let b = self.history.bytes[2] as usize;

@@ -13,7 +13,10 @@ unfolding history_answer
 returns-then-not-is_sized c = rw (← c.is_sized.ensures, c.if-not-is_sized.true)
 
 pub invariant_of-history : goal.invariant_of-history
-invariant_of-history c = record { whole = whole_of c.args.h.now (sym c.is_sized.ensures ∙ c.if-not-is_sized.false) }
+invariant_of-history c = record {
+  whole = whole_of c.args.h.now (sym c.is_sized.ensures ∙ c.if-not-is_sized.false);
+  in_range = λ i. omega (arith, c.type_inv.h i);
+}
 
 pub returns-in_err-check : goal.returns-in_err-check
 returns-in_err-check c =
@@ -25,7 +28,7 @@ pub judged-requires : goal.judged-requires
 judged-requires c =
     let s = c.args.h.now in
     let a = c.check.ensures ∙ sym (sized_answer s (sym c.is_sized.ensures ∙ c.if-not-is_sized.false)) in
-    (λ i. omega (arith, c.type_inv.h i), (taken_of s (went_on a c.in_ok-check.was)).1)
+    (taken_of s (went_on a c.in_ok-check.was)).1
 
 pub returns : goal.returns
 returns c =
