@@ -48,10 +48,20 @@ impl Write for Output {
 #[derive(Clone, Copy)]
 pub struct Hex<'a>(pub &'a [u8]);
 
+// The digit of a number below 16.
+fn digit(x: u8) -> u8 {
+    b"0123456789abcdef"[usize::from(x % 16)]
+}
+
+// Sixty-four bytes at a time: a `write!` for each of them takes twenty times as long, which was half of a comparison.
 impl fmt::Display for Hex<'_> {
     fn fmt<W: fmt::Write>(&self, f: &mut fmt::Formatter<W>) -> fmt::Result {
-        for x in self.0 {
-            write!(f, "{x:02x}")?;
+        for part in self.0.chunks(64) {
+            let mut digits = [b'0'; 128];
+            for (pair, x) in digits.chunks_exact_mut(2).zip(part) {
+                pair.copy_from_slice(&[digit(x / 16), digit(*x)]);
+            }
+            f.write_str(str::from_utf8(front(&digits, 2 * part.len())).unwrap_or_default())?;
         }
         Ok(())
     }

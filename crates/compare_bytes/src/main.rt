@@ -38,7 +38,8 @@ fn main(rt: HostRuntime) {
         b'v' => |s, out| answer_converted(s, out, |s, b| narrow(s, b)),
         b'j' => |s, out| answer_converted(s, out, |s, b| import_desks(s, b)),
         b'x' => answer_exported,
-        _ => return,
+        // No mode: what stands behind it is read and not answered.
+        _ => |_, _| Ok(()),
     };
     // Longer than any image or schedule; what is longer still is refused as its first part is.
     let mut item = [0u8; 40000];

@@ -53,7 +53,8 @@ fn main(rt: HostRuntime) {
         b'w' => |s, out| answer_soak(s, out, kept_event),
         b'l' => answer_list,
         b'q' => answer_probe,
-        _ => return,
+        // No mode: what stands behind it is read and not answered.
+        _ => |_, _| Ok(()),
     };
     // Longer than any schedule or probe file; what is longer still is refused as its first part is.
     let mut item = [0u8; 65536];

@@ -58,7 +58,8 @@ fn main(rt: HostRuntime) {
         b'w' => answer_words,
         b'u' => answer_text,
         b'p' => answer_piece,
-        _ => return,
+        // No mode: what stands behind it is read and not answered.
+        _ => |_, _| Ok(()),
     };
     // Longer than any schedule and than the texts that are compared.
     let mut item = [0u8; 131072];

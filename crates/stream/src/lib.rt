@@ -4,7 +4,6 @@
 
 ghost use Rattle.std.specs.Prelude.{◌+◌, ◌≤◌, ◌≡◌, length, IfOk, IfErr, IfSome};
 
-use std::io;
 use std::io::Read;
 
 // The bytes from a place on, 0 beyond the end.
@@ -87,19 +86,21 @@ impl From<ReadFailed> for Cut {
     }
 }
 
-impl From<io::Error> for Cut {
-    fn from(_e: io::Error) -> Cut {
-        Cut
+// As many bytes as the buffer has room for. A read that is interrupted has failed, here as in `fill`, so this is no `read_exact`.
+fn fill_all(input: &mut impl Read, buffer: &mut [u8]) -> Result<(), Cut> {
+    if fill(input, buffer)? < buffer.len() {
+        return Err(Cut);
     }
+    Ok(())
 }
 
 // Passes over bytes of the input, which are all there.
-fn pass_over(input: &mut impl Read, count: usize) -> io::Result<()> {
+fn pass_over(input: &mut impl Read, count: usize) -> Result<(), Cut> {
     let mut nowhere = [0; 4096];
     for _ in 0..count / 4096 {
-        input.read_exact(&mut nowhere)?;
+        fill_all(input, &mut nowhere)?;
     }
-    input.read_exact(&mut nowhere[..count % 4096])
+    fill_all(input, &mut nowhere[..count % 4096])
 }
 
 // The next item at the buffer's front: how many of its bytes were kept. Of one that is longer than the buffer the first part is kept and the rest passed
@@ -117,7 +118,7 @@ pub fn next_item(input: &mut impl Read, buffer: &mut [u8]) -> Result<Option<usiz
     }
     let all = u32::from_le_bytes(head) as usize;
     let kept = all.min(buffer.len());
-    input.read_exact(&mut buffer[..kept])?;
+    fill_all(input, &mut buffer[..kept])?;
     pass_over(input, all - kept)?;
     Ok(Some(kept))
 }
