@@ -4,10 +4,10 @@ use mathlib.Core.Path.{◌≡◌, refl}
 use mathlib.Core.Bool.{Bool, not}
 use lib.Dec.{eqb, ltb}
 use Rattle.lists.specs.Find.{least}
-use Rattle.answer.specs.Answers.{check, Taken, Twin, NoDummy}
+use Rattle.answer.specs.Answers.{check, Taken, Linked, Twin, NoDummy}
 use Rattle.image.specs.Layout.{content_at}
 use Rattle.image.specs.Recovered.{recovered_at, first_unclear, first_twin, dummy_of}
-use Rattle.image.specs.Refusals.{startable}
+use Rattle.image.specs.Refusals.{startable, sound}
 use Rattle.image.specs.declared.Image.{Image}
 
 -- node i's linked byte is above 1
@@ -31,3 +31,9 @@ pub startable_by : (g : Image) (n t d : ℕ) → n ≡ g.n → t ≡ first_twin 
     → check (ltb t n) (Twin t) (check (eqb d n) NoDummy Taken) ≡ startable g Taken
 unfolding startable
 startable_by g n t d e q r = rw (e, q, r)
+
+-- the same of 6, 7 and 8 together
+pub sound_by : (g : Image) (n u t d : ℕ) → n ≡ g.n → u ≡ first_unclear g → t ≡ first_twin g → d ≡ dummy_of g
+    → check (ltb u n) (Linked u) (check (ltb t n) (Twin t) (check (eqb d n) NoDummy Taken)) ≡ sound g Taken
+unfolding sound startable
+sound_by g n u t d e p q r = rw (e, p, q, r)

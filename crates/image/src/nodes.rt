@@ -67,7 +67,7 @@ fn is_recovered_at<S: Nodes>(s: &S, i: usize, h: u64) -> bool
 }
 
 // Nodes i and j are recovered, with one index.
-fn are_twins_at<S: Nodes>(s: &S, i: usize, j: usize, h: u64) -> bool
+pub fn are_twins_at<S: Nodes>(s: &S, i: usize, j: usize, h: u64) -> bool
     requires { S.fits s.now × ((i < (S.image s.now).n) × ((j < (S.image s.now).n) × (h ≡ head_of (S.image s.now)))) }
     ensures { result ≡ twins (S.image s.now) i j }
 {

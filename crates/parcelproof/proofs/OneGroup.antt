@@ -1,6 +1,6 @@
 -- On one queue 02's conditions exclude each other: what was handed out lies at or below the head index of every ending, what was turned away was never linked.
 use Prim.Native.Nat.{ℕ, ◌≤◌, ◌<◌}
-use mathlib.Core.Path.{◌≡◌, refl, sym, subst, ◌∙◌}
+use mathlib.Core.Path.{◌≡◌, refl, sym, ap, subst, ◌∙◌}
 use mathlib.Core.Bool.{Bool, true, false, not}
 use mathlib.Core.List.{List, [], ◌∷◌}
 use mathlib.Core.Logic.{inl, inr}
@@ -31,8 +31,9 @@ use Rattle.tied.proofs.Images.{head_is}
 use Rattle.lawproof.proofs.Endings.{Chosen, chosen_t, is_ending}
 use Rattle.lawproof.proofs.Lawful3.{page_parts, table_chosen}
 use Rattle.parcels.specs.Parcel.{is_linked, parcels_in}
-use Rattle.parcels.specs.Despatch.{handed_out, still_queued, turned_away, taken_alone}
+use Rattle.parcels.specs.Despatch.{handed_out, still_queued, turned_away, taken_alone, group_of, number_of}
 use Rattle.parcels.specs.declared.Parcel.{Parcel}
+use Rattle.parcels.specs.declared.Group.TheVariants.{HandedOut, Queued, TurnedAway, TakenAlone}
 use Rattle.parcelproof.specs.Apart.{In, Apart, OneGroup, Told, GroupTold}
 use Rattle.parcelproof.proofs.Groups.{above, queued_not_taken, taken_not_handed, by_tests}
 use Rattle.parcelproof.proofs.Taking.{Covered}
@@ -94,14 +95,33 @@ not_both : (x : Bool) → (x ≡ true → ⊥) → x ≡ false
 not_both true f = absurd (f refl)
 not_both false f = refl
 
-pub told_by : (g : Image) (p : Parcel) → Apart g p → Told g p
-told_by g p a = record {
-  handed = λ e. by_tests g p true (still_queued g p) (turned_away p) (taken_alone g p) e refl refl refl;
-  queued = λ e. by_tests g p false true (turned_away p) (taken_alone g p) (not_both (handed_out p) (λ h. a.handed_queued h e)) e refl refl;
-  turned = λ e. by_tests g p false false true (taken_alone g p) (not_both (handed_out p) (λ h. a.handed_turned h e)) (not_both (still_queued g p) (λ h. a.queued_turned h e)) e refl;
-  alone = λ e. by_tests g p false false false true (not_both (handed_out p) (λ h. a.handed_alone h e)) (not_both (still_queued g p) (λ h. a.queued_alone h e))
-      (not_both (turned_away p) (λ h. a.turned_alone h e)) e;
-}
+module _ (g : Image) (p : Parcel) (a : Apart g p) where
+  handed_told : handed_out p ≡ true → group_of g p ≡ HandedOut
+  handed_told e = by_tests g p true (still_queued g p) (turned_away p) (taken_alone g p) e refl refl refl
+
+  queued_told : still_queued g p ≡ true → group_of g p ≡ Queued
+  queued_told e = by_tests g p false true (turned_away p) (taken_alone g p) (not_both (handed_out p) (λ h. a.handed_queued h e)) e refl refl
+
+  turned_told : turned_away p ≡ true → group_of g p ≡ TurnedAway
+  turned_told e =
+      by_tests g p false false true (taken_alone g p) (not_both (handed_out p) (λ h. a.handed_turned h e)) (not_both (still_queued g p) (λ h. a.queued_turned h e)) e refl
+
+  alone_told : taken_alone g p ≡ true → group_of g p ≡ TakenAlone
+  alone_told e =
+      by_tests g p false false false true (not_both (handed_out p) (λ h. a.handed_alone h e)) (not_both (still_queued g p) (λ h. a.queued_alone h e))
+      (not_both (turned_away p) (λ h. a.turned_alone h e)) e
+
+  pub told_by : Told g p
+  told_by = record {
+    handed = handed_told;
+    queued = queued_told;
+    turned = turned_told;
+    alone = alone_told;
+    handed_number = λ e. ap number_of (handed_told e);
+    queued_number = λ e. ap number_of (queued_told e);
+    turned_number = λ e. ap number_of (turned_told e);
+    alone_number = λ e. ap number_of (alone_told e);
+  }
 
 pub group_told : GroupTold
 group_told s bytes a k h p i = told_by (ending_in s k) p (one_group s bytes a k h p i)

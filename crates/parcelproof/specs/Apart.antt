@@ -5,7 +5,7 @@ use Rattle.image.specs.declared.Image.{Image}
 use Rattle.page.specs.Refusals.{page_answer, ending_count, ending_in}
 use Rattle.lawful.specs.Demand3.{Bytes}
 use Rattle.parcels.specs.Parcel.{parcels_in}
-use Rattle.parcels.specs.Despatch.{handed_out, still_queued, turned_away, taken_alone, group_of}
+use Rattle.parcels.specs.Despatch.{handed_out, still_queued, turned_away, taken_alone, group_of, number_of}
 use Rattle.parcels.specs.declared.Parcel.{Parcel}
 use Rattle.parcels.specs.declared.Group.TheVariants as group
 
@@ -33,6 +33,11 @@ pub record Told (g : Image) (p : Parcel) : Type 0 where
   pub queued : still_queued g p ≡ true → group_of g p ≡ group.Queued
   pub turned : turned_away p ≡ true → group_of g p ≡ group.TurnedAway
   pub alone : taken_alone g p ≡ true → group_of g p ≡ group.TakenAlone
+  -- and the number in its entry is the condition's, 1 to 4
+  pub handed_number : handed_out p ≡ true → number_of (group_of g p) ≡ 1
+  pub queued_number : still_queued g p ≡ true → number_of (group_of g p) ≡ 2
+  pub turned_number : turned_away p ≡ true → number_of (group_of g p) ≡ 3
+  pub alone_number : taken_alone g p ≡ true → number_of (group_of g p) ≡ 4
 
 abbrev pub GroupTold : Type 0
 GroupTold = (s : List ℕ) → Bytes s → accepted (page_answer s) ≡ true → (k : ℕ) → k < ending_count s → (p : Parcel) → In p (parcels_in s) → Told (ending_in s k) p
