@@ -6,7 +6,7 @@
 
    What a caller owes, since nothing here can test it: each pointer is not null (not even with a length of 0) and has that many
    bytes behind it, bytes that a call writes do not overlap those it reads, and no length is above 2^63 - 1. uq_count_endings,
-   uq_ending, uq_line and uq_plain_page touch up to 251 KB of stack, uq_page_lines up to 299 KB, uq_despatch up to 433 KB, the others up to 39 KB (measured by bench/stack, docs/TRUST.md).
+   uq_ending, uq_line and uq_plain_page touch up to 251 KB of stack, uq_page_lines up to 299 KB, uq_despatch up to 433 KB, uq_judge up to 51 KB, the others up to 39 KB (measured by bench/stack, docs/TRUST.md).
 
    Every call returns number + 256 * value. Number 0: taken. Others: refused, as document 01's table and the requests after it have it, and then the value is the
    place and no lent byte is changed. uq_number, uq_value, uq_lines, uq_bytes, uq_reply, uq_item, uq_verdict, uq_tries
