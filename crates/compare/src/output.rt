@@ -53,7 +53,7 @@ fn digit(x: u8) -> u8 {
     b"0123456789abcdef"[usize::from(x % 16)]
 }
 
-// Sixty-four bytes at a time: a `write!` for each of them takes twenty times as long, which was half of a comparison.
+// Sixty-four bytes at a time: with a `write!` for each of them a comparison of images took more than twice as long (docs/LOOK-BACK.md).
 impl fmt::Display for Hex<'_> {
     fn fmt<W: fmt::Write>(&self, f: &mut fmt::Formatter<W>) -> fmt::Result {
         for part in self.0.chunks(64) {
