@@ -1,10 +1,13 @@
 -- An event by what it is answered: refused, or done. Assumes nothing.
 use Prim.Native.Nat.{ℕ}
-use mathlib.Core.Path.{◌≡◌, sym, ap, ◌∙◌}
+use mathlib.Core.Path.{◌≡◌, refl, sym, ap, ◌∙◌}
 use mathlib.Core.Bool.{Bool, true, false}
 use mathlib.Core.List.{List}
 use lib.ListN.{length}
 use Rattle.answer.specs.Answers.{accepted, Answer, Taken, Record}
+use Rattle.answer.specs.declared.Refusal.{Refusal}
+use Rattle.answer.proofs.Results.{came_back}
+use Rattle.std.specs.Prelude.{Err}
 use Rattle.image.specs.Refusals.{write_answer, written}
 use Rattle.machine.specs.Line.{persisted}
 use Rattle.machine.specs.Range.{in_range}
@@ -18,17 +21,25 @@ use Rattle.machine.specs.declared.Acted.{Acted}
 use Rattle.machine.specs.declared.Out.{Out}
 use Rattle.events.specs.Arms.{event_by}
 
-module _ (p : ℕ) (m : Machine) (e : Event) (d : Deed) where
+module _ (m : Machine) (e : Event) (d : Deed) where
   abbrev split : Answer → Bool → Acted
   split a b = elim b [ true ↦ done m e d | false ↦ quiet a m ]
 
-  pub refused : (a : Answer) → event_answer p m e d ≡ a → accepted a ≡ false → quiet a m ≡ event_by p m e d
-  unfolding event_by
-  refused a q f = sym (ap (λ (x : Answer). if_taken x m e d) q ∙ ap (split a) f)
+  pub refused : (a : Answer) (w : Refusal) → a ≡ Err w → quiet (Err w) m ≡ if_taken a m e d
+  refused a w q = sym (ap (λ (x : Answer). if_taken x m e d) q ∙ ap (split (Err w)) (came_back refl refl))
 
-  pub taken : (a : Answer) → event_answer p m e d ≡ a → accepted a ≡ true → done m e d ≡ event_by p m e d
+  pub taken : (a : Answer) → accepted a ≡ true → done m e d ≡ if_taken a m e d
+  taken a f = sym (ap (split a) f)
+
+-- the same of the answer that the event has, as an arm asks it
+module _ (p : ℕ) (m : Machine) (e : Event) (d : Deed) where
+  pub refused_by : (a : Answer) → event_answer p m e d ≡ a → accepted a ≡ false → quiet a m ≡ event_by p m e d
   unfolding event_by
-  taken a q f = sym (ap (λ (x : Answer). if_taken x m e d) q ∙ ap (split a) f)
+  refused_by a q f = sym (ap (λ (x : Answer). if_taken x m e d) q ∙ ap (split m e d a) f)
+
+  pub taken_by : (a : Answer) → event_answer p m e d ≡ a → accepted a ≡ true → done m e d ≡ event_by p m e d
+  unfolding event_by
+  taken_by a q f = taken m e d a f ∙ sym (ap (λ (x : Answer). if_taken x m e d) q)
 
 -- ---- a record that is handed in: 18, or the event at place 0; and so for the other two calls
 

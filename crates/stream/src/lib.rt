@@ -2,8 +2,12 @@
 
 #![tactic(auto)]
 
+#[cfg(test)]
+mod tests;
+
 ghost use Rattle.std.specs.Prelude.{◌+◌, ◌≤◌, ◌≡◌, length, IfOk, IfErr, IfSome};
 
+use std::io;
 use std::io::Read;
 
 // The bytes from a place on, 0 beyond the end.
@@ -82,6 +86,13 @@ pub struct Cut;
 
 impl From<ReadFailed> for Cut {
     fn from(_e: ReadFailed) -> Cut {
+        Cut
+    }
+}
+
+// For a caller that reads by std's own methods; the items here are read by `fill`.
+impl From<io::Error> for Cut {
+    fn from(_e: io::Error) -> Cut {
         Cut
     }
 }
