@@ -1,5 +1,6 @@
 use crate::Cut;
-use std::io::Read;
+use std::io;
+use std::io::{ErrorKind, Read};
 use std::test::Fail;
 
 // As a caller reads who uses std's own methods.
@@ -17,6 +18,34 @@ fn an_input_that_ends_early_is_cut() -> Result<(), Fail> {
     }
     if exactly(&mut input, &mut three) != Err(Cut) {
         return Err(Fail::new("three bytes of one were read"));
+    }
+    Ok(())
+}
+
+// A byte at each read but the second, which fails.
+#[derive(Drop)]
+struct Broken {
+    reads: u8,
+}
+
+impl Read for Broken {
+    fn read(&mut self, buffer: &mut [u8]) -> io::Result<usize> {
+        self.reads = self.reads.saturating_add(1);
+        match buffer.first_mut() {
+            Some(_) if self.reads == 2 => Err(io::Error::from(ErrorKind::BrokenPipe)),
+            Some(x) => {
+                *x = 7;
+                Ok(1)
+            }
+            None => Ok(0),
+        }
+    }
+}
+
+#[test]
+fn a_read_that_fails_is_cut() -> Result<(), Fail> {
+    if exactly(&mut Broken { reads: 0 }, &mut [0; 3]) != Err(Cut) {
+        return Err(Fail::new("a read failed and no cut was told"));
     }
     Ok(())
 }
