@@ -25,8 +25,11 @@ module _ (m : Machine) (e : Event) (d : Deed) where
   abbrev split : Answer → Bool → Acted
   split a b = elim b [ true ↦ done m e d | false ↦ quiet a m ]
 
+  stays : (a : Answer) → accepted a ≡ false → quiet a m ≡ if_taken a m e d
+  stays a f = sym (ap (split a) f)
+
   pub refused : (a : Answer) (w : Refusal) → a ≡ Err w → quiet (Err w) m ≡ if_taken a m e d
-  refused a w q = sym (ap (λ (x : Answer). if_taken x m e d) q ∙ ap (split (Err w)) (came_back refl refl))
+  refused a w q = stays (Err w) (came_back refl refl) ∙ sym (ap (λ (x : Answer). if_taken x m e d) q)
 
   pub taken : (a : Answer) → accepted a ≡ true → done m e d ≡ if_taken a m e d
   taken a f = sym (ap (split a) f)
@@ -35,7 +38,7 @@ module _ (m : Machine) (e : Event) (d : Deed) where
 module _ (p : ℕ) (m : Machine) (e : Event) (d : Deed) where
   pub refused_by : (a : Answer) → event_answer p m e d ≡ a → accepted a ≡ false → quiet a m ≡ event_by p m e d
   unfolding event_by
-  refused_by a q f = sym (ap (λ (x : Answer). if_taken x m e d) q ∙ ap (split m e d a) f)
+  refused_by a q f = stays m e d a f ∙ sym (ap (λ (x : Answer). if_taken x m e d) q)
 
   pub taken_by : (a : Answer) → event_answer p m e d ≡ a → accepted a ≡ true → done m e d ≡ event_by p m e d
   unfolding event_by

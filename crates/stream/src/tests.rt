@@ -1,3 +1,4 @@
+// An error of std's as a cut: no clause speaks of it.
 use crate::Cut;
 use std::io;
 use std::io::{ErrorKind, Read};

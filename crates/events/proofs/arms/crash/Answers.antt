@@ -31,7 +31,8 @@ returns-then-e-ne0 c = c.quiet.ensures ∙ by.refused_by c.args.p c.args.m c.arg
 
 pub returns-then-e-ne0-2 : goal.returns-then-e-ne0-2
 returns-then-e-ne0-2 c =
-    c.quiet-then-e-ne0-2.ensures ∙ by.refused_by c.args.p c.args.m c.args.e crashes (NotZero c.args.p) (rw (eq-eqb _ _ c.if-e-ne0.false, ne_eqb _ _ c.if-e-ne0-2.true)) refl
+    c.quiet-then-e-ne0-2.ensures
+    ∙ by.refused_by c.args.p c.args.m c.args.e crashes (NotZero c.args.p) (rw (eq-eqb _ _ c.if-e-ne0.false, ne_eqb _ _ c.if-e-ne0-2.true)) refl
 
 pub startable_of-requires : goal.startable_of-requires
 startable_of-requires c = startable-in c.args.m _ c.requires c.kept_image-g.ensures
@@ -44,7 +45,8 @@ pub returns-in-Err : goal.returns-in-Err
 returns-in-Err c =
     let z = tested c.args.m _ _ c.startable_of.ensures c.kept_image-g.ensures in
     c.quiet-in-Err.ensures
-    ∙ by.refused_by c.args.p c.args.m c.args.e crashes (Err c.in-Err.refusal) (rw (eq-eqb _ _ c.if-e-ne0.false, eq-eqb _ _ c.if-e-ne0-2.false) (sym z ∙ c.in-Err.is)) (came_back refl refl)
+    ∙ by.refused_by c.args.p c.args.m c.args.e crashes (Err c.in-Err.refusal)
+    (rw (eq-eqb _ _ c.if-e-ne0.false, eq-eqb _ _ c.if-e-ne0-2.false) (sym z ∙ c.in-Err.is)) (came_back refl refl)
 
 pub start-machine-requires : goal.start-machine-requires
 start-machine-requires c = startable-in c.args.m _ c.requires c.kept_image-g.ensures
@@ -53,4 +55,5 @@ pub returns : goal.returns
 returns c =
     let z = tested c.args.m _ _ c.startable_of.ensures c.kept_image-g.ensures in
     rw (c.start-machine.ensures, c.kept_image-g.ensures)
-    (by.taken_by c.args.p c.args.m c.args.e crashes (Ok c.in_default.field-0) (rw (eq-eqb _ _ c.if-e-ne0.false, eq-eqb _ _ c.if-e-ne0-2.false) (sym z ∙ c.in_default.is)) (went_on refl refl))
+    (by.taken_by c.args.p c.args.m c.args.e crashes (Ok c.in_default.field-0)
+    (rw (eq-eqb _ _ c.if-e-ne0.false, eq-eqb _ _ c.if-e-ne0-2.false) (sym z ∙ c.in_default.is)) (went_on refl refl))

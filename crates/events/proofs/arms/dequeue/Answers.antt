@@ -12,7 +12,8 @@ returns-then-m-e c = c.quiet.ensures ∙ by.refused_by c.args.p c.args.m c.args.
 
 pub returns-then-e-ne0 : goal.returns-then-e-ne0
 returns-then-e-ne0 c =
-    c.quiet-then-e-ne0.ensures ∙ by.refused_by c.args.p c.args.m c.args.e dequeues (NotZero c.args.p) (rw (lt-leb _ _ c.if-m-e.false, ne_eqb _ _ c.if-e-ne0.true)) refl
+    c.quiet-then-e-ne0.ensures
+    ∙ by.refused_by c.args.p c.args.m c.args.e dequeues (NotZero c.args.p) (rw (lt-leb _ _ c.if-m-e.false, ne_eqb _ _ c.if-e-ne0.true)) refl
 
 pub bounds-threads-k : goal.bounds-threads-k
 bounds-threads-k c = omega (arith, (range.in_range_lem _ c.requires).sizes.threads_high, c.if-m-e.false)
@@ -20,7 +21,8 @@ bounds-threads-k c = omega (arith, (range.in_range_lem _ c.requires).sizes.threa
 pub returns-then-threads-k-ne0 : goal.returns-then-threads-k-ne0
 returns-then-threads-k-ne0 c =
     c.quiet-then-threads-k-ne0.ensures
-    ∙ by.refused_by c.args.p c.args.m c.args.e dequeues (Busy c.args.p) (rw (lt-leb _ _ c.if-m-e.false, eq-eqb _ _ c.if-e-ne0.false, ne_eqb _ _ c.if-threads-k-ne0.true)) refl
+    ∙ by.refused_by c.args.p c.args.m c.args.e dequeues (Busy c.args.p)
+    (rw (lt-leb _ _ c.if-m-e.false, eq-eqb _ _ c.if-e-ne0.false, ne_eqb _ _ c.if-threads-k-ne0.true)) refl
 
 pub begin-machine-requires : goal.begin-machine-requires
 begin-machine-requires c = omega (arith, (range.in_range_lem _ c.requires).sizes.threads_high, c.if-m-e.false)
@@ -28,4 +30,5 @@ begin-machine-requires c = omega (arith, (range.in_range_lem _ c.requires).sizes
 pub returns : goal.returns
 returns c =
     rw c.begin-machine.ensures
-    (by.taken_by c.args.p c.args.m c.args.e dequeues Taken (rw (lt-leb _ _ c.if-m-e.false, eq-eqb _ _ c.if-e-ne0.false, eq-eqb _ _ c.if-threads-k-ne0.false)) refl)
+    (by.taken_by c.args.p c.args.m c.args.e dequeues Taken
+    (rw (lt-leb _ _ c.if-m-e.false, eq-eqb _ _ c.if-e-ne0.false, eq-eqb _ _ c.if-threads-k-ne0.false)) refl)

@@ -15,7 +15,8 @@ bounds-threads-k c = omega (arith, (range.in_range_lem _ c.requires).sizes.threa
 
 pub returns-then-threads-k-ne0 : goal.returns-then-threads-k-ne0
 returns-then-threads-k-ne0 c =
-    c.quiet-then-threads-k-ne0.ensures ∙ by.refused_by c.args.p c.args.m c.args.e enqueues (Busy c.args.p) (rw (lt-leb _ _ c.if-m-e.false, ne_eqb _ _ c.if-threads-k-ne0.true)) refl
+    c.quiet-then-threads-k-ne0.ensures
+    ∙ by.refused_by c.args.p c.args.m c.args.e enqueues (Busy c.args.p) (rw (lt-leb _ _ c.if-m-e.false, ne_eqb _ _ c.if-threads-k-ne0.true)) refl
 
 pub begin-machine-requires : goal.begin-machine-requires
 begin-machine-requires c = omega (arith, (range.in_range_lem _ c.requires).sizes.threads_high, c.if-m-e.false)

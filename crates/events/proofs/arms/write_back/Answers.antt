@@ -38,12 +38,14 @@ overflow_add-lines c =
 pub returns-then-lines-e : goal.returns-then-lines-e
 returns-then-lines-e c =
     let e : c.head_lines.result ≡ head_lines (shape_of c.args.m) = c.head_lines.ensures in
-    c.quiet.ensures ∙ by.refused_by c.args.p c.args.m c.args.e writes_back (Number c.args.p) (rw (le-leb (line_count (shape_of c.args.m)) c.args.e.number (omega (arith, e, c.if-lines-e.true)))) refl
+    let high = le-leb (line_count (shape_of c.args.m)) c.args.e.number (omega (arith, e, c.if-lines-e.true)) in
+    c.quiet.ensures ∙ by.refused_by c.args.p c.args.m c.args.e writes_back (Number c.args.p) (rw high) refl
 
 pub returns-then-e-ne0 : goal.returns-then-e-ne0
 returns-then-e-ne0 c =
     let e : c.head_lines.result ≡ head_lines (shape_of c.args.m) = c.head_lines.ensures in
-    c.quiet-then-e-ne0.ensures ∙ by.refused_by c.args.p c.args.m c.args.e writes_back (NotZero c.args.p) (rw (lt-leb (line_count (shape_of c.args.m)) c.args.e.number (omega (arith, e, c.if-lines-e.false)), ne_eqb _ _ c.if-e-ne0.true)) refl
+    let low = lt-leb (line_count (shape_of c.args.m)) c.args.e.number (omega (arith, e, c.if-lines-e.false)) in
+    c.quiet-then-e-ne0.ensures ∙ by.refused_by c.args.p c.args.m c.args.e writes_back (NotZero c.args.p) (rw (low, ne_eqb _ _ c.if-e-ne0.true)) refl
 
 pub line_at-line-requires : goal.line_at-line-requires
 line_at-line-requires c = omega (arith, few c.args.m c.requires)
@@ -57,7 +59,8 @@ pub returns-then-is_clean : goal.returns-then-is_clean
 returns-then-is_clean c =
     let e : c.head_lines.result ≡ head_lines (shape_of c.args.m) = c.head_lines.ensures in
     let is = tested c.args.m _ (line_at (shape_of c.args.m) c.args.e.number) c.is_clean.result true c.is_clean.ensures c.line_at-line.ensures c.if-is_clean.true in
-    c.quiet-then-is_clean.ensures ∙ by.refused_by c.args.p c.args.m c.args.e writes_back (Clean c.args.p) (rw (lt-leb (line_count (shape_of c.args.m)) c.args.e.number (omega (arith, e, c.if-lines-e.false)), eq-eqb _ _ c.if-e-ne0.false, is)) refl
+    let low = lt-leb (line_count (shape_of c.args.m)) c.args.e.number (omega (arith, e, c.if-lines-e.false)) in
+    c.quiet-then-is_clean.ensures ∙ by.refused_by c.args.p c.args.m c.args.e writes_back (Clean c.args.p) (rw (low, eq-eqb _ _ c.if-e-ne0.false, is)) refl
 
 pub persist_line-machine-requires : goal.persist_line-machine-requires
 persist_line-machine-requires c =
@@ -68,5 +71,6 @@ pub returns : goal.returns
 returns c =
     let e : c.head_lines.result ≡ head_lines (shape_of c.args.m) = c.head_lines.ensures in
     let is = tested c.args.m _ (line_at (shape_of c.args.m) c.args.e.number) c.is_clean.result false c.is_clean.ensures c.line_at-line.ensures c.if-is_clean.false in
+    let low = lt-leb (line_count (shape_of c.args.m)) c.args.e.number (omega (arith, e, c.if-lines-e.false)) in
     rw (c.persist_line-machine.ensures, c.line_at-line.ensures)
-    (by.taken_by c.args.p c.args.m c.args.e writes_back Taken (rw (lt-leb (line_count (shape_of c.args.m)) c.args.e.number (omega (arith, e, c.if-lines-e.false)), eq-eqb _ _ c.if-e-ne0.false, is)) refl)
+    (by.taken_by c.args.p c.args.m c.args.e writes_back Taken (rw (low, eq-eqb _ _ c.if-e-ne0.false, is)) refl)
